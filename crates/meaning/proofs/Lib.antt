@@ -1,0 +1,14 @@
+pub mod Tests
+pub mod NumberLaws
+pub mod PaddingLaws
+pub mod OffsetLaws
+pub mod OutcomeLaws
+pub mod LayoutLaws
+pub mod ReadsBack
+pub mod ReadsBackStructures
+pub mod ReadsBackDictionaries
+pub mod TypeLaws
+pub mod TypeTextLaws
+pub mod ReadsBackVariants
+pub mod RoundTrip
+pub mod WorkedFrames

@@ -1,0 +1,40 @@
+-- The depth record and its three limits. Assumes nothing: these are definitions.
+use Prim.Native.Nat.{ℕ, suc, _+_, _-_}
+use lib.Dec.{ltb}
+use Rattle.meaning.specs.Choice.{pick}
+
+-- how many containers of each kind are open; dictionaries count as arrays
+pub record Depths : Type 0 where
+  pub structure : ℕ
+  pub array : ℕ
+  pub variant : ℕ
+  pub maybe : ℕ
+
+pub data Opened : Type 0 where
+  structure array variant maybe : Opened
+
+abbrev pub depths : ℕ → ℕ → ℕ → ℕ → Depths
+depths s a v m = record { structure = s; array = a; variant = v; maybe = m }
+
+abbrev pub noneOpen : Depths
+noneOpen = depths 0 0 0 0
+
+abbrev pub total : Depths → ℕ
+total d = d .structure + d .array + d .variant + d .maybe
+
+-- structure 32, array 32, total 64: one more is refused, in that order
+unfoldable pub depthRefusal : Depths → ℕ
+depthRefusal d = pick (ltb 32 (d .structure)) 10 (pick (ltb 32 (d .array)) 11 (pick (ltb 64 (total d)) 12 0))
+
+-- one more container is open, or one less; lowering a 0 leaves 0
+abbrev pub opened : Opened → Depths → Depths
+opened structure d = depths (d .structure + 1) (d .array) (d .variant) (d .maybe)
+opened array d = depths (d .structure) (d .array + 1) (d .variant) (d .maybe)
+opened variant d = depths (d .structure) (d .array) (d .variant + 1) (d .maybe)
+opened maybe d = depths (d .structure) (d .array) (d .variant) (d .maybe + 1)
+
+abbrev pub closed : Opened → Depths → Depths
+closed structure d = depths (d .structure - 1) (d .array) (d .variant) (d .maybe)
+closed array d = depths (d .structure) (d .array - 1) (d .variant) (d .maybe)
+closed variant d = depths (d .structure) (d .array) (d .variant - 1) (d .maybe)
+closed maybe d = depths (d .structure) (d .array) (d .variant) (d .maybe - 1)

@@ -1,0 +1,14 @@
+pub mod Choice
+pub mod Numbers
+pub mod Padding
+pub mod Offsets
+pub mod Texts
+pub mod Depths
+pub mod Types
+pub mod TypeText
+pub mod Events
+pub mod Values
+pub mod Written
+pub mod Outcome
+pub mod Reading
+pub mod Calls

@@ -1,0 +1,169 @@
+-- The written form of a value, as the paper has it, at a position that is a multiple of 8; and the events that it reads as.
+-- Assumes nothing: these are definitions.
+use mathlib.Core.List.{List, [], _∷_, _++_, map}
+use mathlib.Core.Option.{Option, none, some}
+use mathlib.Core.Bool.{Bool, true, false, _&&_}
+use Prim.Native.Nat.{ℕ, zero, suc, _+_, _^_, max}
+use lib.Dec.{leb, ltb, eqb}
+use lib.ListN.{length}
+use Rattle.meaning.specs.Choice.{pick}
+use Rattle.meaning.specs.Numbers.{bytes, ordered}
+use Rattle.meaning.specs.Padding.{padding, zeros}
+use Rattle.meaning.specs.Offsets.{writtenWidth, table, backTable}
+use Rattle.meaning.specs.Texts.{textRefusal}
+use Rattle.meaning.specs.Depths as Depth
+use Rattle.meaning.specs.Depths.{Depths, depthRefusal, opened}
+use Rattle.meaning.specs.Types.{Basic, bool, number, text, Tree, Fields, basic, variant, maybe, array, dictionary, structure, last, next, numberWidth, basicAlignment, basicFixed, alignment, largestAlignment, fixed, allFixed}
+use Rattle.meaning.specs.TypeText.{numberLetter, textLetter, typeText}
+use Rattle.meaning.specs.Values.{BasicValue, ValueOver, FieldsOver, Value}
+use Rattle.meaning.specs.Events.{Event, event, textEvent, opening, closing, present, nothing}
+
+-- A written value: its alignment, whether its type is fixed in size, its bytes, the events that it reads as from a place on, and
+-- whether it is a value that may be read where so many containers are open.
+pub record Piece : Type 0 where
+  pub alignment : ℕ
+  pub fixed : Bool
+  pub bytes : List ℕ
+  pub events : ℕ → List Event
+  pub fits : Depths → Bool
+
+-- where a child ends that is laid out from the place k
+unfoldable pub stop : ℕ → Piece → ℕ
+stop k c = k + padding k (c .alignment) + length (c .bytes)
+
+-- children laid out from the place k: their bytes; their events, where place 0 is p; the places where they end
+unfoldable pub layout : ℕ → List Piece → List ℕ
+layout k [] = []
+layout k (c ∷ cs) = zeros (padding k (c .alignment)) ++ (c .bytes ++ layout (stop k c) cs)
+
+unfoldable pub eventsFrom : ℕ → ℕ → List Piece → List Event
+eventsFrom p k [] = []
+eventsFrom p k (c ∷ cs) = c .events (p + (k + padding k (c .alignment))) ++ eventsFrom p (stop k c) cs
+
+unfoldable pub ends : ℕ → List Piece → List ℕ
+ends k [] = []
+ends k (c ∷ cs) = stop k c ∷ ends (stop k c) cs
+
+-- of a structure's fields: the ends of those that are neither fixed in size nor last
+abbrev pub unless : Bool → ℕ → List ℕ → List ℕ
+unless true e es = es
+unless false e es = e ∷ es
+
+unfoldable pub fieldEnds : ℕ → List Piece → List ℕ
+fieldEnds k [] = []
+fieldEnds k (c ∷ []) = []
+fieldEnds k (c ∷ g ∷ cs) = unless (c .fixed) (stop k c) (fieldEnds (stop k c) (g ∷ cs))
+
+unfoldable pub allFit : List Piece → Depths → Bool
+allFit [] d = true
+allFit (c ∷ cs) d = c .fits d && allFit cs d
+
+-- one more container may be open, and what is in it fits
+abbrev pub deeper : Depths → (Depths → Bool) → Bool
+deeper d fits = eqb (depthRefusal d) 0 && fits d
+
+abbrev pub bit : Bool → ℕ
+bit true = 1
+bit false = 0
+
+-- basic values: a bool is 0 or 1, a number stands in its width and byte order, a text is its bytes and one nul
+unfoldable pub basicPiece : Bool → (b : Basic) → BasicValue b → Piece
+basicPiece big bool v = record { alignment = 1; fixed = true; bytes = bit v ∷ []; events = λ k. event 98 k (bit v) ∷ []; fits = λ d. true }
+basicPiece big (number n) v = record {
+  alignment = numberWidth n;
+  fixed = true;
+  bytes = ordered big (bytes (numberWidth n) v);
+  events = λ k. event (numberLetter n) k v ∷ [];
+  fits = λ d. ltb v (256 ^ numberWidth n);
+}
+basicPiece big (text c) v = record {
+  alignment = 1;
+  fixed = false;
+  bytes = v ++ (0 ∷ []);
+  events = λ k. textEvent (textLetter c) k v ∷ [];
+  fits = λ d. eqb (textRefusal v) 0;
+}
+
+-- a maybe: nothing is no byte; a child that is not fixed has a byte of 0 behind it
+unfoldable pub maybePiece : {A : Type 0} → ℕ → Bool → (A → Piece) → Option A → Piece
+maybePiece a fx child none = record { alignment = a; fixed = false; bytes = []; events = λ k. nothing k ∷ []; fits = λ d. true }
+maybePiece a fx child (some v) = record {
+  alignment = a;
+  fixed = false;
+  bytes = pick fx (child v .bytes) (child v .bytes ++ (0 ∷ []));
+  events = λ k. present k ∷ child v .events k;
+  fits = λ d. deeper (opened Depth.maybe d) (child v .fits);
+}
+
+-- the events of a container of a kind that starts at k, holds es and takes n bytes
+abbrev pub enclosing : ℕ → ℕ → ℕ → List Event → List Event
+enclosing kind k n es = opening kind k ∷ (es ++ (closing (k + n) ∷ []))
+
+-- the body of an array, with the table of its elements' ends unless they are fixed in size
+unfoldable pub arrayBytes : Bool → List Piece → List ℕ
+arrayBytes true cs = layout 0 cs
+arrayBytes false cs = layout 0 cs ++ table (writtenWidth (length (layout 0 cs)) (length cs)) (ends 0 cs)
+
+-- kind: 97 for an array, 123 for a dictionary
+unfoldable pub arrayPiece : ℕ → ℕ → Bool → List Piece → Piece
+arrayPiece kind a fx cs = record {
+  alignment = a;
+  fixed = false;
+  bytes = arrayBytes fx cs;
+  events = λ k. enclosing kind k (length (arrayBytes fx cs)) (eventsFrom k 0 cs);
+  fits = λ d. deeper (opened Depth.array d) (allFit cs);
+}
+
+-- the fields of a structure: padding at the end of one that is fixed in size, else the offsets, the last in front
+unfoldable pub structureBytes : ℕ → Bool → List Piece → List ℕ
+structureBytes a true cs = layout 0 cs ++ zeros (padding (length (layout 0 cs)) a)
+structureBytes a false cs =
+    layout 0 cs ++ backTable (writtenWidth (length (layout 0 cs)) (length (fieldEnds 0 cs))) (fieldEnds 0 cs)
+
+unfoldable pub structurePiece : ℕ → Bool → List Piece → Piece
+structurePiece a fx cs = record {
+  alignment = a;
+  fixed = fx;
+  bytes = structureBytes a fx cs;
+  events = λ k. enclosing 40 k (length (structureBytes a fx cs)) (eventsFrom k 0 cs);
+  fits = λ d. deeper (opened Depth.structure d) (allFit cs);
+}
+
+-- a dictionary's entry: laid out as a structure, with no event and no depth of its own
+unfoldable pub entryPiece : ℕ → Bool → List Piece → Piece
+entryPiece a fx cs = record { alignment = a; fixed = fx; bytes = structureBytes a fx cs; events = λ k. eventsFrom k 0 cs; fits = allFit cs }
+
+-- a variant: the value, a nul, and the text of its type
+unfoldable pub variantPiece : Tree → Piece → Piece
+variantPiece t c = record {
+  alignment = 8;
+  fixed = false;
+  bytes = c .bytes ++ (0 ∷ typeText t);
+  events = λ k.
+      enclosing 118 k (length (c .bytes ++ (0 ∷ typeText t)))
+      (textEvent 103 (k + (length (c .bytes) + 1)) (typeText t) ∷ c .events k);
+  fits = λ d. leb (length (typeText t)) 255 && deeper (opened Depth.variant d) (c .fits);
+}
+
+module _ (big : Bool) {Held : Type 0} (held : Held → Piece) where
+  unfoldable mutual
+    pub pieceOver : (t : Tree) → ValueOver Held t → Piece
+    pieceOver (basic b) v = basicPiece big b v
+    pieceOver variant v = held v
+    pieceOver (maybe t) v = maybePiece (alignment t) (fixed t) (λ x. pieceOver t x) v
+    pieceOver (array t) v = arrayPiece 97 (alignment t) (fixed t) (map (λ x. pieceOver t x) v)
+    pieceOver (dictionary b t) v = arrayPiece 123 (max (basicAlignment b) (alignment t)) (basicFixed b && fixed t)
+        (map (λ x. entryPiece (max (basicAlignment b) (alignment t)) (basicFixed b && fixed t) (basicPiece big b (x .0) ∷ pieceOver t (x .1) ∷ [])) v)
+    pieceOver (structure ts) v = structurePiece (largestAlignment ts) (allFixed ts) (piecesOver ts v)
+
+    pub piecesOver : (ts : Fields) → FieldsOver Held ts → List Piece
+    piecesOver (last t) v = pieceOver t v ∷ []
+    piecesOver (next t ts) v = pieceOver t (v .0) ∷ piecesOver ts (v .1)
+
+unfoldable pub piece : Bool → (n : ℕ) (t : Tree) → Value n t → Piece
+piece big zero t v = pieceOver big (λ x. absurd x) t v
+piece big (suc n) t v = pieceOver big (λ x. variantPiece (x .0) (piece big n (x .0) (x .1))) t v
+
+-- THE WRITTEN FORM
+unfoldable pub written : Bool → (n : ℕ) (t : Tree) → Value n t → List ℕ
+written big n t v = piece big n t v .bytes

@@ -11,4 +11,6 @@ pub mod TypeLaws
 pub mod TypeTextLaws
 pub mod ReadsBackVariants
 pub mod RoundTrip
-pub mod WorkedFrames
+pub mod Kept
+pub mod Bounds
+pub mod BoldFrames

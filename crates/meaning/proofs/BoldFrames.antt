@@ -1,0 +1,168 @@
+-- Document 01's bold frames, reading and writing, and more worked frames that tell its readings apart: one table, and one computed test.
+-- Assumes nothing.
+use mathlib.Core.Path.{_≡_, refl}
+use mathlib.Core.List.{List, [], _∷_, _++_, map}
+use mathlib.Core.Option.{Option, none, some}
+use mathlib.Core.Bool.{Bool, true, false}
+use Prim.Native.Nat.{ℕ, zero, suc, _+_, _*_}
+use lib.ListN.{length, replicate, drop}
+use Rattle.meaning.specs.Numbers
+use Rattle.meaning.specs.Padding
+use Rattle.meaning.specs.Offsets
+use Rattle.meaning.specs.Texts
+use Rattle.meaning.specs.Depths
+use Rattle.meaning.specs.Types
+use Rattle.meaning.specs.Types.{byte, int16, uint16, uint32, int64, string, signature, bool, number, text, Tree, Fields, basic, variant, maybe, array, dictionary, structure, last, next}
+use Rattle.meaning.specs.TypeText
+use Rattle.meaning.specs.TypeText.{typeText}
+use Rattle.meaning.specs.Events
+use Rattle.meaning.specs.Values.{Value}
+use Rattle.meaning.specs.Written
+use Rattle.meaning.specs.Written.{written}
+use Rattle.meaning.specs.Outcome
+use Rattle.meaning.specs.Reading
+use Rattle.meaning.specs.Calls
+use Rattle.meaning.specs.Calls.{frameReading, read, readSlice}
+
+-- the types of the table
+abbrev boolType : Tree
+boolType = basic bool
+
+abbrev byteType : Tree
+byteType = basic (number byte)
+
+abbrev int16Type : Tree
+int16Type = basic (number int16)
+
+abbrev uint16Type : Tree
+uint16Type = basic (number uint16)
+
+abbrev uint32Type : Tree
+uint32Type = basic (number uint32)
+
+abbrev int64Type : Tree
+int64Type = basic (number int64)
+
+abbrev stringType : Tree
+stringType = basic (text string)
+
+abbrev readings : Tree
+readings = array (maybe int16Type)
+
+abbrev byteAndReading : Tree
+byteAndReading = structure (next byteType (last (maybe int16Type)))
+
+abbrev strings : Tree
+strings = array stringType
+
+abbrev maybeString : Tree
+maybeString = maybe stringType
+
+abbrev stringToByte : Tree
+stringToByte = dictionary (text string) byteType
+
+abbrev nested : (Tree → Tree) → ℕ → Tree → Tree
+nested f zero t = t
+nested f (suc k) t = f (nested f k t)
+
+-- one string more than this
+abbrev manyStrings : ℕ → Fields
+manyStrings zero = last stringType
+manyStrings (suc k) = next stringType (manyStrings k)
+
+abbrev upTo : ℕ → ℕ → List ℕ
+upTo a zero = []
+upTo a (suc k) = a ∷ upTo (a + 1) k
+
+-- A type, a position, a frame, and the answer: refusal, bytes used, number of events, place of the refusal; and the events.
+-- Or a type, a value, and its bytes.
+pub data Row : Type 0 where
+  reads : Tree → ℕ → List ℕ → List ℕ → List ℕ → Row
+  writes : (t : Tree) → Value 1 t → List ℕ → Row
+
+abbrev pub table : List Row
+table =
+    -- document 01's worked frames
+    reads stringType 0 [] (0 ∷ 0 ∷ 1 ∷ 0 ∷ []) (115 ∷ 0 ∷ 0 ∷ []) ∷
+    reads stringType 0 (0x61 ∷ 0x00 ∷ 0x62 ∷ []) (5 ∷ 0 ∷ 0 ∷ 0 ∷ []) [] ∷
+    reads readings 0 (0xd7 ∷ 0x00 ∷ 0x00 ∷ 0x00 ∷ 0x02 ∷ 0x02 ∷ 0x04 ∷ []) (0 ∷ 7 ∷ 7 ∷ 0 ∷ []) (97 ∷ 0 ∷ 0 ∷ 109 ∷ 0 ∷ 0 ∷ 110 ∷ 0 ∷ 215 ∷ 78 ∷ 2 ∷ 0 ∷ 109 ∷ 2 ∷ 0 ∷ 110 ∷ 2 ∷ 0 ∷ 41 ∷ 7 ∷ 0 ∷ []) ∷
+    writes readings (some 215 ∷ none ∷ some 0 ∷ []) (0xd7 ∷ 0x00 ∷ 0x00 ∷ 0x00 ∷ 0x02 ∷ 0x02 ∷ 0x04 ∷ []) ∷
+    reads readings 0 (0x00 ∷ 0x00 ∷ 0x00 ∷ 0x00 ∷ 0x02 ∷ []) (0 ∷ 5 ∷ 6 ∷ 0 ∷ []) (97 ∷ 0 ∷ 0 ∷ 78 ∷ 0 ∷ 0 ∷ 78 ∷ 0 ∷ 0 ∷ 109 ∷ 0 ∷ 0 ∷ 110 ∷ 0 ∷ 0 ∷ 41 ∷ 5 ∷ 0 ∷ []) ∷
+    writes readings (none ∷ none ∷ some 0 ∷ []) (0x00 ∷ 0x00 ∷ 0x00 ∷ 0x00 ∷ 0x02 ∷ []) ∷
+    reads readings 0 (0x00 ∷ 0x00 ∷ 0x00 ∷ []) (0 ∷ 3 ∷ 5 ∷ 0 ∷ []) (97 ∷ 0 ∷ 0 ∷ 78 ∷ 0 ∷ 0 ∷ 78 ∷ 0 ∷ 0 ∷ 78 ∷ 0 ∷ 0 ∷ 41 ∷ 3 ∷ 0 ∷ []) ∷
+    writes readings (none ∷ none ∷ none ∷ []) (0x00 ∷ 0x00 ∷ 0x00 ∷ []) ∷
+    reads byteAndReading 0 (0x07 ∷ 0x00 ∷ []) (0 ∷ 2 ∷ 4 ∷ 0 ∷ []) (40 ∷ 0 ∷ 0 ∷ 121 ∷ 0 ∷ 7 ∷ 78 ∷ 2 ∷ 0 ∷ 41 ∷ 2 ∷ 0 ∷ []) ∷
+    writes byteAndReading (7, none) (0x07 ∷ 0x00 ∷ []) ∷
+    reads byteAndReading 0 (0x07 ∷ []) (3 ∷ 0 ∷ 0 ∷ 1 ∷ []) [] ∷
+    reads byteAndReading 0 (0x07 ∷ 0x01 ∷ []) (4 ∷ 0 ∷ 0 ∷ 1 ∷ []) [] ∷
+    reads byteAndReading 0 (0x07 ∷ 0x00 ∷ 0x05 ∷ 0x00 ∷ []) (0 ∷ 4 ∷ 5 ∷ 0 ∷ []) (40 ∷ 0 ∷ 0 ∷ 121 ∷ 0 ∷ 7 ∷ 109 ∷ 2 ∷ 0 ∷ 110 ∷ 2 ∷ 5 ∷ 41 ∷ 4 ∷ 0 ∷ []) ∷
+    writes byteAndReading (7, some 5) (0x07 ∷ 0x00 ∷ 0x05 ∷ 0x00 ∷ []) ∷
+    reads strings 0 (0x01 ∷ []) (0 ∷ 0 ∷ 2 ∷ 0 ∷ []) (97 ∷ 0 ∷ 0 ∷ 41 ∷ 0 ∷ 0 ∷ []) ∷
+    reads strings 0 (0x02 ∷ []) (3 ∷ 0 ∷ 0 ∷ 0 ∷ []) [] ∷
+    reads stringToByte 0 (0x6b ∷ 0x00 ∷ 0x09 ∷ 0x02 ∷ 0x04 ∷ []) (0 ∷ 5 ∷ 4 ∷ 0 ∷ []) (123 ∷ 0 ∷ 0 ∷ 115 ∷ 0 ∷ 1 ∷ 121 ∷ 2 ∷ 9 ∷ 41 ∷ 5 ∷ 0 ∷ []) ∷
+    writes stringToByte ((107 ∷ [], 9) ∷ []) (0x6b ∷ 0x00 ∷ 0x09 ∷ 0x02 ∷ 0x04 ∷ []) ∷
+    reads variant 0 (0x07 ∷ 0x00 ∷ 0x00 ∷ 0x00 ∷ 0x00 ∷ 0x75 ∷ []) (0 ∷ 6 ∷ 4 ∷ 0 ∷ []) (118 ∷ 0 ∷ 0 ∷ 103 ∷ 5 ∷ 1 ∷ 117 ∷ 0 ∷ 7 ∷ 41 ∷ 6 ∷ 0 ∷ []) ∷
+    writes variant (uint32Type, 7) (0x07 ∷ 0x00 ∷ 0x00 ∷ 0x00 ∷ 0x00 ∷ 0x75 ∷ []) ∷
+    reads variant 0 (0x75 ∷ []) (8 ∷ 0 ∷ 0 ∷ 0 ∷ []) [] ∷
+    reads maybeString 0 (0x61 ∷ 0x00 ∷ 0x00 ∷ []) (0 ∷ 3 ∷ 2 ∷ 0 ∷ []) (109 ∷ 0 ∷ 0 ∷ 115 ∷ 0 ∷ 1 ∷ []) ∷
+    writes maybeString (some (0x61 ∷ [])) (0x61 ∷ 0x00 ∷ 0x00 ∷ []) ∷
+    reads maybeString 0 (0x61 ∷ 0x00 ∷ 0x01 ∷ []) (7 ∷ 0 ∷ 0 ∷ 2 ∷ []) [] ∷
+    reads (nested array 32 byteType) 0 (upTo 0 31) (0 ∷ 31 ∷ 64 ∷ 0 ∷ []) (97 ∷ 0 ∷ 0 ∷ 97 ∷ 0 ∷ 0 ∷ 97 ∷ 0 ∷ 0 ∷ 97 ∷ 0 ∷ 0 ∷ 97 ∷ 0 ∷ 0 ∷ 97 ∷ 0 ∷ 0 ∷ 97 ∷ 0 ∷ 0 ∷ 97 ∷ 0 ∷ 0 ∷ 97 ∷ 0 ∷ 0 ∷ 97 ∷ 0 ∷ 0 ∷ 97 ∷ 0 ∷ 0 ∷ 97 ∷ 0 ∷ 0 ∷ 97 ∷ 0 ∷ 0 ∷ 97 ∷ 0 ∷ 0 ∷ 97 ∷ 0 ∷ 0 ∷ 97 ∷ 0 ∷ 0 ∷ 97 ∷ 0 ∷ 0 ∷ 97 ∷ 0 ∷ 0 ∷ 97 ∷ 0 ∷ 0 ∷ 97 ∷ 0 ∷ 0 ∷ 97 ∷ 0 ∷ 0 ∷ 97 ∷ 0 ∷ 0 ∷ 97 ∷ 0 ∷ 0 ∷ 97 ∷ 0 ∷ 0 ∷ 97 ∷ 0 ∷ 0 ∷ 97 ∷ 0 ∷ 0 ∷ 97 ∷ 0 ∷ 0 ∷ 97 ∷ 0 ∷ 0 ∷ 97 ∷ 0 ∷ 0 ∷ 97 ∷ 0 ∷ 0 ∷ 97 ∷ 0 ∷ 0 ∷ 97 ∷ 0 ∷ 0 ∷ 41 ∷ 0 ∷ 0 ∷ 41 ∷ 1 ∷ 0 ∷ 41 ∷ 2 ∷ 0 ∷ 41 ∷ 3 ∷ 0 ∷ 41 ∷ 4 ∷ 0 ∷ 41 ∷ 5 ∷ 0 ∷ 41 ∷ 6 ∷ 0 ∷ 41 ∷ 7 ∷ 0 ∷ 41 ∷ 8 ∷ 0 ∷ 41 ∷ 9 ∷ 0 ∷ 41 ∷ 10 ∷ 0 ∷ 41 ∷ 11 ∷ 0 ∷ 41 ∷ 12 ∷ 0 ∷ 41 ∷ 13 ∷ 0 ∷ 41 ∷ 14 ∷ 0 ∷ 41 ∷ 15 ∷ 0 ∷ 41 ∷ 16 ∷ 0 ∷ 41 ∷ 17 ∷ 0 ∷ 41 ∷ 18 ∷ 0 ∷ 41 ∷ 19 ∷ 0 ∷ 41 ∷ 20 ∷ 0 ∷ 41 ∷ 21 ∷ 0 ∷ 41 ∷ 22 ∷ 0 ∷ 41 ∷ 23 ∷ 0 ∷ 41 ∷ 24 ∷ 0 ∷ 41 ∷ 25 ∷ 0 ∷ 41 ∷ 26 ∷ 0 ∷ 41 ∷ 27 ∷ 0 ∷ 41 ∷ 28 ∷ 0 ∷ 41 ∷ 29 ∷ 0 ∷ 41 ∷ 30 ∷ 0 ∷ 41 ∷ 31 ∷ 0 ∷ []) ∷
+    reads (nested array 33 byteType) 0 (upTo 0 32) (11 ∷ 0 ∷ 0 ∷ 0 ∷ []) [] ∷
+    reads (nested maybe 64 byteType) 0 (5 ∷ replicate 63 0) (0 ∷ 64 ∷ 65 ∷ 0 ∷ []) (109 ∷ 0 ∷ 0 ∷ 109 ∷ 0 ∷ 0 ∷ 109 ∷ 0 ∷ 0 ∷ 109 ∷ 0 ∷ 0 ∷ 109 ∷ 0 ∷ 0 ∷ 109 ∷ 0 ∷ 0 ∷ 109 ∷ 0 ∷ 0 ∷ 109 ∷ 0 ∷ 0 ∷ 109 ∷ 0 ∷ 0 ∷ 109 ∷ 0 ∷ 0 ∷ 109 ∷ 0 ∷ 0 ∷ 109 ∷ 0 ∷ 0 ∷ 109 ∷ 0 ∷ 0 ∷ 109 ∷ 0 ∷ 0 ∷ 109 ∷ 0 ∷ 0 ∷ 109 ∷ 0 ∷ 0 ∷ 109 ∷ 0 ∷ 0 ∷ 109 ∷ 0 ∷ 0 ∷ 109 ∷ 0 ∷ 0 ∷ 109 ∷ 0 ∷ 0 ∷ 109 ∷ 0 ∷ 0 ∷ 109 ∷ 0 ∷ 0 ∷ 109 ∷ 0 ∷ 0 ∷ 109 ∷ 0 ∷ 0 ∷ 109 ∷ 0 ∷ 0 ∷ 109 ∷ 0 ∷ 0 ∷ 109 ∷ 0 ∷ 0 ∷ 109 ∷ 0 ∷ 0 ∷ 109 ∷ 0 ∷ 0 ∷ 109 ∷ 0 ∷ 0 ∷ 109 ∷ 0 ∷ 0 ∷ 109 ∷ 0 ∷ 0 ∷ 109 ∷ 0 ∷ 0 ∷ 109 ∷ 0 ∷ 0 ∷ 109 ∷ 0 ∷ 0 ∷ 109 ∷ 0 ∷ 0 ∷ 109 ∷ 0 ∷ 0 ∷ 109 ∷ 0 ∷ 0 ∷ 109 ∷ 0 ∷ 0 ∷ 109 ∷ 0 ∷ 0 ∷ 109 ∷ 0 ∷ 0 ∷ 109 ∷ 0 ∷ 0 ∷ 109 ∷ 0 ∷ 0 ∷ 109 ∷ 0 ∷ 0 ∷ 109 ∷ 0 ∷ 0 ∷ 109 ∷ 0 ∷ 0 ∷ 109 ∷ 0 ∷ 0 ∷ 109 ∷ 0 ∷ 0 ∷ 109 ∷ 0 ∷ 0 ∷ 109 ∷ 0 ∷ 0 ∷ 109 ∷ 0 ∷ 0 ∷ 109 ∷ 0 ∷ 0 ∷ 109 ∷ 0 ∷ 0 ∷ 109 ∷ 0 ∷ 0 ∷ 109 ∷ 0 ∷ 0 ∷ 109 ∷ 0 ∷ 0 ∷ 109 ∷ 0 ∷ 0 ∷ 109 ∷ 0 ∷ 0 ∷ 109 ∷ 0 ∷ 0 ∷ 109 ∷ 0 ∷ 0 ∷ 109 ∷ 0 ∷ 0 ∷ 109 ∷ 0 ∷ 0 ∷ 109 ∷ 0 ∷ 0 ∷ 109 ∷ 0 ∷ 0 ∷ 121 ∷ 0 ∷ 5 ∷ []) ∷
+    reads (nested maybe 65 byteType) 0 (5 ∷ replicate 64 0) (12 ∷ 0 ∷ 0 ∷ 0 ∷ []) [] ∷
+    writes strings (replicate 253 0x61 ∷ []) (replicate 253 0x61 ++ (0 ∷ 254 ∷ [])) ∷
+    writes strings (replicate 254 0x61 ∷ []) (replicate 254 0x61 ++ (0 ∷ 255 ∷ 0 ∷ [])) ∷
+    -- what a failed child has used, and the end padding that goes first
+    reads (structure (next uint16Type (last (structure (next boolType (last (structure (next byteType (last boolType))))))))) 0 (0x05 ∷ 0x00 ∷ 0x00 ∷ 0xe7 ∷ []) (3 ∷ 0 ∷ 0 ∷ 4 ∷ []) [] ∷
+    reads (structure (next int64Type (next byteType (last uint16Type)))) 0 (0x00 ∷ 0x00 ∷ 0x00 ∷ 0x00 ∷ 0x00 ∷ 0x00 ∷ 0x00 ∷ 0x00 ∷ 0x01 ∷ 0x05 ∷ 0x05 ∷ []) (3 ∷ 0 ∷ 0 ∷ 11 ∷ []) [] ∷
+    -- a table with some bytes left, fewer than an offset is wide
+    reads (structure (manyStrings 129)) 0 (replicate 257 0) (3 ∷ 0 ∷ 0 ∷ 0 ∷ []) [] ∷
+    -- a dictionary's key: its text is judged unless it ends past the body
+    reads stringToByte 0 (0x00 ∷ 0x02 ∷ 0x02 ∷ []) (5 ∷ 0 ∷ 0 ∷ 0 ∷ []) [] ∷
+    reads stringToByte 0 (0x00 ∷ 0x03 ∷ 0x02 ∷ []) (3 ∷ 0 ∷ 0 ∷ 0 ∷ []) [] ∷
+    -- a width above the table's end, leading padding counted
+    reads (structure (next variant (last stringType))) 6 (0x00 ∷ 0x00 ∷ []) (8 ∷ 0 ∷ 0 ∷ 2 ∷ []) [] ∷
+    reads (structure (next variant (last stringType))) 0 [] (3 ∷ 0 ∷ 0 ∷ 0 ∷ []) [] ∷
+    -- offsets need not rise, and the next element starts where reading stopped
+    reads (array (maybe byteType)) 0 (0x02 ∷ 0x00 ∷ 0x00 ∷ 0x02 ∷ 0x01 ∷ 0x03 ∷ []) (0 ∷ 5 ∷ 7 ∷ 0 ∷ []) (97 ∷ 0 ∷ 0 ∷ 109 ∷ 0 ∷ 0 ∷ 121 ∷ 0 ∷ 2 ∷ 78 ∷ 1 ∷ 0 ∷ 109 ∷ 1 ∷ 0 ∷ 121 ∷ 1 ∷ 0 ∷ 41 ∷ 5 ∷ 0 ∷ []) ∷
+    reads (array (maybe byteType)) 0 (0x05 ∷ 0x06 ∷ 0x07 ∷ 0x02 ∷ 0x03 ∷ []) (0 ∷ 4 ∷ 6 ∷ 0 ∷ []) (97 ∷ 0 ∷ 0 ∷ 109 ∷ 0 ∷ 0 ∷ 121 ∷ 0 ∷ 5 ∷ 109 ∷ 1 ∷ 0 ∷ 121 ∷ 1 ∷ 6 ∷ 41 ∷ 4 ∷ 0 ∷ []) ∷
+    -- an entry's padding is judged over the dictionary's whole part
+    reads (dictionary (number uint16) (basic (text signature))) 0 (0x00 ∷ 0x00 ∷ 0x00 ∷ 0x03 ∷ 0x00 ∷ 0x03 ∷ []) (4 ∷ 0 ∷ 0 ∷ 3 ∷ []) [] ∷
+    -- a maybe's closing byte is the one where the child stopped; a fixed child may leave bytes
+    reads (maybe strings) 0 (0x01 ∷ 0x00 ∷ []) (7 ∷ 0 ∷ 0 ∷ 0 ∷ []) [] ∷
+    reads (maybe byteType) 0 (0x05 ∷ 0x06 ∷ []) (0 ∷ 1 ∷ 2 ∷ 0 ∷ []) (109 ∷ 0 ∷ 0 ∷ 121 ∷ 0 ∷ 5 ∷ []) ∷
+    -- 5 comes before 6
+    reads stringType 0 (0xff ∷ 0x00 ∷ 0x62 ∷ []) (5 ∷ 0 ∷ 0 ∷ 0 ∷ []) [] ∷
+    -- a variant's signature, its type and its depth
+    reads variant 0 (0x00 ∷ 0xff ∷ []) (6 ∷ 0 ∷ 0 ∷ 1 ∷ []) [] ∷
+    reads variant 0 (0x00 ∷ 0x68 ∷ []) (9 ∷ 0 ∷ 0 ∷ 1 ∷ []) [] ∷
+    reads variant 0 (0x05 ∷ 0x00 ∷ 0x79 ∷ 0x00 ∷ []) (9 ∷ 0 ∷ 0 ∷ 2 ∷ []) [] ∷
+    -- depth is found when it is reached
+    reads (nested array 33 byteType) 0 [] (0 ∷ 0 ∷ 2 ∷ 0 ∷ []) (97 ∷ 0 ∷ 0 ∷ 41 ∷ 0 ∷ 0 ∷ []) ∷
+    -- a number that is cut is no number
+    reads int16Type 0 (0x05 ∷ []) (3 ∷ 0 ∷ 0 ∷ 0 ∷ []) [] ∷
+    reads (structure (next byteType (last int16Type))) 0 (0x01 ∷ 0x00 ∷ 0x05 ∷ []) (3 ∷ 0 ∷ 0 ∷ 2 ∷ []) [] ∷
+    reads boolType 0 [] (3 ∷ 0 ∷ 0 ∷ 0 ∷ []) [] ∷
+    reads boolType 0 (0x02 ∷ []) (0 ∷ 1 ∷ 1 ∷ 0 ∷ []) (98 ∷ 0 ∷ 1 ∷ []) ∷
+    []
+
+-- room for the events of each row
+abbrev room : List ℕ
+room = replicate 200 0
+
+abbrev answer : Calls.Counts → ℕ → List ℕ
+answer c place = c .refusal ∷ c .used ∷ c .count ∷ place ∷ []
+
+-- the answer and the slice: the events, and what was there before
+abbrev pub got : Row → List ℕ
+got (reads t p l a es) = answer (read (typeText t) false p l room) (frameReading (typeText t) false p l .place) ++ readSlice (typeText t) false p l room
+got (writes t v l) = written false 1 t v
+
+abbrev pub want : Row → List ℕ
+want (reads t p l a es) = a ++ (es ++ drop (length es) room)
+want (writes t v l) = l
+
+pub frames-hold : map got table ≡ map want table
+unfolding Numbers.bytes Numbers.value Padding.padding Padding.leadingZeros Offsets.firstWidth Offsets.encodedWidth Offsets.writtenWidth Offsets.bareWidth Offsets.table Offsets.backTable Offsets.entries Offsets.noneAbove Offsets.tableFrom Offsets.tableOf Offsets.endsOf Offsets.tableStands Texts.withoutFinalNul Texts.noNul Texts.following Texts.afterByte Texts.utf8From Texts.utf8 Texts.textRefusal Depths.depthRefusal Types.alignment Types.fixed Types.fixedSize TypeText.typeText TypeText.basicAmong TypeText.made TypeText.endedBy TypeText.basicTree TypeText.entryBy TypeText.entryIn TypeText.arrayIn TypeText.typeIn TypeText.fieldsIn TypeText.typeWithin TypeText.firstType TypeText.nothingBehind TypeText.typeOf Events.triples Written.stop Written.layout Written.eventsFrom Written.ends Written.fieldEnds Written.allFit Written.basicPiece Written.maybePiece Written.arrayBytes Written.arrayPiece Written.structureBytes Written.structurePiece Written.entryPiece Written.variantPiece Written.pieceOver Written.piece Written.written Outcome.chain Outcome.unused Outcome.enclosed Reading.child Reading.within Reading.paddingOf Reading.textAs Reading.readText Reading.readBool Reading.numberIn Reading.endByte Reading.presentIn Reading.maybeIn Reading.elements Reading.elementsTo Reading.tabled Reading.arrayBody Reading.arrayIn Reading.childStep Reading.offsetStands Reading.fieldOffset Reading.padded Reading.lastNul Reading.variantValue Reading.variantType Reading.variantTyped Reading.variantBody Reading.variantIn Reading.pad Reading.readNumber Reading.readBasic Reading.readMaybe Reading.readArray Reading.endPadding Reading.fieldsIn Reading.structureBody Reading.structureIn Reading.readStructure Reading.valueFrom Reading.fixedKey Reading.valueBefore Reading.keyTo Reading.textKey Reading.entryFrom Reading.readEntry Reading.entryStep Reading.readVariant Reading.readTree Reading.reading Calls.frameOf Calls.frameReading Calls.sized Calls.fitted Calls.filled Calls.size Calls.read Calls.readSlice
+frames-hold = refl

@@ -17,7 +17,7 @@ use Rattle.meaning.specs.Offsets.{Table, encodedWidth, lastOffset, entri
 use Rattle.meaning.specs.Texts.{withoutFinalNul, textRefusal}
 use Rattle.meaning.specs.Depths as Depth
 use Rattle.meaning.specs.Depths.{Depths, Opened, total, depthRefusal, opened, noneOpen}
-use Rattle.meaning.specs.Types.{Number, Text, Basic, bool, number, text, Tree, Fields, basic, variant, maybe, array, dictionary, structure, last, next, numberWidth, basicAlignment, basicFixed, alignment, largestAlignment, fixed, allFixed}
+use Rattle.meaning.specs.Types.{Basic, bool, number, text, Tree, Fields, basic, variant, maybe, array, dictionary, structure, last, next, numberWidth, basicAlignment, basicFixed, alignment, largestAlignment, fixed, allFixed}
 use Rattle.meaning.specs.TypeText.{numberLetter, textLetter, typeOf}
 use Rattle.meaning.specs.Events.{Event, event, textEvent, present, nothing}
 use Rattle.meaning.specs.Outcome.{Outcome, outcome, done, refused, after, chain, unused, passing, enclosed}
@@ -112,16 +112,15 @@ module _ (position : ℕ) where
 
   -- ---- basic values
 
-  number-bounded : (big : Bool) (c : Number) → Bounded true (readNumber position big c)
+  number-bounded : (big : Bool) (kind w : ℕ) → 0 < w → Bounded true (readNumber position big kind w)
   unfolding readNumber numberIn
-  number-bounded big c d k l = kept-unused (chain (pad position (numberWidth c) k l) (numberIn big c k l)) (kept-behind (numberWidth c) k l (numberIn big c k l) (λ n h. go n h (leb (n + numberWidth c) (length l)) refl))
+  number-bounded big kind w hw d k l = kept-unused (chain (pad position w k l) (numberIn big kind w k l)) (kept-behind w k l (numberIn big kind w k l) (λ n h. go n h (leb (n + w) (length l)) refl))
     where
-      go : (n : ℕ) → n ≤ length l → (x : Bool) → leb (n + numberWidth c) (length l) ≡ x
-          → Kept n (length l) (length l) 1 (cost d) 0 0 (pick x (done (numberWidth c) (event (numberLetter c) (k + n) (value (ordered big (take (numberWidth c) (drop n l)))) ∷ [])) (refused 3 (k + n)))
+      go : (n : ℕ) → n ≤ length l → (x : Bool) → leb (n + w) (length l) ≡ x
+          → Kept n (length l) (length l) 1 (cost d) 0 0 (pick x (done w (event kind (k + n) (value (ordered big (take w (drop n l)))) ∷ [])) (refused 3 (k + n)))
       go n h true q =
-          let w = leb-true (n + numberWidth c) (length l) q in
-          let v = number-positive c in
-          kept-done (numberWidth c) _ (omega arith) (omega arith) (omega arith) (omega (arith, cost-positive d, mul-le-mul-left (cost d) v))
+          let v = leb-true (n + w) (length l) q in
+          kept-done w _ (omega arith) (omega arith) (omega arith) (omega (arith, cost-positive d, mul-le-mul-left (cost d) hw))
       go n h false q = kept-refused 3 (k + n) (λ z. omega arith) h
 
   bool-bounded : Bounded true readBool
@@ -141,7 +140,7 @@ module _ (position : ℕ) where
   basic-bounded : (big : Bool) (b : Basic) → Bounded (basicFixed b) (readBasic position big b)
   unfolding readBasic
   basic-bounded big bool = bool-bounded
-  basic-bounded big (number c) = number-bounded big c
+  basic-bounded big (number c) = number-bounded big (numberLetter c) (numberWidth c) (number-positive c)
   basic-bounded big (text c) = text-bounded (textLetter c)
 
   -- ---- maybes

@@ -83,7 +83,7 @@ module _ (position : ℕ) where
       let b : List ℕ = ordered big (bytes w v) in
       let n : length b ≡ w = length-ordered big (bytes w v) ∙ length-bytes w v in
       let h : p + w ≤ length (zeros p ++ (b ++ r)) = simp (length-append, length-replicate) (omega arith) in
-      let e : numberIn big c k (zeros p ++ (b ++ r)) p ≡ done w (event (numberLetter c) q v ∷ []) =
+      let e : numberIn big (numberLetter c) w k (zeros p ++ (b ++ r)) p ≡ done w (event (numberLetter c) q v ∷ []) =
       rw (
         le-leb (p + w) (length (zeros p ++ (b ++ r))) h,
         drop-at (zeros p) (b ++ r) p (length-replicate p 0),
@@ -92,7 +92,7 @@ module _ (position : ℕ) where
         value-bytes w v (ltb→lt v (256 ^ w) f),
         hq,
       ) in
-      rw (behind-padding position w k p u w (b ++ r) (numberIn big c k (zeros p ++ (b ++ r))) (event (numberLetter c) q v ∷ []) hp e (omega arith))
+      rw (behind-padding position w k p u w (b ++ r) (numberIn big (numberLetter c) w k (zeros p ++ (b ++ r))) (event (numberLetter c) q v ∷ []) hp e (omega arith))
 
   pub bool-reads : (big v : Bool) → Reads (readBasic position big bool) (basicPiece big bool v)
   unfolding readBasic basicPiece readBool padding

@@ -12,7 +12,7 @@ use Rattle.meaning.specs.Offsets.{Table, encodedWidth, offsetBefore, las
 use Rattle.meaning.specs.Texts.{withoutFinalNul, textRefusal}
 use Rattle.meaning.specs.Depths as Depth
 use Rattle.meaning.specs.Depths.{Depths, depthRefusal, opened}
-use Rattle.meaning.specs.Types.{Number, Text, Basic, bool, number, text, Tree, Fields, basic, variant, maybe, array, dictionary, structure, last, next, numberWidth, basicAlignment, basicFixed, alignment, largestAlignment, fixed, allFixed}
+use Rattle.meaning.specs.Types.{Text, Basic, bool, number, text, Tree, Fields, basic, variant, maybe, array, dictionary, structure, last, next, numberWidth, basicAlignment, basicFixed, alignment, largestAlignment, fixed, allFixed}
 use Rattle.meaning.specs.TypeText.{numberLetter, textLetter, typeOf}
 use Rattle.meaning.specs.Events.{Event, event, textEvent, present, nothing}
 use Rattle.meaning.specs.Outcome.{Outcome, outcome, done, refused, after, chain, unused, passing, enclosed}
@@ -47,12 +47,10 @@ readText kind d k l = after (length l) [] (textAs kind k (withoutFinalNul l))
 unfoldable pub readBool : Reader
 readBool d k l = pick (eqb (length l) 0) (refused 3 k) (done 1 (event 98 k (pick (eqb (getD l 0 0) 0) 0 1) ∷ []))
 
--- a number behind n bytes of padding
-unfoldable pub numberIn : Bool → Number → ℕ → List ℕ → ℕ → Outcome
-numberIn big c k l n =
-    pick (leb (n + numberWidth c) (length l))
-    (done (numberWidth c) (event (numberLetter c) (k + n) (value (ordered big (take (numberWidth c) (drop n l)))) ∷ []))
-    (refused 3 (k + n))
+-- a number of a kind and a width, behind n bytes of padding
+unfoldable pub numberIn : Bool → ℕ → ℕ → ℕ → List ℕ → ℕ → Outcome
+numberIn big kind w k l n =
+    pick (leb (n + w) (length l)) (done w (event kind (k + n) (value (ordered big (take w (drop n l)))) ∷ [])) (refused 3 (k + n))
 
 -- the byte where a maybe's child stopped must be 0
 unfoldable pub endByte : ℕ → List ℕ → ℕ → ℕ → Outcome
@@ -165,12 +163,12 @@ module _ (position : ℕ) where
   pad a k l = paddingOf (padding (position + k) a) k l
 
   -- numbers pad, then need their bytes
-  unfoldable pub readNumber : Bool → Number → Reader
-  readNumber big c d k l = unused (chain (pad (numberWidth c) k l) (numberIn big c k l))
+  unfoldable pub readNumber : Bool → ℕ → ℕ → Reader
+  readNumber big kind w d k l = unused (chain (pad w k l) (numberIn big kind w k l))
 
   unfoldable pub readBasic : Bool → Basic → Reader
   readBasic big bool = readBool
-  readBasic big (number c) = readNumber big c
+  readBasic big (number c) = readNumber big (numberLetter c) (numberWidth c)
   readBasic big (text c) = readText (textLetter c)
 
   unfoldable pub readMaybe : ℕ → Bool → Reader → Reader

@@ -3,8 +3,8 @@
 
 Usage: oracle/table.py FRAMES ANSWERS      lines as `gen.py` prints them, and the oracle's answers to them
 
-Writes a copy of the crate `meaning` with the frames and answers as tables of 250 rows, each with a test that antt computes,
-below target/table, and checks it with `rt check`. Prints how many frames hold; the exit status is 1 if a table does not.
+Writes a copy of the crate `meaning` with the frames and answers as tables of at most 250 rows or 100,000 numbers, each with a test
+that antt computes, below target/table, and checks it with `rt check`. A row of more numbers is more than antt's stack holds. Prints how many frames hold; the exit status is 1 if a table does not.
 A frame on which the Rust panics is expected to be refused with 3. The tables are not kept in the repository.
 """
 import os
@@ -14,6 +14,7 @@ import subprocess
 import sys
 
 ROWS = 250
+NUMBERS = 100_000
 TOP = os.path.dirname(os.path.dirname(os.path.abspath(__file__)))
 OUT = os.path.join(TOP, "target", "table")
 MODULES = ["Numbers", "Padding", "Offsets", "Texts", "Depths", "Types", "TypeText", "Events", "Outcome", "Reading", "Calls"]
@@ -78,6 +79,19 @@ def row(frame, answer):
         numbers(text), "true" if order == b"b" else "false", int(position), numbers(frame_bytes), numbers(wanted))
 
 
+def groups(rows):
+    """The rows in groups that are short enough for one table."""
+    group, size = [], 0
+    for line in rows:
+        count = line.count("∷")
+        if group and (len(group) == ROWS or size + count > NUMBERS):
+            yield group
+            group, size = [], 0
+        group.append(line)
+        size += count
+    yield group
+
+
 def write_tables(frames, answers):
     """The copy of the crate, with a module for each so many rows."""
     shutil.rmtree(OUT, ignore_errors=True)
@@ -86,11 +100,10 @@ def write_tables(frames, answers):
     os.makedirs(os.path.join(OUT, "meaning", "proofs"))
     tail = "    []\n\nrows-hold : map got rows ≡ map want rows\nunfolding %s\nrows-hold = refl\n" % unfolded()
     modules = []
-    for start in range(0, len(frames), ROWS):
-        modules.append("Frames%d" % (start // ROWS))
-        body = "".join(row(f, a) for f, a in zip(frames[start:start + ROWS], answers[start:start + ROWS]))
+    for group in groups(row(f, a) for f, a in zip(frames, answers)):
+        modules.append("Frames%d" % len(modules))
         with open(os.path.join(OUT, "meaning", "proofs", modules[-1] + ".antt"), "w", encoding="utf-8") as out:
-            out.write(HEAD + body + tail)
+            out.write(HEAD + "".join(group) + tail)
     with open(os.path.join(OUT, "meaning", "proofs", "Lib.antt"), "w", encoding="utf-8") as out:
         out.write("".join("pub mod %s\n" % m for m in modules))
 

@@ -2,16 +2,18 @@
 use mathlib.Core.Path.{_≡_, refl, sym, ap, _∙_}
 use mathlib.Core.List.{List, [], _∷_, _++_, append-nil, append-assoc}
 use mathlib.Core.Option.{Option, none, some}
-use mathlib.Core.Bool.{Bool, true, false, _&&_, not}
+use mathlib.Core.Bool.{Bool, true, false, _&&_}
 use Prim.Native.Nat.{ℕ, zero, suc, _+_, _*_, _-_, _≤_, _<_}
 use native.Mathlib.Omega.{arith}
-use lib.Dec.{T, leb, ltb, eqb, leb→le}
-use lib.ListN.{length, take, drop, getD, length-append}
-use borrow.Author.Tests.{le-leb, lt-leb, lt-ltb, eq-eqb, ne-eqb, eqb-true, eqb-false, leb-true}
+use lib.Dec.{T, leb, eqb, leb→le}
+use lib.ListN.{length, getD, length-append}
+use borrow.Author.Tests.{le-leb, eq-eqb, ne-eqb, eqb-true, leb-true}
 use Rattle.meaning.specs.Choice.{pick}
-use Rattle.meaning.specs.Texts.{withoutFinalNul, noNul, Wanted, wanted, letter, following, afterByte, utf8From, utf8}
-use Rattle.meaning.specs.Types.{Number, byte, int16, uint16, int32, uint32, int64, uint64, double, Text, string, objectPath, signature, Basic, bool, number, text, Tree, Fields, basic, variant, maybe, array, dictionary, structure, last, next}
-use Rattle.meaning.specs.TypeText.{numberLetter, textLetter, basicLetter, typeText, fieldsText, Begun, Found, found, basics, basicAmong, basicOf, made, endedBy, basicTree, entryBy, entryIn, arrayIn, typeIn, fieldsIn, typeWithin, fieldsWithin, firstType, nothingBehind, typeOf}
+use Rattle.meaning.specs.Texts.{withoutFinalNul, noNul, following, afterByte, utf8From, utf8}
+use Rattle.meaning.specs.Types.{byte, int16, uint16, int32, uint32, int64, uint64, double, string, objectPath, signature, Basic, bool, number, text, Tree, Fields, basic, variant, maybe, array, dictionary, structure, last, next, alignment, largestAlignment, allFixed, rounded, fixedSize, fieldsEnd}
+use Rattle.meaning.specs.TypeText.{basicLetter, typeText, fieldsText, Begun, Found, found, basics, basicAmong, basicOf, made, endedBy, basicTree, entryBy, entryIn, arrayIn, typeIn, fieldsIn, typeWithin, fieldsWithin, firstType, nothingBehind, typeOf}
+use Rattle.meaning.proofs.PaddingLaws.{padding-below}
+use Rattle.meaning.proofs.TypeLaws.{aligns-most, number-aligned, aligned, fields-aligned}
 
 -- ---- basic letters
 
@@ -485,3 +487,30 @@ typeText-utf8 t = plain-utf8 (typeText t) (plain-typeText t)
 
 pub typeText-withoutFinalNul : (t : Tree) → withoutFinalNul (typeText t) ≡ typeText t
 typeText-withoutFinalNul t = plain-withoutFinalNul (typeText t) (plain-typeText t)
+
+-- ---- a fixed size is at most 16 times the length of its text
+
+picked : (q : Bool) (n m : ℕ) → n + 7 ≤ m → pick q n 0 + 7 ≤ m
+picked true n m h = h
+picked false n m h = omega arith
+
+mutual
+  unfolding typeText fixedSize
+
+  pub fixedSize-most : (t : Tree) → fixedSize t + 7 ≤ 16 * length (typeText t)
+  fixedSize-most (basic bool) = omega arith
+  fixedSize-most (basic (number n)) = omega (arith, aligns-most (number-aligned n))
+  fixedSize-most (basic (text c)) = omega arith
+  fixedSize-most variant = omega arith
+  fixedSize-most (maybe t) = omega arith
+  fixedSize-most (array t) = omega arith
+  fixedSize-most (dictionary b t) = omega arith
+  fixedSize-most (structure ts) =
+      picked (allFixed ts) (rounded (fieldsEnd 0 ts) (largestAlignment ts)) (16 * length (40 ∷ fieldsText ts))
+      (omega (arith, fieldsEnd-most 0 ts, padding-below (fields-aligned ts) (fieldsEnd 0 ts), aligns-most (fields-aligned ts)))
+
+  pub fieldsEnd-most : (place : ℕ) (ts : Fields) → fieldsEnd place ts + 16 ≤ place + 16 * length (fieldsText ts)
+  fieldsEnd-most place (last t) =
+      omega (arith, length-append (typeText t) (41 ∷ []), fixedSize-most t, padding-below (aligned t) place, aligns-most (aligned t))
+  fieldsEnd-most place (next t ts) =
+      omega (arith, length-append (typeText t) (fieldsText ts), fixedSize-most t, padding-below (aligned t) place, aligns-most (aligned t), fieldsEnd-most (rounded place (alignment t) + fixedSize t) ts)

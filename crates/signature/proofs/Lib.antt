@@ -1,0 +1,5 @@
+pub mod Letters
+pub mod Sizes
+pub mod Children
+pub mod Dispatch
+pub mod Answers

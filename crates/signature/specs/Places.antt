@@ -1,0 +1,105 @@
+-- What stands at a place of a type text. Assumes nothing: these are definitions.
+use mathlib.Core.List.{List, [], _∷_}
+use mathlib.Core.Option.{Option, none, some}
+use mathlib.Core.Bool.{Bool, true, false, _&&_}
+use Prim.Native.Nat.{ℕ, _+_, _-_, max}
+use lib.Dec.{leb, eqb}
+use lib.ListN.{length, drop}
+use Rattle.meaning.specs.Choice.{pick}
+use Rattle.meaning.specs.Types.{Basic, bool, number, text, Tree, basic, variant, maybe, array, dictionary, structure, numberWidth, basicAlignment, basicFixed, alignment, fixed, fixedSize}
+use Rattle.meaning.specs.TypeText.{numberLetter, textLetter, Found, basicOf, firstType, typeOf}
+use Rattle.signature.specs.declared.Letter.{Letter}
+use Rattle.signature.specs.declared.Letter.the-variants.{End, Bad, Boolean, Number, Text, Variant, Maybe, Array, OpenStructure, CloseStructure, OpenEntry, CloseEntry}
+use Rattle.signature.specs.declared.Child.{Child}
+use Rattle.signature.specs.declared.Field.{Field}
+use Rattle.signature.specs.declared.Entry.{Entry}
+
+-- is a text one complete type of 1 to 255 characters?
+abbrev pub present : {A : Type 0} → Option A → Bool
+present none = false
+present (some a) = true
+
+abbrev pub isType : List ℕ → Bool
+isType l = present (typeOf l)
+
+-- the letter that a text begins with: a number has its code and its width, a text its code
+abbrev pub basicKind : Basic → Letter
+basicKind bool = Boolean
+basicKind (number n) = Number (numberLetter n) (numberWidth n)
+basicKind (text x) = Text (textLetter x)
+
+unfoldable pub letterBy : ℕ → Option Basic → Letter
+letterBy c (some b) = basicKind b
+letterBy c none =
+    pick (eqb c 118) Variant
+    (pick (eqb c 109) Maybe
+    (pick (eqb c 97) Array
+    (pick (eqb c 40) OpenStructure
+    (pick (eqb c 41) CloseStructure
+    (pick (eqb c 123) OpenEntry
+    (pick (eqb c 125) CloseEntry
+    Bad))))))
+
+-- of a character
+abbrev pub letterOf : ℕ → Letter
+letterOf c = letterBy c (basicOf c)
+
+unfoldable pub letterIn : List ℕ → Letter
+letterIn [] = End
+letterIn (c ∷ l) = letterOf c
+
+abbrev pub letterAt : List ℕ → ℕ → Letter
+letterAt l at = letterIn (drop at l)
+
+-- the type that begins at a place of a text, and what is left behind it; none in a text of more than 255 characters
+unfoldable pub typeAt : List ℕ → ℕ → Found Tree
+typeAt l at = pick (leb (length l) 255) (firstType (drop at l)) none
+
+-- the place behind a type, its alignment, whether it is fixed, and its fixed size
+abbrev pub child : Letter → Bool → ℕ → ℕ → Bool → ℕ → Child
+child k found next a f n = record { kind = k; found = found; next = next; alignment = a; fixed = f; size = n }
+
+abbrev pub noChild : Letter → Child
+noChild k = child k false 0 0 false 0
+
+unfoldable pub childBy : Letter → ℕ → Found Tree → Child
+childBy k len none = noChild k
+childBy k len (some g) = child k true (len - length (g .behind)) (alignment (g .it)) (fixed (g .it)) (fixedSize (g .it))
+
+unfoldable pub childAt : List ℕ → ℕ → Child
+childAt l at = childBy (letterAt l at) (length l) (typeAt l at)
+
+-- the field at a place is the last where `)` stands behind it
+unfoldable pub closedBy : Found Tree → Bool
+closedBy none = false
+closedBy (some g) = elim (g .behind) [ [] ↦ false | c ∷ l ↦ eqb c 41 ]
+
+unfoldable pub fieldAt : List ℕ → ℕ → Field
+fieldAt l at = record { child = childAt l at; last = closedBy (typeAt l at) }
+
+-- the key and the value of the dictionary at a place, and its entry's alignment and whether that is fixed
+abbrev pub noEntry : Entry
+noEntry = record { found = false; key = End; place = 0; value = noChild End; alignment = 0; fixed = false; next = 0 }
+
+unfoldable pub entryOf : List ℕ → ℕ → ℕ → Tree → Entry
+entryOf l at next (basic b) = noEntry
+entryOf l at next variant = noEntry
+entryOf l at next (maybe t) = noEntry
+entryOf l at next (array t) = noEntry
+entryOf l at next (dictionary b t) = record {
+  found = true;
+  key = basicKind b;
+  place = at + 3;
+  value = child (letterAt l (at + 3)) true (next - 1) (alignment t) (fixed t) (fixedSize t);
+  alignment = max (basicAlignment b) (alignment t);
+  fixed = basicFixed b && fixed t;
+  next = next;
+}
+entryOf l at next (structure ts) = noEntry
+
+unfoldable pub entryBy : List ℕ → ℕ → Found Tree → Entry
+entryBy l at none = noEntry
+entryBy l at (some g) = entryOf l at (length l - length (g .behind)) (g .it)
+
+unfoldable pub entryAt : List ℕ → ℕ → Entry
+entryAt l at = entryBy l at (typeAt l at)

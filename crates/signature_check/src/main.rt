@@ -1,0 +1,71 @@
+// Judges each line of standard input, and writes a line for it: 1 for one complete type, 0 for any other text. A line ends in a line
+// end, which is no part of its text.
+ghost use mathlib.Core.Path.{_≡_};
+ghost use Prim.Native.Nat.{_≤_};
+ghost use lib.ListN.{length};
+
+// How many bytes of the present line are kept, and how many of the answer are written. A line keeps no more than 256 of its bytes:
+// a text of so many is no type, whatever stands in it.
+pub struct Progress {
+    kept: usize,
+    written: usize,
+}
+
+fn verdict(line: &[u8]) -> u8 {
+    if signature::judge(line) {
+        return b'1';
+    }
+    b'0'
+}
+
+// The answers to the lines that end in the first `n` bytes of a block.
+fn judge_block(
+    block: &[u8; 4096],
+    n: usize,
+    line: &mut [u8],
+    before: usize,
+    out: &mut [u8],
+) -> Progress
+    requires { ⌜ (n ≤ 4096) × (length (now line) ≡ 256) × (before ≤ 256) × (length (now out) ≡ 8192) ⌝ }
+    ensures { λ r. ⌜ (r .kept ≤ 256) × (r .written ≤ 8192) ⌝ }
+{
+    let mut kept = before;
+    let mut written = 0;
+    let mut i = 0;
+    while i < n {
+        let byte = block[i];
+        i += 1;
+        if byte == b'\n' {
+            out[written] = verdict(&line[..kept]);
+            out[written + 1] = b'\n';
+            written += 2;
+            kept = 0;
+            continue;
+        }
+        if kept < 256 {
+            line[kept] = byte;
+            kept += 1;
+        }
+    }
+    Progress { kept, written }
+}
+
+fn main() {
+    let mut line = [0u8; 256];
+    let mut kept = 0;
+    let mut turns = u64::MAX;
+    while turns > 0 {
+        let mut block = [0u8; 4096];
+        let got = libc::read(0, &mut block);
+        let n = io::count(got, &block);
+        if n == 0 {
+            return;
+        }
+        let mut out = [0u8; 8192];
+        let progress = judge_block(&block, n, &mut line, kept, &mut out);
+        let written = progress.written;
+        io::write_all(1, &out[..written]);
+        kept = progress.kept;
+        turns -= 1;
+    }
+}

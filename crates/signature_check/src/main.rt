@@ -1,5 +1,5 @@
 // Judges each line of standard input, and writes a line for it: 1 for one complete type, 0 for any other text. A line ends in a line
-// end, which is no part of its text.
+// end, which is no part of its text; the last one may have none.
 ghost use mathlib.Core.Path.{_≡_};
 ghost use Prim.Native.Nat.{_≤_};
 ghost use lib.ListN.{length};
@@ -50,6 +50,17 @@ fn judge_block(
     Progress { kept, written }
 }
 
+// The answer to a last line that has no line end.
+fn judge_rest(line: &[u8], kept: usize)
+    requires { ⌜ kept ≤ length (now line) ⌝ }
+{
+    if kept == 0 {
+        return;
+    }
+    let answer = [verdict(&line[..kept]), b'\n'];
+    io::write_all(1, &answer);
+}
+
 fn main() {
     let mut line = [0u8; 256];
     let mut kept = 0;
@@ -59,6 +70,7 @@ fn main() {
         let got = libc::read(0, &mut block);
         let n = io::count(got, &block);
         if n == 0 {
+            judge_rest(&line, kept);
             return;
         }
         let mut out = [0u8; 8192];

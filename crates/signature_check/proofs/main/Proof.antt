@@ -6,6 +6,13 @@ use lib.Seq.{length-take-le}
 use borrow.Author.Needs.{needs}
 use Rattle.signature_check.proofs.main.Statement.{statement}
 use Rattle.signature_check.proofs.main.Tie as tie
+use Rattle.signature_check.proofs.main.Reads as reads
+use Rattle.signature_check.proofs.main.Lts as lts
+use Rattle.io.proofs.count.Reads as count-reads
+use Rattle.io.proofs.write_all.Reads as write-all-reads
+use Rattle.libc.proofs.read.Reads as read-reads
+use Rattle.signature_check.proofs.judge_block.Reads as judge-block-reads
+use Rattle.signature_check.proofs.judge_rest.Reads as judge-rest-reads
 
 abbrev Inv-loop : tie.InvT-loop
 Inv-loop line₀ kept₀ turns₀ line kept turns = (length line ≡ 256) × (kept ≤ 256)
@@ -27,6 +34,12 @@ slice-aggregate-count c = search needs
 
 count-requires : tie.Need-count-requires Inv-loop μ-loop
 count-requires c κs = search needs
+
+slice-aggregate-judge-rest : tie.Need-slice-aggregate-judge-rest Inv-loop μ-loop
+slice-aggregate-judge-rest c = search needs
+
+judge-rest-requires : tie.Need-judge-rest-requires Inv-loop μ-loop
+judge-rest-requires c κs = search needs
 
 returns : tie.Need-returns Inv-loop μ-loop
 returns c = search needs
@@ -72,6 +85,8 @@ main-spec =
     read-requires
     slice-aggregate-count
     count-requires
+    slice-aggregate-judge-rest
+    judge-rest-requires
     returns
     slice-aggregate-judge-block
     slice-aggregate-judge-block-2

@@ -25,6 +25,7 @@ use Rattle.meaning.specs.Reading
 use Rattle.meaning.specs.Reading.{Reader, child, within, paddingOf, textAs, readText, readBool, numberIn, endByte, presentIn, maybeIn, further, elements, elementsTo, Step, tabled, arrayBody, arrayIn, childStep, Field, offsetStands, fieldOffset, padded, lastNul, separator, remaining, variantValue, variantType, variantTyped, variantBody, variantIn, pad, readNumber, readBasic, readMaybe, readArray, endPadding, fieldsIn, structureBody, structureIn, readStructure, valueFrom, fixedKey, valueBefore, keyTo, textKey, entryFrom, readEntry, entryStep, readVariant, readTree, readers, reading}
 use Rattle.meaning.specs.Calls.{limit, mostVariants, frameOf, frameReading}
 use Rattle.meaning.proofs.Tests.{both-left, both-right, holds}
+use Rattle.meaning.proofs.DepthLaws.{limits}
 use Rattle.meaning.proofs.OffsetLaws.{encodedWidth-positive}
 use Rattle.meaning.proofs.TypeLaws.{number-positive}
 use Rattle.meaning.proofs.Kept.{Kept, kept-done, kept-refused, kept-more, kept-chain, kept-bytes, kept-event, kept-enclosed, kept-unused, kept-padded, Whole, kept-child}
@@ -51,14 +52,7 @@ total-opened Depth.variant d = omega arith
 total-opened Depth.maybe d = omega arith
 
 total-most : (d : Depths) → depthRefusal d ≡ 0 → total d ≤ 64
-unfolding depthRefusal
-total-most d h = go (ltb 32 (d .structure)) (ltb 32 (d .array)) (ltb 64 (total d)) refl h
-  where
-    go : (x y z : Bool) → ltb 64 (total d) ≡ z → _≡_ {A = ℕ} (pick x 10 (pick y 11 (pick z 12 0))) 0 → total d ≤ 64
-    go true y z e h = absurd (omega arith)
-    go false true z e h = absurd (omega arith)
-    go false false true e h = absurd (omega arith)
-    go false false false e h = ltb-false 64 (total d) e
+total-most d h = limits (d .structure) (d .array) (d .variant) (d .maybe) h .total
 
 cost-opened : (x : Opened) (d : Depths) → depthRefusal (opened x d) ≡ 0 → cost d ≡ cost (opened x d) + 2
 unfolding cost

@@ -8,6 +8,7 @@ use native.Mathlib.Omega.{arith}
 use lib.Dec.{T, leb, eqb, leb→le}
 use lib.ListN.{length, getD, length-append}
 use borrow.Author.Tests.{le-leb, eq-eqb, ne-eqb, eqb-true, leb-true}
+use Rattle.meaning.proofs.Tests.{both, both-left, both-right, holds}
 use Rattle.meaning.specs.Choice.{pick}
 use Rattle.meaning.specs.Texts.{withoutFinalNul, noNul, following, afterByte, utf8From, utf8}
 use Rattle.meaning.specs.Types.{byte, int16, uint16, int32, uint32, int64, uint64, double, string, objectPath, signature, Basic, bool, number, text, Tree, Fields, basic, variant, maybe, array, dictionary, structure, last, next, alignment, largestAlignment, allFixed, rounded, fixedSize, fieldsEnd}
@@ -405,30 +406,14 @@ unfoldable pub plain : List ℕ → Bool
 plain [] = true
 plain (x ∷ l) = (leb 1 x && leb x 127) && plain l
 
-and : (a b : Bool) → T a → T b → T (a && b)
-and true b s t = t
-and false b s t = s
-
-left : (a b : Bool) → T (a && b) → T a
-left true b t = tt
-left false b t = t
-
-right : (a b : Bool) → T (a && b) → T b
-right true b t = t
-right false b t = absurd t
-
-is : (b : Bool) → T b → b ≡ true
-is true t = refl
-is false t = absurd t
-
 pub plain-append : (x y : List ℕ) → T (plain x) → T (plain y) → T (plain (x ++ y))
 unfolding plain
 plain-append [] y p q = q
-plain-append (a ∷ x) y p q = and (leb 1 a && leb a 127) (plain (x ++ y)) (left (leb 1 a && leb a 127) (plain x) p) (plain-append x y (right (leb 1 a && leb a 127) (plain x) p) q)
+plain-append (a ∷ x) y p q = both (leb 1 a && leb a 127) (plain (x ++ y)) (both-left (leb 1 a && leb a 127) (plain x) p) (plain-append x y (both-right (leb 1 a && leb a 127) (plain x) p) q)
 
 plain-basic : (b : Basic) (l : List ℕ) → T (plain l) → T (plain (basicLetter b ∷ l))
 unfolding plain
-plain-basic b l p = and (leb 1 (basicLetter b) && leb (basicLetter b) 127) (plain l) (basic-letter b .plain-letter) p
+plain-basic b l p = both (leb 1 (basicLetter b) && leb (basicLetter b) 127) (plain l) (basic-letter b .plain-letter) p
 
 mutual
   unfolding typeText plain
@@ -449,15 +434,15 @@ mutual
 module _ (x : ℕ) (l : List ℕ) (p : T (plain (x ∷ l))) where
   rest-plain : T (plain l)
   unfolding plain
-  rest-plain = right (leb 1 x && leb x 127) (plain l) p
+  rest-plain = both-right (leb 1 x && leb x 127) (plain l) p
 
   small : leb x 127 ≡ true
   unfolding plain
-  small = is (leb x 127) (right (leb 1 x) (leb x 127) (left (leb 1 x && leb x 127) (plain l) p))
+  small = holds (leb x 127) (both-right (leb 1 x) (leb x 127) (both-left (leb 1 x && leb x 127) (plain l) p))
 
   no-nul : eqb x 0 ≡ false
   unfolding plain
-  no-nul = let h = leb→le 1 x (left (leb 1 x) (leb x 127) (left (leb 1 x && leb x 127) (plain l) p)) in ne-eqb x 0 (omega arith)
+  no-nul = let h = leb→le 1 x (both-left (leb 1 x) (leb x 127) (both-left (leb 1 x && leb x 127) (plain l) p)) in ne-eqb x 0 (omega arith)
 
 pub plain-noNul : (l : List ℕ) → T (plain l) → noNul l ≡ true
 unfolding noNul

@@ -6,7 +6,7 @@ use Prim.Native.Nat.{ℕ, zero, suc, _+_, _-_, max}
 use lib.Dec.{leb, ltb, eqb}
 use lib.ListN.{length, take, drop, getD}
 use Rattle.meaning.specs.Choice.{pick}
-use Rattle.meaning.specs.Numbers.{value, ordered}
+use Rattle.meaning.specs.Numbers.{spelled}
 use Rattle.meaning.specs.Padding.{padding, leadingZeros}
 use Rattle.meaning.specs.Offsets.{Table, encodedWidth, offsetBefore, lastOffset, tableOf, endsOf, tableStands}
 use Rattle.meaning.specs.Texts.{withoutFinalNul, textRefusal}
@@ -50,7 +50,7 @@ readBool d k l = pick (eqb (length l) 0) (refused 3 k) (done 1 (event 98 k (pick
 -- a number of a kind and a width, behind n bytes of padding
 unfoldable pub numberIn : Bool → ℕ → ℕ → ℕ → List ℕ → ℕ → Outcome
 numberIn big kind w k l n =
-    pick (leb (n + w) (length l)) (done w (event kind (k + n) (value (ordered big (take w (drop n l)))) ∷ [])) (refused 3 (k + n))
+    pick (leb (n + w) (length l)) (done w (event kind (k + n) (spelled big w n l) ∷ [])) (refused 3 (k + n))
 
 -- the byte where a maybe's child stopped must be 0
 unfoldable pub endByte : ℕ → List ℕ → ℕ → ℕ → Outcome

@@ -1,0 +1,18 @@
+use native.Mathlib.Nat.{add-zero}
+use borrow.Author.Needs.{needs}
+use Rattle.leaves.proofs.container_depths.ContainerDepths.inc_maybe.Statement.{statement}
+use Rattle.leaves.proofs.container_depths.ContainerDepths.inc_maybe.Tie as tie
+use Rattle.leaves.proofs.container_depths.ContainerDepths.inc_maybe.Reads as reads
+use Rattle.leaves.proofs.container_depths.ContainerDepths.inc_maybe.Lts as lts
+use Rattle.leaves.proofs.container_depths.ContainerDepths.raised.Reads as raised-reads
+
+-- src/container_depths.rt:113:9
+raised-requires : tie.Need-raised-requires
+raised-requires c κs = search needs
+
+-- src/container_depths.rt:110:5
+returns : tie.Need-returns
+returns c = simp add-zero at (c .raised .ensures)
+
+pub inc-maybe-spec : {M : Type 1} → statement M
+inc-maybe-spec = tie.close (tie.spec raised-requires returns)

@@ -1,0 +1,20 @@
+use native.Mathlib.Nat.{add-zero}
+use borrow.Author.Needs.{needs}
+use Rattle.leaves.proofs.container_depths.ContainerDepths.inc_structure.Statement.{
+  statement,
+}
+use Rattle.leaves.proofs.container_depths.ContainerDepths.inc_structure.Tie as tie
+use Rattle.leaves.proofs.container_depths.ContainerDepths.inc_structure.Reads as reads
+use Rattle.leaves.proofs.container_depths.ContainerDepths.inc_structure.Lts as lts
+use Rattle.leaves.proofs.container_depths.ContainerDepths.raised.Reads as raised-reads
+
+-- src/container_depths.rt:95:9
+raised-requires : tie.Need-raised-requires
+raised-requires c κs = search needs
+
+-- src/container_depths.rt:92:5
+returns : tie.Need-returns
+returns c = simp add-zero at (c .raised .ensures)
+
+pub inc-structure-spec : {M : Type 1} → statement M
+inc-structure-spec = tie.close (tie.spec raised-requires returns)

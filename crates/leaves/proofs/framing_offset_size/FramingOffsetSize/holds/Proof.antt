@@ -1,0 +1,30 @@
+use Rattle.leaves.proofs.WidthLaws.{fits-count}
+use Rattle.leaves.specs.Widths.{widthOf}
+use Rattle.meaning.proofs.OffsetSteps.{too-long}
+use mathlib.Core.Path.{sym}
+use borrow.Author.Needs.{needs}
+use Rattle.leaves.proofs.framing_offset_size.FramingOffsetSize.holds.Statement.{statement}
+use Rattle.leaves.proofs.framing_offset_size.FramingOffsetSize.holds.Tie as tie
+use Rattle.leaves.proofs.framing_offset_size.FramingOffsetSize.holds.Reads as reads
+use Rattle.leaves.proofs.framing_offset_size.FramingOffsetSize.holds.Lts as lts
+use Rattle.leaves.proofs.framing_offset_size.FramingOffsetSize.count_in.Reads as count-in-reads
+use Rattle.leaves.proofs.framing_offset_size.FramingOffsetSize.max.Reads as max-reads
+
+-- src/framing_offset_size.rt:79:13
+max-requires : tie.Need-max-requires
+max-requires c κs = search needs
+
+-- src/framing_offset_size.rt:81:13
+returns : tie.Need-returns
+returns c = sym (too-long (widthOf (c .before .before .args .self)) (c .before .before .args .len) (c .before .before .args .count) _ (rw (c .before .max .ensures) at (c .if1 .taken)))
+
+-- src/framing_offset_size.rt:83:18
+count-in-requires : tie.Need-count-in-requires
+count-in-requires c κs = search needs
+
+-- src/framing_offset_size.rt:76:5
+returns-2 : tie.Need-returns-2
+returns-2 c = fits-count (c .before .before .before .args .self) _ _ (c .before .before .max .ensures) (c .before .if1 .left) (c .count-in .ensures)
+
+pub holds-spec : {M : Type 1} → statement M
+holds-spec = tie.close (tie.spec max-requires returns count-in-requires returns-2)

@@ -1,0 +1,25 @@
+// Answers calls of the leaves, one a line: the leaf's name and its arguments, parted by single blanks. Numbers are decimal, bytes pairs of
+// hexadecimal digits, `-` for none. Each answer begins with the refusal, 0 if there is none.
+mod calls;
+mod print;
+mod words;
+
+use calls::answer;
+use libc::STDIN_FILENO;
+use words::line_end;
+ghost use Prim.Native.Nat.{_+_, _≤_};
+
+fn answer_all(input: &[u8]) {
+    let mut start = 0;
+    while start < input.len() {
+        let end = line_end(input, start);
+        answer(&input[start..end]);
+        start = end + 1;
+    }
+}
+
+fn main() {
+    let mut space = io::large_buffer();
+    let n = io::read_full(STDIN_FILENO, &mut space);
+    answer_all(&space[..n]);
+}

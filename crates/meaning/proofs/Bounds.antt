@@ -131,7 +131,7 @@ module _ (position : ℕ) where
       kept-more {m = length l} {b = length l + 0} {c = cost d} {e = cost d} (omega arith) (omega arith) (omega arith) (omega arith)
       (kept-bytes (length l) (textAs kind k (withoutFinalNul l)) (kept-text kind k (withoutFinalNul l) (omega arith) (omega arith) (cost-positive d)))
 
-  basic-bounded : (big : Bool) (b : Basic) → Bounded (basicFixed b) (readBasic position big b)
+  pub basic-bounded : (big : Bool) (b : Basic) → Bounded (basicFixed b) (readBasic position big b)
   unfolding readBasic
   basic-bounded big bool = bool-bounded
   basic-bounded big (number c) = number-bounded big (numberLetter c) (numberWidth c) (number-positive c)
@@ -275,7 +275,7 @@ module _ (position : ℕ) where
       (kept-tabled kind step k l n d′ (tableOf (drop n l)) h (count-most (drop n l)) (λ b i. w d′ k l b i)))))
 
   -- a child's reader as a step
-  child-step : (fx : Bool) (read : Reader) → Bounded fx read → (d : Depths) (k : ℕ) (l : List ℕ) (b : ℕ) → StepKept fx (childStep read d k l b) (length l) (cost d)
+  pub child-step : (fx : Bool) (read : Reader) → Bounded fx read → (d : Depths) (k : ℕ) (l : List ℕ) (b : ℕ) → StepKept fx (childStep read d k l b) (length l) (cost d)
   unfolding childStep
   child-step true read w d k l b = λ j h. kept-more {m = min (length l) (length l)} {b = 1} {c = cost d} {e = 0} {p = 0} (omega arith) (omega arith) (omega arith) (omega arith) (kept-child (read d) (w d) k l j (length l) h)
   child-step false read w d k l b = λ j e h g. kept-more {m = min e (length l)} {b = 0} {c = cost d} {e = cost d} {p = 0} (omega arith) (omega arith) (omega arith) (omega arith) (kept-child (read d) (w d) k l j e h)
@@ -444,7 +444,7 @@ module _ (position : ℕ) where
       kept-chain {m = length l} {b₁ = 0} {b₂ = b} {e₁ = 0} {e₂ = e} {p₁ = 0} {p₂ = 0} (pad position a (k + j) (drop j l)) (further (entryFrom position a fx key value d k l s fk f) j)
       (rw hn (kept-pad position a (k + j) (drop j l) (omega (arith, length-drop j l)))) (λ u i i′. g (j + u) i) (omega arith) (omega arith)
 
-  entry-step : (a : ℕ) (fk fv : Bool) (key value : Reader) → Bounded fk key → Bounded fv value → (d : Depths) (k : ℕ) (l : List ℕ) (b : ℕ)
+  pub entry-step : (a : ℕ) (fk fv : Bool) (key value : Reader) → Bounded fk key → Bounded fv value → (d : Depths) (k : ℕ) (l : List ℕ) (b : ℕ)
       → StepKept (fk && fv) (entryStep position a fk (fk && fv) key value d k l b) (length l) (cost d)
   unfolding entryStep
   entry-step a true true key value wk wv d k l b = λ j h. entry-behind a true key value d k l b true j (length l) refl h (λ j h. both-kept a key value d k l b wk wv j h)

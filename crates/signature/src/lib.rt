@@ -220,7 +220,7 @@ fn key_alignment(key: Letter) -> usize
     }
 }
 
-fn key_fixed(key: Letter) -> bool
+pub fn key_fixed(key: Letter) -> bool
     ensures { λ r. ⌜ r ≡ keyFixed key ⌝ }
 {
     match key {

@@ -149,12 +149,12 @@ module _ (step : ℕ → ℕ → Outcome) (part : List ℕ) (lead n : ℕ) (l : 
     rest = (let e : lead + 0 ≡ lead = omega arith in rw e (rest-all all (length part - lead) (length part - lead) n l));
   }
 
-  elements-none : (k j : ℕ) → length part ≤ j → elements k step (length part) j ≡ done 0 []
+  pub elements-none : (k j : ℕ) → length part ≤ j → elements k step (length part) j ≡ done 0 []
   unfolding elements
   elements-none zero j h = refl
   elements-none (suc k) j h = rw (le-leb (length part) j h)
 
-  elements-more : (k j : ℕ) → j < length part → length part - j ≤ k → elements k step (length part) j ≡ chain (step j (length part)) (further (elements (k - 1) step (length part)) j)
+  pub elements-more : (k j : ℕ) → j < length part → length part - j ≤ k → elements k step (length part) j ≡ chain (step j (length part)) (further (elements (k - 1) step (length part)) j)
   unfolding elements
   elements-more zero j h g = absurd (omega arith)
   elements-more (suc k) j h g = let e : suc k - 1 ≡ k = omega arith in rw (lt-leb (length part) j h, e)

@@ -1,33 +1,38 @@
 -- What an array or a dictionary repeats, from the letters of its type. Assumes nothing.
-use mathlib.Core.Path.{_≡_, refl, ap, sym, _∙_}
+use mathlib.Core.Path.{_≡_, refl, ap, sym, subst⁻¹, _∙_}
+use mathlib.Core.Logic.{_⊎_, inl, inr}
 use mathlib.Core.List.{List, _∷_}
 use mathlib.Core.Bool.{Bool, true, false, _&&_, false≢true}
 use native.Mathlib.Omega.{arith}
-use Prim.Native.Nat.{ℕ, _+_, _-_, _≤_, _<_, max}
+use Prim.Native.Nat.{ℕ, zero, suc, _+_, _-_, _≤_, _<_, max}
 use lib.ListN.{length, drop}
-use Rattle.meaning.specs.Types.{Basic, bool, number, text, Tree, array, dictionary, basicAlignment, basicFixed, alignment, fixed}
-use Rattle.meaning.specs.TypeText.{found, firstType}
+use Rattle.meaning.specs.Types.{Number as NumberType, numberWidth, Basic, bool, number, text, Tree, basic, maybe, array, dictionary, basicAlignment, basicFixed, alignment, fixed}
+use Rattle.meaning.specs.TypeText.{numberLetter, found, firstType}
 use Rattle.meaning.specs.Depths.{Depths}
-use Rattle.meaning.specs.Reading.{Reader, readBasic, childStep, entryStep, reading}
+use Rattle.meaning.specs.Outcome.{chain, passing}
+use Rattle.meaning.specs.Reading.{Reader, Step, readBasic, readNumber, readMaybe, readTree, elements, elementsTo, childStep, entryStep, reading}
 use Rattle.meaning.proofs.Bounds.{Bounded, basic-bounded, child-step, entry-step, bounded}
 use Rattle.meaning.proofs.PaddingLaws.{aligns-max}
 use Rattle.meaning.proofs.TypeLaws.{number-aligned, basic-aligned, aligned}
 use Rattle.signature.specs.Places.{basicKind, letterAt, childAt, entryAt}
 use Rattle.signature.specs.Steps.{keyFixed}
 use Rattle.signature.specs.declared.Letter.{Letter}
-use Rattle.signature.specs.declared.Letter.the-variants.{End, Array, OpenEntry}
+use Rattle.signature.specs.declared.Letter.the-variants.{End, Number, Maybe, Array, OpenEntry}
 use Rattle.signature.specs.declared.Child.{Child}
 use Rattle.signature.specs.declared.Entry.{Entry}
 use Rattle.signature.proofs.Children.{child-is}
-use Rattle.signature.proofs.Dispatch.{is-array, is-dictionary, is-entry}
-use Rattle.reader.specs.Places.{treeBy, treeAt, behindBy, Typed, KeyAligned, keyReader, bodyIn, ItemAt}
+use Rattle.signature.proofs.Dispatch.{is-number, is-maybe, is-array, is-dictionary, is-entry}
+use Rattle.reader.specs.Places.{treeBy, treeAt, behindBy, Typed, KeyAligned, keyReader, bodyIn, itemStep, ItemAt, NumberStep, HeldNumber}
+use Rattle.reader.specs.Answers.{Done}
+use Rattle.reader.specs.declared.Answer.{Answer}
 use Rattle.reader.specs.declared.Item.{Item}
+use Rattle.reader.proofs.Readers.{kind-is, number-by, width-by}
 
-abbrev pub item : Bool → ℕ → Child → Letter → Bool → ℕ → Bool → Item
-item entry at child key keyed a f = record { entry = entry; at = at; child = child; key = key; keyed = keyed; alignment = a; fixed = f }
+abbrev pub item : Bool → ℕ → Child → Letter → Bool → ℕ → Bool → Letter → Item
+item entry at child key keyed a f m = record { entry = entry; at = at; child = child; key = key; keyed = keyed; alignment = a; fixed = f; number = m }
 
-same-item : {at at′ : ℕ} {c c′ : Child} {k k′ : Letter} {x x′ : Bool} {a a′ : ℕ} {f f′ : Bool} (entry : Bool)
-    → at ≡ at′ → c ≡ c′ → k ≡ k′ → x ≡ x′ → a ≡ a′ → f ≡ f′ → item entry at c k x a f ≡ item entry at′ c′ k′ x′ a′ f′
+same-item : {at at′ : ℕ} {c c′ : Child} {k k′ : Letter} {x x′ : Bool} {a a′ : ℕ} {f f′ : Bool} {m : Letter} (entry : Bool)
+    → at ≡ at′ → c ≡ c′ → k ≡ k′ → x ≡ x′ → a ≡ a′ → f ≡ f′ → item entry at c k x a f m ≡ item entry at′ c′ k′ x′ a′ f′ m
 same-item entry p q r s t u = cc
 
 -- a type that was found at a place of a text
@@ -76,7 +81,7 @@ child-pays position false read w e d k l b j h z = absurd (false≢true e)
 -- a dictionary of a key and a value
 module _ (text : List ℕ) (at : ℕ) (b : Basic) (t : Tree) (r r′ : List ℕ) (short : length text ≤ 255) (whole : firstType (drop at text) ≡ found (dictionary b t) r)
     (value : firstType (drop (at + 3) text) ≡ found t r′) where
-  entry-item : (i : Item) → i ≡ item true (at + 3) (childAt text (at + 3)) (basicKind b) (basicFixed b) (max (basicAlignment b) (alignment t)) (basicFixed b && fixed t)
+  entry-item : (i : Item) → i ≡ item true (at + 3) (childAt text (at + 3)) (basicKind b) (basicFixed b) (max (basicAlignment b) (alignment t)) (basicFixed b && fixed t) End
       → ItemAt text at i
   unfolding bodyIn
   entry-item i e = rw e (record {
@@ -86,6 +91,7 @@ module _ (text : List ℕ) (at : ℕ) (b : Basic) (t : Tree) (r r′ : List ℕ)
       aligned = aligns-max (basic-aligned b) (aligned t);
       key = key-aligned b;
       keyed = λ f y. both-first (basicFixed b) (fixed t) f;
+      number = λ c w q. let y : _≡_ {A = ℕ} 0 1 = cc in absurd (omega arith);
       pays = λ f position big nested d k l s j h. rw (tree-of text (at + 3) t r′ value, ← key-reader position big b)
           (entry-pays position (max (basicAlignment b) (alignment t)) (basicFixed b) (fixed t) (readBasic position big b) (reading position big (65 - nested) t)
           (basic-bounded position big b) (bounded position big (65 - nested) t) f d k l s j h);
@@ -93,18 +99,60 @@ module _ (text : List ℕ) (at : ℕ) (b : Basic) (t : Tree) (r r′ : List ℕ)
     body = λ position big nested d k l n. rw (tree-of text at (dictionary b t) r whole, tree-of text (at + 3) t r′ value, key-reader position big b);
   })
 
+-- a number in a maybe
+maybe-read : (position : ℕ) (big : Bool) (n : ℕ) (it : NumberType)
+    → reading position big n (maybe (basic (number it))) ≡ readMaybe position (numberWidth it) true (readNumber position big (numberLetter it) (numberWidth it))
+unfolding reading readTree readBasic alignment fixed
+maybe-read position big zero it = refl
+maybe-read position big (suc n) it = refl
+
+maybe-by : (position : ℕ) (big : Bool) (n c w : ℕ) (t : Tree) (it : NumberType) → t ≡ maybe (basic (number it)) → c ≡ numberLetter it → w ≡ numberWidth it
+    → reading position big n t ≡ readMaybe position w true (readNumber position big c w)
+maybe-by position big n c w t it e f g = rw (e, f, g) (maybe-read position big n it)
+
+module _ (text : List ℕ) (at : ℕ) (t : Tree) (r : List ℕ) (value : firstType (drop at text) ≡ found t r) (kind behind num : Letter) (k : kind ≡ letterAt text at) (b : behind ≡ letterAt text (at + 1))
+    (h : HeldNumber kind behind num) (i : Item) (e : i .entry ≡ false) (a : i .at ≡ at) (f : i .fixed ≡ fixed t) where
+  -- the step of an element of that type
+  step-is : (position : ℕ) (big : Bool) (nested : ℕ) (R : Reader) → reading position big (65 - nested) t ≡ R → itemStep position big nested text i ≡ childStep R
+  step-is position big nested R q = rw (e, a, tree-of text at t r value, q)
+
+  pub number-step : (c w : ℕ) → num ≡ Number c w → NumberStep text i c w
+  unfolding fixed
+  number-step c w q = go (h c w q)
+    where
+      go : (kind ≡ Number c w) ⊎ ((kind ≡ Maybe) × (behind ≡ Number c w)) → NumberStep text i c w
+      go (inl x) =
+          let n = is-number text at t r c w value (sym k ∙ x) in
+          let s : t ≡ basic (number (n .it)) = n .type in
+          record {
+            aligned = width-by w (n .it) (n .width-is);
+            plain = λ y position big nested. step-is position big nested _ (number-by position big (65 - nested) c w t (n .it) s (n .code-is) (n .width-is));
+            held = λ y. absurd (false≢true (sym y ∙ f ∙ ap fixed s));
+          }
+      go (inr (x, y)) =
+          let m = is-maybe text at t r value (sym k ∙ x) in
+          let n = is-number text (at + 1) (m .it) r c w (m .child) (sym b ∙ y) in
+          let s : t ≡ maybe (basic (number (n .it))) = m .type ∙ ap maybe (n .type) in
+          record {
+            aligned = width-by w (n .it) (n .width-is);
+            plain = λ y. absurd (false≢true (sym (ap fixed s) ∙ sym f ∙ y));
+            held = λ y position big nested. step-is position big nested _ (maybe-by position big (65 - nested) c w t (n .it) s (n .code-is) (n .width-is));
+          }
+
 -- an array of a child
 module _ (text : List ℕ) (at : ℕ) (t : Tree) (r : List ℕ) (short : length text ≤ 255) (whole : firstType (drop at text) ≡ found (array t) r)
     (value : firstType (drop (at + 1) text) ≡ found t r) where
-  child-item : (i : Item) → i ≡ item false (at + 1) (childAt text (at + 1)) End false (alignment t) (fixed t) → ItemAt text at i
+  child-item : (i : Item) (kind behind num : Letter) → kind ≡ letterAt text (at + 1) → behind ≡ letterAt text (at + 2) → HeldNumber kind behind num
+      → i ≡ item false (at + 1) (childAt text (at + 1)) End false (alignment t) (fixed t) num → ItemAt text at i
   unfolding bodyIn
-  child-item i e = rw e (record {
+  child-item i kind behind num x y h e = rw e (record {
     repeated = record {
       typed = typed-of text (at + 1) t r value short;
       child = refl;
       aligned = aligned t;
       key = tt;
       keyed = λ f y. y;
+      number = number-step text (at + 1) t r value kind behind num x (y ∙ ap (λ (q : ℕ). letterAt text q) {x = at + 2} {y = at + 1 + 1} (omega arith)) h _ refl refl refl;
       pays = λ f position big nested d k l s j h. rw (tree-of text (at + 1) t r value)
           (child-pays position (fixed t) (reading position big (65 - nested) t) (bounded position big (65 - nested) t) f d k l s j h);
     };
@@ -114,7 +162,7 @@ module _ (text : List ℕ) (at : ℕ) (t : Tree) (r : List ℕ) (short : length 
 -- what the code makes of the letters
 module _ (text : List ℕ) (at : ℕ) (typed : Typed text at) (first : letterAt text at ≡ Array) where
   pub item-entry : (e : Entry) (keyed : Bool) → letterAt text (at + 1) ≡ OpenEntry → e ≡ entryAt text at → keyed ≡ keyFixed (e .key)
-      → ItemAt text at (item true (e .place) (e .value) (e .key) keyed (e .alignment) (e .fixed))
+      → ItemAt text at (item true (e .place) (e .value) (e .key) keyed (e .alignment) (e .fixed) End)
   unfolding alignment
   item-entry e keyed second is kf =
       let r = behindBy (firstType (drop at text)) in
@@ -131,12 +179,23 @@ module _ (text : List ℕ) (at : ℕ) (typed : Typed text at) (first : letterAt 
       (ap (λ x. x .alignment) is ∙ q .same-alignment)
       (ap (λ x. x .fixed) is ∙ q .same-fixed))
 
-  pub item-child : (c : Child) → (letterAt text (at + 1) ≡ OpenEntry → ⊥) → c ≡ childAt text (at + 1)
-      → ItemAt text at (item false (at + 1) c End false (c .alignment) (c .fixed))
-  item-child c second is =
+  pub item-child : (c : Child) (behind num : Letter) → (letterAt text (at + 1) ≡ OpenEntry → ⊥) → c ≡ childAt text (at + 1) → behind ≡ letterAt text (at + 2) → HeldNumber (c .kind) behind num
+      → ItemAt text at (item false (at + 1) c End false (c .alignment) (c .fixed) num)
+  item-child c behind num second is next h =
       let r = behindBy (firstType (drop at text)) in
       let m = is-array text at (treeAt text at) r (typed .found) first second in
       let w : firstType (drop at text) ≡ found (array (m .it)) r = typed .found ∙ ap (λ x. found x r) (m .type) in
       let q = is ∙ child-is text (at + 1) (m .it) r (typed .short) (m .child) in
-      child-item text at (m .it) r (typed .short) w (m .child) _
+      child-item text at (m .it) r (typed .short) w (m .child) _ (c .kind) behind num (kind-is text (at + 1) c is) next h
       (same-item false refl is refl refl (ap (λ x. x .alignment) q) (ap (λ x. x .fixed) q))
+
+-- arrays of numbers, as what is repeated in them
+module _ (text : List ℕ) (i : Item) (c w : ℕ) (q : NumberStep text i c w) (position : ℕ) (big : Bool) (nested : ℕ) (d : Depths) (place : ℕ) (part : List ℕ) (b lead end len n : ℕ) (l l′ : List ℕ) (r : Answer) where
+  pub plain-numbers : i .fixed ≡ true → ((d : Depths) (b : ℕ) → Done (elements (length part) (childStep (readNumber position big c w) d place part b) (length part) lead) end len n l l′ r)
+      → Done (elements (length part) (itemStep position big nested text i d place part b) (length part) lead) end len n l l′ r
+  plain-numbers f g = subst⁻¹ (λ (s : Step). Done (elements (length part) (s d place part b) (length part) lead) end len n l l′ r) (q .plain f position big nested) (g d b)
+
+  pub held-numbers : (ends : List ℕ) (more : ℕ) → i .fixed ≡ false
+      → Done (chain (elementsTo (childStep (readMaybe position w true (readNumber position big c w)) d place part b) lead ends lead) (passing more)) end len n l l′ r
+      → Done (chain (elementsTo (itemStep position big nested text i d place part b) lead ends lead) (passing more)) end len n l l′ r
+  held-numbers ends more f g = subst⁻¹ (λ (s : Step). Done (chain (elementsTo (s d place part b) lead ends lead) (passing more)) end len n l l′ r) (q .held f position big nested) g

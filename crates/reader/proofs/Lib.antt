@@ -9,3 +9,4 @@ pub mod Rests
 pub mod Structures
 pub mod Variants
 pub mod Unique
+pub mod NumberLaws

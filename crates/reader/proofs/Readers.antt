@@ -112,7 +112,7 @@ unfolding reading readTree
 reading-basic position big zero b = refl
 reading-basic position big (suc n) b = refl
 
-number-by : (position : ℕ) (big : Bool) (n c w : ℕ) (t : Tree) (it : NumberType) → t ≡ basic (number it) → c ≡ numberLetter it → w ≡ numberWidth it → reading position big n t ≡ readNumber position big c w
+pub number-by : (position : ℕ) (big : Bool) (n c w : ℕ) (t : Tree) (it : NumberType) → t ≡ basic (number it) → c ≡ numberLetter it → w ≡ numberWidth it → reading position big n t ≡ readNumber position big c w
 unfolding readBasic
 number-by position big n c w t it e f g = rw (e, f, g) (reading-basic position big n (number it))
 
@@ -124,7 +124,7 @@ bool-by : (position : ℕ) (big : Bool) (n : ℕ) (t : Tree) → t ≡ basic boo
 unfolding readBasic
 bool-by position big n t e = rw e (reading-basic position big n bool)
 
-width-by : (w : ℕ) (it : NumberType) → w ≡ numberWidth it → Aligns w
+pub width-by : (w : ℕ) (it : NumberType) → w ≡ numberWidth it → Aligns w
 width-by w it e = rw e (aligned-number it)
 
 -- by the letter that stands there

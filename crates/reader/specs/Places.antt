@@ -1,5 +1,6 @@
 -- What a reader is asked to read: a type by its place in a text, at a depth. Assumes nothing: these are definitions.
 use mathlib.Core.Path.{_≡_}
+use mathlib.Core.Logic.{_⊎_}
 use mathlib.Core.List.{List, [], _∷_}
 use mathlib.Core.Option.{Option, none, some}
 use mathlib.Core.Bool.{Bool, true, false, _&&_}
@@ -15,7 +16,7 @@ use Rattle.meaning.specs.Offsets.{Table, noneAbove, endsOf}
 use Rattle.meaning.specs.Outcome as outcome
 use Rattle.meaning.specs.Outcome.{Outcome}
 use Rattle.meaning.proofs.PaddingLaws.{Aligns}
-use Rattle.meaning.specs.Reading.{Reader, Step, Field, readBool, readNumber, readText, readBasic, maybeIn, arrayIn, childStep, entryStep, structureIn, variantIn, offsetStands, fieldOffset, readers, readVariant, reading}
+use Rattle.meaning.specs.Reading.{Reader, Step, Field, readBool, readNumber, readText, readBasic, readMaybe, maybeIn, arrayIn, childStep, entryStep, structureIn, variantIn, offsetStands, fieldOffset, readers, readVariant, reading}
 use Rattle.leaves.specs.Answers.{done, refused}
 use Rattle.leaves.specs.declared.utils.Answer.{Answer}
 use Rattle.leaves.specs.Opening.{depthsOf}
@@ -120,6 +121,16 @@ KeyAligned CloseStructure = Unit {0}
 KeyAligned OpenEntry = Unit {0}
 KeyAligned CloseEntry = Unit {0}
 
+-- what is repeated is a number: plain where it is fixed, in a maybe where it is not
+pub record NumberStep (text : List ℕ) (i : Item) (c w : ℕ) : Type 0 where
+  pub aligned : Aligns w
+  pub plain : i .fixed ≡ true → (position : ℕ) (big : Bool) (nested : ℕ) → itemStep position big nested text i ≡ childStep (readNumber position big c w)
+  pub held : i .fixed ≡ false → (position : ℕ) (big : Bool) (nested : ℕ) → itemStep position big nested text i ≡ childStep (readMaybe position w true (readNumber position big c w))
+
+-- the number that a type is or holds, from its letter and the one behind it
+abbrev pub HeldNumber : Letter → Letter → Letter → Type 0
+HeldNumber kind behind r = (c w : ℕ) → r ≡ Number c w → (kind ≡ Number c w) ⊎ ((kind ≡ Maybe) × (behind ≡ Number c w))
+
 -- what is known of what is repeated: its type stands in the text, its alignment is one; where it is fixed, so is its key, and a step
 -- that is done uses a byte
 pub record Repeated (text : List ℕ) (i : Item) : Type 0 where
@@ -128,6 +139,7 @@ pub record Repeated (text : List ℕ) (i : Item) : Type 0 where
   pub aligned : Aligns (i .alignment)
   pub key : KeyAligned (i .key)
   pub keyed : i .fixed ≡ true → i .entry ≡ true → i .keyed ≡ true
+  pub number : (c w : ℕ) → i .number ≡ Number c w → NumberStep text i c w
   pub pays : i .fixed ≡ true → (position : ℕ) (big : Bool) (nested : ℕ) (d : Depths) (k : ℕ) (l : List ℕ) (b j : ℕ) → j ≤ length l
       → itemStep position big nested text i d k l b j (length l) .refusal ≡ 0 → 0 < itemStep position big nested text i d k l b j (length l) .used
 

@@ -1,5 +1,9 @@
 // Reading a frame: `size` and `read`. Ports gvariant/de.rs, through deserialize_any. Readers call each other as containers nest; what
 // is repeated in a container is read in a loop.
+mod numbers;
+
+use crate::numbers::numbers;
+use crate::numbers::readings;
 use leaves::container_depths::ContainerDepths;
 use leaves::de::next_slice;
 use leaves::de::parse_padding;
@@ -39,7 +43,7 @@ ghost use Rattle.leaves.specs.Widths.{widthOf};
 ghost use Rattle.leaves.specs.Tables.{tableIn};
 ghost use Rattle.signature.specs.Places.{childAt, letterAt};
 ghost use Rattle.reader.specs.Answers.{next as nextOf, put, Done, countsOf};
-ghost use Rattle.reader.specs.Places.{treeAt, Typed, fieldsAt, Rowed, Within, Contains, readerOf, readersOf, bodyIn, keyReader, KeyAligned, itemStep, itemKind, ItemAt, Repeated, Stands, offsetAnswer, variantTree};
+ghost use Rattle.reader.specs.Places.{treeAt, Typed, fieldsAt, Rowed, Within, Contains, readerOf, readersOf, bodyIn, keyReader, KeyAligned, itemStep, itemKind, ItemAt, HeldNumber, Repeated, Stands, offsetAnswer, variantTree};
 
 // The refusal's number, 0 if done; the bytes used; the number of events.
 pub struct Answer {
@@ -49,7 +53,8 @@ pub struct Answer {
 }
 
 // What is repeated in an array or a dictionary: the place of its type, or of its value's where it is an entry, and what is needed of
-// that; the entry's key and whether that is fixed; the alignment, and whether it is fixed.
+// that; the entry's key and whether that is fixed; the alignment, and whether it is fixed; the letter of the number that an element is,
+// or holds in a maybe.
 pub struct Item {
     pub entry: bool,
     pub at: usize,
@@ -58,6 +63,7 @@ pub struct Item {
     pub keyed: bool,
     pub alignment: usize,
     pub fixed: bool,
+    pub number: Letter,
 }
 
 // Writes event n where the slice has room for it, and gives the number of the next event.
@@ -325,6 +331,16 @@ fn item_kind(item: Item) -> u64
     if entry { 123 } else { 97 }
 }
 
+// The number that a type is or holds, from its letter and the one behind it; another letter where there is none.
+fn held_number(kind: Letter, behind: Letter) -> Letter
+    ensures { λ r. ⌜ HeldNumber kind behind r ⌝ }
+{
+    match kind {
+        Letter::Maybe => behind,
+        _ => kind,
+    }
+}
+
 // What is repeated in the array or dictionary at a place.
 fn item_at(text: &[u8], at: usize) -> Item
     requires { ⌜ Typed (now text) at × (letterAt (now text) at ≡ Letter.Array) ⌝ }
@@ -343,9 +359,13 @@ fn item_at(text: &[u8], at: usize) -> Item
             keyed: key_fixed(key),
             alignment: found.alignment,
             fixed: found.fixed,
+            number: Letter::End,
         };
     }
     let child = child_at(text, at + 1);
+    let behind = letter_at(text, at + 2);
+    let kind = child.kind;
+    let number = held_number(kind, behind);
     Item {
         entry: false,
         at: at + 1,
@@ -354,6 +374,7 @@ fn item_at(text: &[u8], at: usize) -> Item
         keyed: false,
         alignment: child.alignment,
         fixed: child.fixed,
+        number,
     }
 }
 
@@ -662,6 +683,10 @@ fn elements(
     requires { ⌜ Repeated (now text) item × (item .fixed ≡ true) × Within (length (now part)) place position d × (lead ≤ length (now part)) ⌝ }
     ensures { λ r. ⌜ Done (elementsIn (length (now (part .entry))) (itemStep position big (d .variant) (now (text .entry)) item (depthsOf d) place (now (part .entry)) (length (now (part .entry)))) (length (now (part .entry))) lead) (length (now (part .entry)) - lead) (length (now (part .entry)) - lead) n (now (out .entry)) (now (out .exit)) r ⌝ }
 {
+    let plain = item.number;
+    if let Letter::Number { code, width } = plain {
+        return numbers(part, lead, place, position, big, code, width, out, n);
+    }
     let len = part.len();
     let mut u = 0;
     let mut count = n;
@@ -716,6 +741,22 @@ fn framed(
     requires { ⌜ Repeated (now text) item × (item .fixed ≡ false) × Within (length (now part)) place position d × (lead ≤ length (now part)) × Stands (tableIn offsets) (drop lead (now part)) ⌝ }
     ensures { λ r. ⌜ Done (chain (elementsTo (itemStep position big (d .variant) (now (text .entry)) item (depthsOf d) place (now (part .entry)) (lead + offsets .start)) lead (endsOf (tableIn offsets) (drop lead (now (part .entry)))) lead) (passing (length (now (part .entry)) - (lead + offsets .start)))) (length (now (part .entry)) - lead) (length (now (part .entry)) - lead) n (now (out .entry)) (now (out .exit)) r ⌝ }
 {
+    let held = item.number;
+    if let Letter::Number { code, width } = held {
+        return readings(
+            offsets,
+            part,
+            lead,
+            place,
+            position,
+            big,
+            d,
+            code,
+            width,
+            out,
+            n,
+        );
+    }
     let table = &part[lead..];
     let many = offsets.count;
     let body_end = lead + offsets.start;

@@ -13,6 +13,7 @@ use Rattle.meaning.specs.Offsets.{endsOf, encodedWidth}
 use Rattle.reader.specs.Places.{itemStep}
 use Rattle.reader.proofs.Answers.{denied, granted, within-default}
 use Rattle.reader.proofs.Readers.{value-bool, value-number, value-text, contains-by, variant-by, body-variant, within-raised, within-child, sequence-deep, structure-rowed, structure-fixed, structure-deep, structure-on, level, few-variants, level-falls, kind-is, fixed-is, child-aligned, number-aligned, container-stop, container-on, lead-fits, child-before, child-past, child-here, maybe-typed, maybe-none, maybe-deep, maybe-fixed, maybe-stop, maybe-seven, maybe-closed}
+use Rattle.reader.proofs.ItemLaws.{plain-numbers, held-numbers}
 use Rattle.reader.proofs.Arrays.{length-put, stands-by, item-least, ends-below, next-end, length-ends, kept, tail, array-fixed, array-no-table, array-framed, ElementsLeft, elements-begin, elements-end, elements-stop, elements-next, FramedLeft, framed-begin, framed-end, framed-stop, framed-next}
 use Rattle.reader.proofs.Variants.{judged, variant-none, variant-text, variant-type, variant-deep, variant-stop, variant-done}
 use mathlib.Core.Logic.{⊎-elim}
@@ -101,6 +102,8 @@ use Rattle.reader.proofs.+array+body+child_value+container+elements+fie
 use Rattle.reader.proofs.+array+body+child_value+container+elements+fields+fixed_key+framed+last_field+maybe+step+structure+text_key+value+variant.Tie.{
   close,
 }
+use Rattle.reader.proofs.numbers.numbers.Reads as numbers-reads
+use Rattle.reader.proofs.numbers.readings.Reads as readings-reads
 
 abbrev μ-array : Measures 3 array-kinds.ps ℕ
 μ-array κs a =
@@ -261,7 +264,7 @@ variant-at t = and 2 variant-kinds.ps (is 2 variant-kinds.ps μ-variant t) varia
 abbrev variant-below : ℕ → In 2 variant-kinds.ps
 variant-below t = and 2 variant-kinds.ps (falls 2 variant-kinds.ps _<_ μ-variant t) variant.Pre
 
--- src/lib.rt:601:9
+-- src/lib.rt:624:9
 array-inc-array-requires : (t : ℕ) → array-lts.Need-inc-array-requires (
   inc-array-reads.Asked,
   inc-array-reads.Learnt,
@@ -283,7 +286,7 @@ array-inc-array-requires : (t : ℕ) → array-lts.Need-inc-array-requires (
 array-inc-array-requires t c κs =
     search needs
 
--- src/lib.rt:605:9
+-- src/lib.rt:628:9
 array-returns : (t : ℕ) → array-lts.Need-returns (
   inc-array-reads.Asked,
   inc-array-reads.Learnt,
@@ -305,7 +308,7 @@ array-returns : (t : ℕ) → array-lts.Need-returns (
 array-returns t c =
     sequence-deep _ _ (c .before .before .before .before .before .before .pre .1 .0) (c .before .before .before .before .before .before .pre .1 .1) _ _ _ _ _ _ _ _ _ (c .before .before .inc-array .ensures) (c .if1 .taken)
 
--- src/lib.rt:611:9
+-- src/lib.rt:634:9
 array-item-at-requires : (t : ℕ) → array-lts.Need-item-at-requires (
   inc-array-reads.Asked,
   inc-array-reads.Learnt,
@@ -327,7 +330,7 @@ array-item-at-requires : (t : ℕ) → array-lts.Need-item-at-requires (
 array-item-at-requires t c κs =
     (c .before .before .before .before .before .before .pre .1 .0, c .before .before .before .before .before .before .pre .1 .1)
 
--- src/lib.rt:612:9
+-- src/lib.rt:635:9
 array-item-kind-requires : (t : ℕ) → array-lts.Need-item-kind-requires (
   inc-array-reads.Asked,
   inc-array-reads.Learnt,
@@ -349,7 +352,7 @@ array-item-kind-requires : (t : ℕ) → array-lts.Need-item-kind-requires (
 array-item-kind-requires t c κs =
     search needs
 
--- src/lib.rt:615:36
+-- src/lib.rt:638:36
 array-add-emit : (t : ℕ) → array-lts.Need-add-emit (
   inc-array-reads.Asked,
   inc-array-reads.Learnt,
@@ -371,7 +374,7 @@ array-add-emit : (t : ℕ) → array-lts.Need-add-emit (
 array-add-emit t c =
     omega arith
 
--- src/lib.rt:615:13
+-- src/lib.rt:638:13
 array-emit-requires : (t : ℕ) → array-lts.Need-emit-requires (
   inc-array-reads.Asked,
   inc-array-reads.Learnt,
@@ -393,7 +396,7 @@ array-emit-requires : (t : ℕ) → array-lts.Need-emit-requires (
 array-emit-requires t c κs =
     search needs
 
--- src/lib.rt:616:13
+-- src/lib.rt:639:13
 array-elements-requires : (t : ℕ) → array-lts.Need-elements-requires (
   inc-array-reads.Asked,
   inc-array-reads.Learnt,
@@ -415,7 +418,7 @@ array-elements-requires : (t : ℕ) → array-lts.Need-elements-requires (
 array-elements-requires t c κs =
     (omega (arith, level-falls Depth.array (c .before .before .before .before .before .before .before .before .before .before .before .before .before .before .args .d) (c .before .before .before .before .before .before .before .before .before .before .inc-array .result) (c .before .before .before .before .before .before .before .before .before .before .inc-array .ensures) (c .before .before .before .before .before .before .before .before .if1 .left), c .before .before .before .before .before .before .before .before .before .before .before .before .before .before .pre .0), (c .before .before .before .before .before .before .before .item-at .ensures .repeated, c .before .before .before .before .before .if2 .taken, within-raised Depth.array (c .before .before .before .before .before .before .before .before .before .before .before .before .before .before .args .d) (c .before .before .before .before .before .before .before .before .before .before .inc-array .result) (c .before .before .before .before .before .before .before .before .before .before .before .before .before .before .pre .1 .2) (c .before .before .before .before .before .before .before .before .before .before .inc-array .ensures) (c .before .before .before .before .before .before .before .before .if1 .left), c .before .before .before .before .before .before .before .before .before .before .before .before .before .before .pre .1 .3))
 
--- src/lib.rt:617:25
+-- src/lib.rt:640:25
 array-add-close : (t : ℕ) → array-lts.Need-add-close (
   inc-array-reads.Asked,
   inc-array-reads.Learnt,
@@ -437,7 +440,7 @@ array-add-close : (t : ℕ) → array-lts.Need-add-close (
 array-add-close t c =
     omega (arith, (c .before .before .before .before .before .before .before .before .before .before .before .before .before .before .before .before .before .pre .1 .2 .in-frame), c .before .before .before .before .before .before .before .before .before .before .before .before .before .before .before .before .before .pre .1 .3)
 
--- src/lib.rt:617:9
+-- src/lib.rt:640:9
 array-close-requires : (t : ℕ) → array-lts.Need-close-requires (
   inc-array-reads.Asked,
   inc-array-reads.Learnt,
@@ -459,7 +462,7 @@ array-close-requires : (t : ℕ) → array-lts.Need-close-requires (
 array-close-requires t c κs =
     omega (arith, c .before .before .before .elements .ensures .fits, (c .before .before .before .before .before .before .before .before .before .before .before .before .before .before .before .before .before .before .pre .1 .2 .in-frame), c .before .before .before .before .before .before .before .before .before .before .before .before .before .before .before .before .before .before .pre .1 .3)
 
--- src/lib.rt:617:9
+-- src/lib.rt:640:9
 array-same-length : (t : ℕ) → array-lts.Need-same-length (
   inc-array-reads.Asked,
   inc-array-reads.Learnt,
@@ -481,7 +484,7 @@ array-same-length : (t : ℕ) → array-lts.Need-same-length (
 array-same-length t c =
     search needs
 
--- src/lib.rt:617:9
+-- src/lib.rt:640:9
 array-returns-2 : (t : ℕ) → array-lts.Need-returns-2 (
   inc-array-reads.Asked,
   inc-array-reads.Learnt,
@@ -503,7 +506,7 @@ array-returns-2 : (t : ℕ) → array-lts.Need-returns-2 (
 array-returns-2 t c =
     array-fixed _ _ _ (c .before .before .before .before .before .before .before .before .before .before .before .before .before .before .item-at .ensures) _ _ _ _ _ _ _ _ _ (c .before .before .before .before .before .before .before .before .before .before .before .before .before .before .before .before .before .inc-array .ensures) (c .before .before .before .before .before .before .before .before .before .before .before .before .before .before .before .if1 .left) _ _ _ _ (c .before .before .before .before .before .before .before .before .before .before .before .before .if2 .taken) (c .before .before .before .before .before .before .before .before .before .before .emit .ensures .0) (rw (c .before .before .before .before .before .before .before .before .before .before .before .before .before .item-kind .ensures) at (c .before .before .before .before .before .before .before .before .before .before .emit .ensures .1)) (c .before .before .close .ensures _ _ _ _ _ (c .before .before .before .before .before .before .elements .ensures))
 
--- src/lib.rt:619:36
+-- src/lib.rt:642:36
 array-sub-from-encoded-array : (t : ℕ) → array-lts.Need-sub-from-encoded-array (
   inc-array-reads.Asked,
   inc-array-reads.Learnt,
@@ -525,7 +528,7 @@ array-sub-from-encoded-array : (t : ℕ) → array-lts.Need-sub-from-encoded-arr
 array-sub-from-encoded-array t c =
     omega arith
 
--- src/lib.rt:619:36
+-- src/lib.rt:642:36
 array-part-from-encoded-array-start : (t : ℕ) → array-lts.Need-part-from-encoded-array-start (
   inc-array-reads.Asked,
   inc-array-reads.Learnt,
@@ -547,7 +550,7 @@ array-part-from-encoded-array-start : (t : ℕ) → array-lts.Need-part-from-enc
 array-part-from-encoded-array-start t c =
     omega arith
 
--- src/lib.rt:619:36
+-- src/lib.rt:642:36
 array-part-from-encoded-array-end : (t : ℕ) → array-lts.Need-part-from-encoded-array-end (
   inc-array-reads.Asked,
   inc-array-reads.Learnt,
@@ -569,7 +572,7 @@ array-part-from-encoded-array-end : (t : ℕ) → array-lts.Need-part-from-encod
 array-part-from-encoded-array-end t c =
     omega arith
 
--- src/lib.rt:619:9
+-- src/lib.rt:642:9
 array-from-encoded-array-requires : (t : ℕ) → array-lts.Need-from-encoded-array-requires (
   inc-array-reads.Asked,
   inc-array-reads.Learnt,
@@ -591,7 +594,7 @@ array-from-encoded-array-requires : (t : ℕ) → array-lts.Need-from-encoded-ar
 array-from-encoded-array-requires t c κs =
     search needs
 
--- src/lib.rt:623:9
+-- src/lib.rt:646:9
 array-returns-3 : (t : ℕ) → array-lts.Need-returns-3 (
   inc-array-reads.Asked,
   inc-array-reads.Learnt,
@@ -613,7 +616,7 @@ array-returns-3 : (t : ℕ) → array-lts.Need-returns-3 (
 array-returns-3 t c =
     array-no-table _ _ _ (c .before .before .before .before .before .before .item-at .ensures) _ _ _ _ _ _ _ _ _ (c .before .before .before .before .before .before .before .before .before .inc-array .ensures) (c .before .before .before .before .before .before .before .if1 .left) (c .before .before .before .before .if2 .left) _ (rw (tail (c .before .before .before .before .before .before .before .before .before .before .before .before .before .args .lead) (c .before .before .before .before .before .before .before .before .before .before .before .before .before .args .part .now)) at (c .before .before .from-encoded-array .ensures)) (c .if3 .taken)
 
--- src/lib.rt:629:32
+-- src/lib.rt:652:32
 array-add-emit-2 : (t : ℕ) → array-lts.Need-add-emit-2 (
   inc-array-reads.Asked,
   inc-array-reads.Learnt,
@@ -635,7 +638,7 @@ array-add-emit-2 : (t : ℕ) → array-lts.Need-add-emit-2 (
 array-add-emit-2 t c =
     omega (arith, (c .before .before .before .before .before .before .before .before .before .before .before .before .before .before .pre .1 .2 .in-frame), c .before .before .before .before .before .before .before .before .before .before .before .before .before .before .pre .1 .3)
 
--- src/lib.rt:629:9
+-- src/lib.rt:652:9
 array-emit-requires-2 : (t : ℕ) → array-lts.Need-emit-requires-2 (
   inc-array-reads.Asked,
   inc-array-reads.Learnt,
@@ -657,7 +660,7 @@ array-emit-requires-2 : (t : ℕ) → array-lts.Need-emit-requires-2 (
 array-emit-requires-2 t c κs =
     search needs
 
--- src/lib.rt:630:9
+-- src/lib.rt:653:9
 array-framed-requires : (t : ℕ) → array-lts.Need-framed-requires (
   inc-array-reads.Asked,
   inc-array-reads.Learnt,
@@ -679,7 +682,7 @@ array-framed-requires : (t : ℕ) → array-lts.Need-framed-requires (
 array-framed-requires t c κs =
     (omega (arith, level-falls Depth.array (c .before .before .before .before .before .before .before .before .before .before .before .before .before .before .before .before .before .before .args .d) (c .before .before .before .before .before .before .before .before .before .before .before .before .before .before .inc-array .result) (c .before .before .before .before .before .before .before .before .before .before .before .before .before .before .inc-array .ensures) (c .before .before .before .before .before .before .before .before .before .before .before .before .if1 .left), c .before .before .before .before .before .before .before .before .before .before .before .before .before .before .before .before .before .before .pre .0), (c .before .before .before .before .before .before .before .before .before .before .before .item-at .ensures .repeated, c .before .before .before .before .before .before .before .before .before .if2 .left, within-raised Depth.array (c .before .before .before .before .before .before .before .before .before .before .before .before .before .before .before .before .before .before .args .d) (c .before .before .before .before .before .before .before .before .before .before .before .before .before .before .inc-array .result) (c .before .before .before .before .before .before .before .before .before .before .before .before .before .before .before .before .before .before .pre .1 .2) (c .before .before .before .before .before .before .before .before .before .before .before .before .before .before .inc-array .ensures) (c .before .before .before .before .before .before .before .before .before .before .before .before .if1 .left), c .before .before .before .before .before .before .before .before .before .before .before .before .before .before .before .before .before .before .pre .1 .3, stands-by _ _ (rw (tail (c .before .before .before .before .before .before .before .before .before .before .before .before .before .before .before .before .before .before .args .lead) (c .before .before .before .before .before .before .before .before .before .before .before .before .before .before .before .before .before .before .args .part .now)) at (c .before .before .before .before .before .before .before .from-encoded-array .ensures)) (c .before .before .before .before .before .if3 .left)))
 
--- src/lib.rt:643:14
+-- src/lib.rt:666:14
 array-add-close-2 : (t : ℕ) → array-lts.Need-add-close-2 (
   inc-array-reads.Asked,
   inc-array-reads.Learnt,
@@ -701,7 +704,7 @@ array-add-close-2 : (t : ℕ) → array-lts.Need-add-close-2 (
 array-add-close-2 t c =
     omega (arith, (c .before .before .before .before .before .before .before .before .before .before .before .before .before .before .before .before .before .before .before .before .before .pre .1 .2 .in-frame), c .before .before .before .before .before .before .before .before .before .before .before .before .before .before .before .before .before .before .before .before .before .pre .1 .3)
 
--- src/lib.rt:643:5
+-- src/lib.rt:666:5
 array-close-requires-2 : (t : ℕ) → array-lts.Need-close-requires-2 (
   inc-array-reads.Asked,
   inc-array-reads.Learnt,
@@ -723,7 +726,7 @@ array-close-requires-2 : (t : ℕ) → array-lts.Need-close-requires-2 (
 array-close-requires-2 t c κs =
     omega (arith, c .before .before .before .framed .ensures .fits, (c .before .before .before .before .before .before .before .before .before .before .before .before .before .before .before .before .before .before .before .before .before .before .pre .1 .2 .in-frame), c .before .before .before .before .before .before .before .before .before .before .before .before .before .before .before .before .before .before .before .before .before .before .pre .1 .3)
 
--- src/lib.rt:586:1
+-- src/lib.rt:609:1
 array-same-length-2 : (t : ℕ) → array-lts.Need-same-length-2 (
   inc-array-reads.Asked,
   inc-array-reads.Learnt,
@@ -745,7 +748,7 @@ array-same-length-2 : (t : ℕ) → array-lts.Need-same-length-2 (
 array-same-length-2 t c =
     search needs
 
--- src/lib.rt:586:1
+-- src/lib.rt:609:1
 array-returns-4 : (t : ℕ) → array-lts.Need-returns-4 (
   inc-array-reads.Asked,
   inc-array-reads.Learnt,
@@ -767,7 +770,7 @@ array-returns-4 : (t : ℕ) → array-lts.Need-returns-4 (
 array-returns-4 t c =
     array-framed _ _ _ (c .before .before .before .before .before .before .before .before .before .before .before .before .before .before .before .before .before .before .item-at .ensures) _ _ _ _ _ _ _ _ _ (c .before .before .before .before .before .before .before .before .before .before .before .before .before .before .before .before .before .before .before .before .before .inc-array .ensures) (c .before .before .before .before .before .before .before .before .before .before .before .before .before .before .before .before .before .before .before .if1 .left) (c .before .before .before .before .before .before .before .before .before .before .before .before .before .before .before .before .if2 .left) _ (rw (tail (c .before .before .before .before .before .before .before .before .before .before .before .before .before .before .before .before .before .before .before .before .before .before .before .before .before .args .lead) (c .before .before .before .before .before .before .before .before .before .before .before .before .before .before .before .before .before .before .before .before .before .before .before .before .before .args .part .now)) at (c .before .before .before .before .before .before .before .before .before .before .before .before .before .before .from-encoded-array .ensures)) _ _ _ _ (c .before .before .before .before .before .before .before .before .before .before .before .before .if3 .left) (c .before .before .before .before .before .before .before .before .before .before .emit2 .ensures .0) (rw (c .before .before .before .before .before .before .before .before .before .before .before .before .before .before .before .before .before .item-kind .ensures) at (c .before .before .before .before .before .before .before .before .before .before .emit2 .ensures .1)) (c .before .before .close2 .ensures _ _ _ _ _ (c .before .before .before .before .before .before .framed .ensures))
 
--- src/lib.rt:480:79
+-- src/lib.rt:503:79
 body-enum-told : (t : ℕ) → body-lts.Need-enum-told (
   maybe-below t,
   maybe.Post,
@@ -781,7 +784,7 @@ body-enum-told : (t : ℕ) → body-lts.Need-enum-told (
 body-enum-told t c =
     search needs
 
--- src/lib.rt:480:26
+-- src/lib.rt:503:26
 body-maybe-requires : (t : ℕ) → body-lts.Need-maybe-requires (
   maybe-below t,
   maybe.Post,
@@ -795,7 +798,7 @@ body-maybe-requires : (t : ℕ) → body-lts.Need-maybe-requires (
 body-maybe-requires t c κs =
     (omega arith, (c .before .before .before .before .before .before .pre .1 .0, sym (kind-is _ _ _ (c .before .before .before .before .before .before .pre .1 .1)) ∙ c .before .enum-told .given .1, c .before .before .before .before .before .before .pre .1 .2, c .before .before .before .before .before .before .pre .1 .4))
 
--- src/lib.rt:481:79
+-- src/lib.rt:504:79
 body-enum-told-2 : (t : ℕ) → body-lts.Need-enum-told-2 (
   maybe-below t,
   maybe.Post,
@@ -809,7 +812,7 @@ body-enum-told-2 : (t : ℕ) → body-lts.Need-enum-told-2 (
 body-enum-told-2 t c =
     search needs
 
--- src/lib.rt:481:26
+-- src/lib.rt:504:26
 body-array-requires : (t : ℕ) → body-lts.Need-array-requires (
   maybe-below t,
   maybe.Post,
@@ -823,7 +826,7 @@ body-array-requires : (t : ℕ) → body-lts.Need-array-requires (
 body-array-requires t c κs =
     (omega arith, (c .before .before .before .before .before .before .pre .1 .0, sym (kind-is _ _ _ (c .before .before .before .before .before .before .pre .1 .1)) ∙ c .before .enum-told2 .given .1, c .before .before .before .before .before .before .pre .1 .2, c .before .before .before .before .before .before .pre .1 .4))
 
--- src/lib.rt:492:13
+-- src/lib.rt:515:13
 body-enum-told-3 : (t : ℕ) → body-lts.Need-enum-told-3 (
   maybe-below t,
   maybe.Post,
@@ -837,7 +840,7 @@ body-enum-told-3 : (t : ℕ) → body-lts.Need-enum-told-3 (
 body-enum-told-3 t c =
     search needs
 
--- src/lib.rt:482:34
+-- src/lib.rt:505:34
 body-structure-requires : (t : ℕ) → body-lts.Need-structure-requires (
   maybe-below t,
   maybe.Post,
@@ -851,7 +854,7 @@ body-structure-requires : (t : ℕ) → body-lts.Need-structure-requires (
 body-structure-requires t c κs =
     (omega arith, (c .before .before .before .before .before .before .pre .1 .0, c .before .before .before .before .before .before .pre .1 .1, sym (kind-is _ _ _ (c .before .before .before .before .before .before .pre .1 .1)) ∙ c .before .enum-told3 .given .1, c .before .before .before .before .before .before .pre .1 .2, c .before .before .before .before .before .before .pre .1 .4))
 
--- src/lib.rt:495:14
+-- src/lib.rt:518:14
 body-variant-requires : (t : ℕ) → body-lts.Need-variant-requires (
   maybe-below t,
   maybe.Post,
@@ -865,7 +868,7 @@ body-variant-requires : (t : ℕ) → body-lts.Need-variant-requires (
 body-variant-requires t c κs =
     (omega arith, (c .before .before .before .before .before .pre .1 .2, c .before .before .before .before .before .pre .1 .4))
 
--- src/lib.rt:462:1
+-- src/lib.rt:485:1
 body-same-length : (t : ℕ) → body-lts.Need-same-length (
   maybe-below t,
   maybe.Post,
@@ -879,7 +882,7 @@ body-same-length : (t : ℕ) → body-lts.Need-same-length (
 body-same-length t c =
     search needs
 
--- src/lib.rt:462:1
+-- src/lib.rt:485:1
 body-returns : (t : ℕ) → body-lts.Need-returns (
   maybe-below t,
   maybe.Post,
@@ -893,7 +896,7 @@ body-returns : (t : ℕ) → body-lts.Need-returns (
 body-returns t c =
     c .before .before .maybe .ensures
 
--- src/lib.rt:462:1
+-- src/lib.rt:485:1
 body-same-length-2 : (t : ℕ) → body-lts.Need-same-length-2 (
   maybe-below t,
   maybe.Post,
@@ -907,7 +910,7 @@ body-same-length-2 : (t : ℕ) → body-lts.Need-same-length-2 (
 body-same-length-2 t c =
     search needs
 
--- src/lib.rt:462:1
+-- src/lib.rt:485:1
 body-returns-2 : (t : ℕ) → body-lts.Need-returns-2 (
   maybe-below t,
   maybe.Post,
@@ -921,7 +924,7 @@ body-returns-2 : (t : ℕ) → body-lts.Need-returns-2 (
 body-returns-2 t c =
     c .before .before .array .ensures
 
--- src/lib.rt:462:1
+-- src/lib.rt:485:1
 body-same-length-3 : (t : ℕ) → body-lts.Need-same-length-3 (
   maybe-below t,
   maybe.Post,
@@ -935,7 +938,7 @@ body-same-length-3 : (t : ℕ) → body-lts.Need-same-length-3 (
 body-same-length-3 t c =
     search needs
 
--- src/lib.rt:462:1
+-- src/lib.rt:485:1
 body-returns-3 : (t : ℕ) → body-lts.Need-returns-3 (
   maybe-below t,
   maybe.Post,
@@ -949,7 +952,7 @@ body-returns-3 : (t : ℕ) → body-lts.Need-returns-3 (
 body-returns-3 t c =
     c .before .before .structure .ensures
 
--- src/lib.rt:462:1
+-- src/lib.rt:485:1
 body-same-length-4 : (t : ℕ) → body-lts.Need-same-length-4 (
   maybe-below t,
   maybe.Post,
@@ -963,7 +966,7 @@ body-same-length-4 : (t : ℕ) → body-lts.Need-same-length-4 (
 body-same-length-4 t c =
     search needs
 
--- src/lib.rt:462:1
+-- src/lib.rt:485:1
 body-returns-4 : (t : ℕ) → body-lts.Need-returns-4 (
   maybe-below t,
   maybe.Post,
@@ -977,21 +980,21 @@ body-returns-4 : (t : ℕ) → body-lts.Need-returns-4 (
 body-returns-4 t c =
     body-variant (c .before .before .before .before .before .before .before .before .args .text .now) (c .before .before .before .before .before .before .before .before .args .at) _ _ _ _ _ _ _ _ _ _ _ _ (variant-by (c .before .before .before .before .before .before .before .before .args .text .now) (c .before .before .before .before .before .before .before .before .args .at) _ (c .before .before .before .before .before .before .before .before .pre .1 .0) (kind-is _ _ _ (c .before .before .before .before .before .before .before .before .pre .1 .1)) (c .before .before .before .before .before .before .before .before .pre .1 .3) (c .before .before .before .before .match .keys4)) (c .before .before .variant .ensures)
 
--- src/lib.rt:376:9
+-- src/lib.rt:399:9
 child-value-returns :
     (t : ℕ) →
     child-value-lts.Need-returns (value-below t, value.Post) (child-value-at t) child-value.Post
 child-value-returns t c =
     child-before _ _ _ _ _ _ _ (c .if1 .taken)
 
--- src/lib.rt:383:9
+-- src/lib.rt:406:9
 child-value-returns-2 :
     (t : ℕ) →
     child-value-lts.Need-returns-2 (value-below t, value.Post) (child-value-at t) child-value.Post
 child-value-returns-2 t c =
     child-past _ _ _ _ _ _ _ (c .before .if1 .left) (c .if2 .taken)
 
--- src/lib.rt:393:9
+-- src/lib.rt:416:9
 child-value-part-value-start : (t : ℕ) → child-value-lts.Need-part-value-start (
   value-below t,
   value.Post,
@@ -999,7 +1002,7 @@ child-value-part-value-start : (t : ℕ) → child-value-lts.Need-part-value-sta
 child-value-part-value-start t c =
     omega arith
 
--- src/lib.rt:393:9
+-- src/lib.rt:416:9
 child-value-part-value-end : (t : ℕ) → child-value-lts.Need-part-value-end (
   value-below t,
   value.Post,
@@ -1007,14 +1010,14 @@ child-value-part-value-end : (t : ℕ) → child-value-lts.Need-part-value-end (
 child-value-part-value-end t c =
     omega arith
 
--- src/lib.rt:394:9
+-- src/lib.rt:417:9
 child-value-add-value :
     (t : ℕ) →
     child-value-lts.Need-add-value (value-below t, value.Post) (child-value-at t) child-value.Post
 child-value-add-value t c =
     omega arith
 
--- src/lib.rt:389:5
+-- src/lib.rt:412:5
 child-value-value-requires : (t : ℕ) → child-value-lts.Need-value-requires (
   value-below t,
   value.Post,
@@ -1022,7 +1025,7 @@ child-value-value-requires : (t : ℕ) → child-value-lts.Need-value-requires (
 child-value-value-requires t c κs =
     (omega arith, (c .before .before .before .before .before .before .before .pre .1 .0, c .before .before .before .before .before .before .before .pre .1 .1, within-child _ _ _ (c .before .before .before .before .before .before .before .pre .1 .2) (c .before .before .before .if1 .left) (c .before .before .if2 .left)))
 
--- src/lib.rt:358:1
+-- src/lib.rt:381:1
 child-value-same-length :
     (t : ℕ) →
     child-value-lts.Need-same-length
@@ -1032,14 +1035,14 @@ child-value-same-length :
 child-value-same-length t c =
     search needs
 
--- src/lib.rt:358:1
+-- src/lib.rt:381:1
 child-value-returns-3 :
     (t : ℕ) →
     child-value-lts.Need-returns-3 (value-below t, value.Post) (child-value-at t) child-value.Post
 child-value-returns-3 t c =
     child-here _ _ _ _ _ _ _ _ _ (c .before .before .before .before .before .before .if1 .left) (c .before .before .before .before .before .if2 .left) (c .before .before .value .ensures)
 
--- src/lib.rt:443:33
+-- src/lib.rt:466:33
 container-add-parse-padding : (t : ℕ) → container-lts.Need-add-parse-padding (
   parse-padding-reads.Asked,
   parse-padding-reads.Learnt,
@@ -1049,7 +1052,7 @@ container-add-parse-padding : (t : ℕ) → container-lts.Need-add-parse-padding
 container-add-parse-padding t c =
     omega arith
 
--- src/lib.rt:443:9
+-- src/lib.rt:466:9
 container-parse-padding-requires : (t : ℕ) → container-lts.Need-parse-padding-requires (
   parse-padding-reads.Asked,
   parse-padding-reads.Learnt,
@@ -1059,7 +1062,7 @@ container-parse-padding-requires : (t : ℕ) → container-lts.Need-parse-paddin
 container-parse-padding-requires t c κs =
     search needs
 
--- src/lib.rt:447:9
+-- src/lib.rt:470:9
 container-returns : (t : ℕ) → container-lts.Need-returns (
   parse-padding-reads.Asked,
   parse-padding-reads.Learnt,
@@ -1069,7 +1072,7 @@ container-returns : (t : ℕ) → container-lts.Need-returns (
 container-returns t c =
     container-stop _ _ _ _ _ _ _ _ _ _ _ (c .before .before .before .before .before .pre .1 .0) (c .before .before .before .before .before .pre .1 .1) (c .before .before .before .before .before .pre .1 .2) (c .before .before .before .before .before .pre .1 .3) (c .before .parse-padding .ensures) (c .if1 .taken)
 
--- src/lib.rt:453:9
+-- src/lib.rt:476:9
 container-body-requires : (t : ℕ) → container-lts.Need-body-requires (
   parse-padding-reads.Asked,
   parse-padding-reads.Learnt,
@@ -1079,7 +1082,7 @@ container-body-requires : (t : ℕ) → container-lts.Need-body-requires (
 container-body-requires t c κs =
     (omega arith, (c .before .before .before .before .before .before .pre .1 .0, c .before .before .before .before .before .before .pre .1 .1, c .before .before .before .before .before .before .pre .1 .2, c .before .before .before .before .before .before .pre .1 .3, lead-fits _ _ _ _ _ _ false _ 0 [] _ (c .before .before .before .before .before .before .pre .1 .0) (c .before .before .before .before .before .before .pre .1 .1) (c .before .before .before .before .before .before .pre .1 .2) (c .before .before .before .before .before .before .pre .1 .3) (c .before .before .parse-padding .ensures)))
 
--- src/lib.rt:456:15
+-- src/lib.rt:479:15
 container-add-t15 : (t : ℕ) → container-lts.Need-add-t15 (
   parse-padding-reads.Asked,
   parse-padding-reads.Learnt,
@@ -1089,7 +1092,7 @@ container-add-t15 : (t : ℕ) → container-lts.Need-add-t15 (
 container-add-t15 t c =
     omega arith
 
--- src/lib.rt:428:1
+-- src/lib.rt:451:1
 container-same-length : (t : ℕ) → container-lts.Need-same-length (
   parse-padding-reads.Asked,
   parse-padding-reads.Learnt,
@@ -1099,7 +1102,7 @@ container-same-length : (t : ℕ) → container-lts.Need-same-length (
 container-same-length t c =
     search needs
 
--- src/lib.rt:428:1
+-- src/lib.rt:451:1
 container-returns-2 : (t : ℕ) → container-lts.Need-returns-2 (
   parse-padding-reads.Asked,
   parse-padding-reads.Learnt,
@@ -1117,148 +1120,164 @@ abbrev elements-μ-loop : elements-lts.MeasureT-loop
 elements-μ-loop text item part lead place position big d out₀ n len u₀ count₀ out u count =
     length part - (lead + u)
 
--- src/lib.rt:665:5
-elements-loop-holds :
-    (t : ℕ) →
-    elements-lts.Need-loop-holds
-    (step-below t, step.Post)
-    (elements-at t)
-    elements.Post
-    elements-Inv-loop
-    elements-μ-loop
-elements-loop-holds t c =
-    elements-begin _ _ _ _ _ (c .before .before .before .pre .1 .3)
+-- src/lib.rt:686:29
+elements-enum-known-plain : (t : ℕ) → elements-lts.Need-enum-known-plain (
+  numbers-reads.Asked,
+  numbers-reads.Learnt,
+  step-below t,
+  step.Post,
+) (elements-at t) elements.Post elements-Inv-loop elements-μ-loop
+elements-enum-known-plain t c =
+    search needs
 
--- src/lib.rt:665:11
-elements-add-loop :
-    (t : ℕ) →
-    elements-lts.Need-add-loop
-    (step-below t, step.Post)
-    (elements-at t)
-    elements.Post
-    elements-Inv-loop
-    elements-μ-loop
-elements-add-loop t c =
-    omega arith
+-- src/lib.rt:687:9
+elements-numbers-requires : (t : ℕ) → elements-lts.Need-numbers-requires (
+  numbers-reads.Asked,
+  numbers-reads.Learnt,
+  step-below t,
+  step.Post,
+) (elements-at t) elements.Post elements-Inv-loop elements-μ-loop
+elements-numbers-requires t c κs =
+    (c .before .before .before .before .before .before .before .pre .1 .2 .in-frame, c .before .before .before .before .before .before .before .pre .1 .2 .near, c .before .before .before .before .before .before .before .pre .1 .3, c .before .before .before .before .before .before .before .pre .1 .0 .number _ _ (c .before .before .plain .given .1) .aligned)
 
--- src/lib.rt:671:13
-elements-add-step :
-    (t : ℕ) →
-    elements-lts.Need-add-step
-    (step-below t, step.Post)
-    (elements-at t)
-    elements.Post
-    elements-Inv-loop
-    elements-μ-loop
-elements-add-step t c =
-    omega arith
-
--- src/lib.rt:666:13
-elements-step-requires :
-    (t : ℕ) →
-    elements-lts.Need-step-requires
-    (step-below t, step.Post)
-    (elements-at t)
-    elements.Post
-    elements-Inv-loop
-    elements-μ-loop
-elements-step-requires t c κs =
-    (omega arith, (c .before .before .before .before .before .before .pre .1 .0, c .before .before .before .before .before .before .pre .1 .2, c .before .before .loop .inv .bound, omega arith, omega arith, λ z. refl))
-
--- src/lib.rt:686:23
-elements-add-t21 :
-    (t : ℕ) →
-    elements-lts.Need-add-t21
-    (step-below t, step.Post)
-    (elements-at t)
-    elements.Post
-    elements-Inv-loop
-    elements-μ-loop
-elements-add-t21 t c =
-    omega arith
-
--- src/lib.rt:684:13
-elements-same-length :
-    (t : ℕ) →
-    elements-lts.Need-same-length
-    (step-below t, step.Post)
-    (elements-at t)
-    elements.Post
-    elements-Inv-loop
-    elements-μ-loop
+-- src/lib.rt:687:9
+elements-same-length : (t : ℕ) → elements-lts.Need-same-length (
+  numbers-reads.Asked,
+  numbers-reads.Learnt,
+  step-below t,
+  step.Post,
+) (elements-at t) elements.Post elements-Inv-loop elements-μ-loop
 elements-same-length t c =
     search needs
 
--- src/lib.rt:684:13
-elements-returns :
-    (t : ℕ) →
-    elements-lts.Need-returns
-    (step-below t, step.Post)
-    (elements-at t)
-    elements.Post
-    elements-Inv-loop
-    elements-μ-loop
+-- src/lib.rt:687:9
+elements-returns : (t : ℕ) → elements-lts.Need-returns (
+  numbers-reads.Asked,
+  numbers-reads.Learnt,
+  step-below t,
+  step.Post,
+) (elements-at t) elements.Post elements-Inv-loop elements-μ-loop
 elements-returns t c =
-    elements-stop _ _ _ _ _ _ _ _ (c .before .before .before .before .before .before .loop .inv) (c .before .before .before .before .before .loop-test .taken) _ _ (c .before .before .before .step .ensures) (c .if1 .taken)
+    plain-numbers _ _ _ _ (c .before .before .before .before .before .before .before .before .before .before .pre .1 .0 .number _ _ (c .before .before .before .before .before .plain .given .1)) (c .before .before .before .before .before .before .before .before .before .before .args .position) (c .before .before .before .before .before .before .before .before .before .before .args .big) (c .before .before .before .before .before .before .before .before .before .before .args .d .variant) (depthsOf (c .before .before .before .before .before .before .before .before .before .before .args .d)) (c .before .before .before .before .before .before .before .before .before .before .args .place) (c .before .before .before .before .before .before .before .before .before .before .args .part .now) (length (c .before .before .before .before .before .before .before .before .before .before .args .part .now)) (c .before .before .before .before .before .before .before .before .before .before .args .lead) _ _ _ _ _ _ (c .before .before .before .before .before .before .before .before .before .before .pre .1 .1) (c .before .before .numbers .ensures)
 
--- src/lib.rt:690:13
-elements-add-u :
-    (t : ℕ) →
-    elements-lts.Need-add-u
-    (step-below t, step.Post)
-    (elements-at t)
-    elements.Post
-    elements-Inv-loop
-    elements-μ-loop
-elements-add-u t c =
+-- src/lib.rt:692:5
+elements-loop-holds : (t : ℕ) → elements-lts.Need-loop-holds (
+  numbers-reads.Asked,
+  numbers-reads.Learnt,
+  step-below t,
+  step.Post,
+) (elements-at t) elements.Post elements-Inv-loop elements-μ-loop
+elements-loop-holds t c =
+    elements-begin _ _ _ _ _ (c .before .before .before .before .pre .1 .3)
+
+-- src/lib.rt:692:11
+elements-add-loop : (t : ℕ) → elements-lts.Need-add-loop (
+  numbers-reads.Asked,
+  numbers-reads.Learnt,
+  step-below t,
+  step.Post,
+) (elements-at t) elements.Post elements-Inv-loop elements-μ-loop
+elements-add-loop t c =
     omega arith
 
--- src/lib.rt:665:5
-elements-loop-less :
-    (t : ℕ) →
-    elements-lts.Need-loop-less
-    (step-below t, step.Post)
-    (elements-at t)
-    elements.Post
-    elements-Inv-loop
-    elements-μ-loop
-elements-loop-less t c =
-    let g = item-least _ _ (c .before .before .before .before .before .before .before .before .before .before .pre .1 .0) (c .before .before .before .before .before .before .before .before .before .before .pre .1 .1) _ _ _ _ _ _ _ _ _ _ _ _ _ _ (c .before .before .before .before .before .before .loop .inv .bound) (c .before .before .before .step .ensures) (c .if1 .left) in omega arith
+-- src/lib.rt:698:13
+elements-add-step : (t : ℕ) → elements-lts.Need-add-step (
+  numbers-reads.Asked,
+  numbers-reads.Learnt,
+  step-below t,
+  step.Post,
+) (elements-at t) elements.Post elements-Inv-loop elements-μ-loop
+elements-add-step t c =
+    omega arith
 
--- src/lib.rt:665:5
-elements-loop-again :
-    (t : ℕ) →
-    elements-lts.Need-loop-again
-    (step-below t, step.Post)
-    (elements-at t)
-    elements.Post
-    elements-Inv-loop
-    elements-μ-loop
-elements-loop-again t c =
-    elements-next _ _ _ _ _ _ _ _ (c .before .before .before .before .before .before .loop .inv) (c .before .before .before .before .before .loop-test .taken) _ _ (c .before .before .before .step .ensures) (c .if1 .left) (item-least _ _ (c .before .before .before .before .before .before .before .before .before .before .pre .1 .0) (c .before .before .before .before .before .before .before .before .before .before .pre .1 .1) _ _ _ _ _ _ _ _ _ _ _ _ _ _ (c .before .before .before .before .before .before .loop .inv .bound) (c .before .before .before .step .ensures) (c .if1 .left))
+-- src/lib.rt:693:13
+elements-step-requires : (t : ℕ) → elements-lts.Need-step-requires (
+  numbers-reads.Asked,
+  numbers-reads.Learnt,
+  step-below t,
+  step.Post,
+) (elements-at t) elements.Post elements-Inv-loop elements-μ-loop
+elements-step-requires t c κs =
+    (omega arith, (c .before .before .before .before .before .before .before .pre .1 .0, c .before .before .before .before .before .before .before .pre .1 .2, c .before .before .loop .inv .bound, omega arith, omega arith, λ z. refl))
 
--- src/lib.rt:647:1
-elements-same-length-2 :
-    (t : ℕ) →
-    elements-lts.Need-same-length-2
-    (step-below t, step.Post)
-    (elements-at t)
-    elements.Post
-    elements-Inv-loop
-    elements-μ-loop
+-- src/lib.rt:713:23
+elements-add-t26 : (t : ℕ) → elements-lts.Need-add-t26 (
+  numbers-reads.Asked,
+  numbers-reads.Learnt,
+  step-below t,
+  step.Post,
+) (elements-at t) elements.Post elements-Inv-loop elements-μ-loop
+elements-add-t26 t c =
+    omega arith
+
+-- src/lib.rt:711:13
+elements-same-length-2 : (t : ℕ) → elements-lts.Need-same-length-2 (
+  numbers-reads.Asked,
+  numbers-reads.Learnt,
+  step-below t,
+  step.Post,
+) (elements-at t) elements.Post elements-Inv-loop elements-μ-loop
 elements-same-length-2 t c =
     search needs
 
--- src/lib.rt:647:1
-elements-returns-2 :
-    (t : ℕ) →
-    elements-lts.Need-returns-2
-    (step-below t, step.Post)
-    (elements-at t)
-    elements.Post
-    elements-Inv-loop
-    elements-μ-loop
+-- src/lib.rt:711:13
+elements-returns-2 : (t : ℕ) → elements-lts.Need-returns-2 (
+  numbers-reads.Asked,
+  numbers-reads.Learnt,
+  step-below t,
+  step.Post,
+) (elements-at t) elements.Post elements-Inv-loop elements-μ-loop
 elements-returns-2 t c =
+    elements-stop _ _ _ _ _ _ _ _ (c .before .before .before .before .before .before .loop .inv) (c .before .before .before .before .before .loop-test .taken) _ _ (c .before .before .before .step .ensures) (c .if1 .taken)
+
+-- src/lib.rt:717:13
+elements-add-u : (t : ℕ) → elements-lts.Need-add-u (
+  numbers-reads.Asked,
+  numbers-reads.Learnt,
+  step-below t,
+  step.Post,
+) (elements-at t) elements.Post elements-Inv-loop elements-μ-loop
+elements-add-u t c =
+    omega arith
+
+-- src/lib.rt:692:5
+elements-loop-less : (t : ℕ) → elements-lts.Need-loop-less (
+  numbers-reads.Asked,
+  numbers-reads.Learnt,
+  step-below t,
+  step.Post,
+) (elements-at t) elements.Post elements-Inv-loop elements-μ-loop
+elements-loop-less t c =
+    let g = item-least _ _ (c .before .before .before .before .before .before .before .before .before .before .before .pre .1 .0) (c .before .before .before .before .before .before .before .before .before .before .before .pre .1 .1) _ _ _ _ _ _ _ _ _ _ _ _ _ _ (c .before .before .before .before .before .before .loop .inv .bound) (c .before .before .before .step .ensures) (c .if1 .left) in omega arith
+
+-- src/lib.rt:692:5
+elements-loop-again : (t : ℕ) → elements-lts.Need-loop-again (
+  numbers-reads.Asked,
+  numbers-reads.Learnt,
+  step-below t,
+  step.Post,
+) (elements-at t) elements.Post elements-Inv-loop elements-μ-loop
+elements-loop-again t c =
+    elements-next _ _ _ _ _ _ _ _ (c .before .before .before .before .before .before .loop .inv) (c .before .before .before .before .before .loop-test .taken) _ _ (c .before .before .before .step .ensures) (c .if1 .left) (item-least _ _ (c .before .before .before .before .before .before .before .before .before .before .before .pre .1 .0) (c .before .before .before .before .before .before .before .before .before .before .before .pre .1 .1) _ _ _ _ _ _ _ _ _ _ _ _ _ _ (c .before .before .before .before .before .before .loop .inv .bound) (c .before .before .before .step .ensures) (c .if1 .left))
+
+-- src/lib.rt:670:1
+elements-same-length-3 : (t : ℕ) → elements-lts.Need-same-length-3 (
+  numbers-reads.Asked,
+  numbers-reads.Learnt,
+  step-below t,
+  step.Post,
+) (elements-at t) elements.Post elements-Inv-loop elements-μ-loop
+elements-same-length-3 t c =
+    search needs
+
+-- src/lib.rt:670:1
+elements-returns-3 : (t : ℕ) → elements-lts.Need-returns-3 (
+  numbers-reads.Asked,
+  numbers-reads.Learnt,
+  step-below t,
+  step.Post,
+) (elements-at t) elements.Post elements-Inv-loop elements-μ-loop
+elements-returns-3 t c =
     elements-end _ _ _ _ _ _ _ _ (c .before .loop .inv) (c .loop-test .left)
 
 abbrev fields-Inv-loop : fields-lts.InvT-loop
@@ -1269,7 +1288,7 @@ abbrev fields-μ-loop : fields-lts.MeasureT-loop
 fields-μ-loop text at whole alignment part lead place position big d out₀ n size width i₀ end₀ u₀ count₀ out i end u count =
     length text - i
 
--- src/lib.rt:1024:57
+-- src/lib.rt:1067:57
 fields-sub-for-encoded-container : (t : ℕ) → fields-lts.Need-sub-for-encoded-container (
   for-encoded-container-reads.Asked,
   for-encoded-container-reads.Learnt,
@@ -1287,7 +1306,7 @@ fields-sub-for-encoded-container : (t : ℕ) → fields-lts.Need-sub-for-encoded
 fields-sub-for-encoded-container t c =
     omega arith
 
--- src/lib.rt:1024:9
+-- src/lib.rt:1067:9
 fields-for-encoded-container-requires : (t : ℕ) → fields-lts.Need-for-encoded-container-requires (
   for-encoded-container-reads.Asked,
   for-encoded-container-reads.Learnt,
@@ -1305,7 +1324,7 @@ fields-for-encoded-container-requires : (t : ℕ) → fields-lts.Need-for-encode
 fields-for-encoded-container-requires t c κs =
     search needs
 
--- src/lib.rt:1025:9
+-- src/lib.rt:1068:9
 fields-width-requires : (t : ℕ) → fields-lts.Need-width-requires (
   for-encoded-container-reads.Asked,
   for-encoded-container-reads.Learnt,
@@ -1323,7 +1342,7 @@ fields-width-requires : (t : ℕ) → fields-lts.Need-width-requires (
 fields-width-requires t c κs =
     search needs
 
--- src/lib.rt:1030:5
+-- src/lib.rt:1073:5
 fields-loop-holds : (t : ℕ) → fields-lts.Need-loop-holds (
   for-encoded-container-reads.Asked,
   for-encoded-container-reads.Learnt,
@@ -1341,7 +1360,7 @@ fields-loop-holds : (t : ℕ) → fields-lts.Need-loop-holds (
 fields-loop-holds t c =
     fields-begin _ _ _ _ _ _ _ _ _ _ _ _ _ _ (c .before .before .before .before .before .pre .1 .0) (c .before .before .before .before .before .pre .1 .1) (c .before .before .before .before .before .pre .1 .4)
 
--- src/lib.rt:1031:13
+-- src/lib.rt:1074:13
 fields-field-at-requires : (t : ℕ) → fields-lts.Need-field-at-requires (
   for-encoded-container-reads.Asked,
   for-encoded-container-reads.Learnt,
@@ -1359,7 +1378,7 @@ fields-field-at-requires : (t : ℕ) → fields-lts.Need-field-at-requires (
 fields-field-at-requires t c κs =
     search needs
 
--- src/lib.rt:1034:21
+-- src/lib.rt:1077:21
 fields-add-start : (t : ℕ) → fields-lts.Need-add-start (
   for-encoded-container-reads.Asked,
   for-encoded-container-reads.Learnt,
@@ -1377,7 +1396,7 @@ fields-add-start : (t : ℕ) → fields-lts.Need-add-start (
 fields-add-start t c =
     omega (arith, c .before .before .loop .inv .within, c .before .before .before .before .before .before .before .before .pre .1 .3 .in-frame)
 
--- src/lib.rt:1036:17
+-- src/lib.rt:1079:17
 fields-last-field-requires : (t : ℕ) → fields-lts.Need-last-field-requires (
   for-encoded-container-reads.Asked,
   for-encoded-container-reads.Learnt,
@@ -1395,7 +1414,7 @@ fields-last-field-requires : (t : ℕ) → fields-lts.Need-last-field-requires (
 fields-last-field-requires t c κs =
     let g = last-field-is _ _ _ (c .before .before .before .before .loop .inv .rowed) (c .before .before .before .field-at .ensures) (c .before .if1 .taken) in (omega (arith, c .before .before .before .before .before .before .before .before .before .before .pre .0), (g .typed, g .child, c .before .before .before .before .before .before .before .before .before .before .pre .1 .2, c .before .before .before .before .before .before .before .before .before .before .pre .1 .3, c .before .before .before .before .loop .inv .within, c .before .before .before .before .loop .inv .inside, c .before .before .before .before .loop .inv .whole))
 
--- src/lib.rt:1054:23
+-- src/lib.rt:1097:23
 fields-add-t36 : (t : ℕ) → fields-lts.Need-add-t36 (
   for-encoded-container-reads.Asked,
   for-encoded-container-reads.Learnt,
@@ -1413,7 +1432,7 @@ fields-add-t36 : (t : ℕ) → fields-lts.Need-add-t36 (
 fields-add-t36 t c =
     omega (arith, c .before .before .before .last-field .ensures .fits, c .before .before .before .before .before .before .before .before .before .before .before .before .before .before .pre .1 .3 .in-frame, c .before .before .before .before .before .before .before .before .loop .inv .within)
 
--- src/lib.rt:1052:13
+-- src/lib.rt:1095:13
 fields-same-length : (t : ℕ) → fields-lts.Need-same-length (
   for-encoded-container-reads.Asked,
   for-encoded-container-reads.Learnt,
@@ -1431,7 +1450,7 @@ fields-same-length : (t : ℕ) → fields-lts.Need-same-length (
 fields-same-length t c =
     search needs
 
--- src/lib.rt:1052:13
+-- src/lib.rt:1095:13
 fields-returns : (t : ℕ) → fields-lts.Need-returns (
   for-encoded-container-reads.Asked,
   for-encoded-container-reads.Learnt,
@@ -1449,7 +1468,7 @@ fields-returns : (t : ℕ) → fields-lts.Need-returns (
 fields-returns t c =
     fields-last (c .before .before .before .before .before .before .before .before .loop .inv) (few-variants (c .before .before .before .before .before .before .before .before .before .before .before .before .before .before .pre .1 .3)) _ _ (last-field-is _ _ _ (c .before .before .before .before .before .before .before .before .loop .inv .rowed) (c .before .before .before .before .before .before .before .field-at .ensures) (c .before .before .before .before .before .if1 .taken)) (c .before .before .before .last-field .ensures)
 
--- src/lib.rt:1061:17
+-- src/lib.rt:1104:17
 fields-offset-before-requires : (t : ℕ) → fields-lts.Need-offset-before-requires (
   for-encoded-container-reads.Asked,
   for-encoded-container-reads.Learnt,
@@ -1467,7 +1486,7 @@ fields-offset-before-requires : (t : ℕ) → fields-lts.Need-offset-before-requ
 fields-offset-before-requires t c κs =
     c .before .before .before .before .loop .inv .inside
 
--- src/lib.rt:1064:17
+-- src/lib.rt:1107:17
 fields-same-length-2 : (t : ℕ) → fields-lts.Need-same-length-2 (
   for-encoded-container-reads.Asked,
   for-encoded-container-reads.Learnt,
@@ -1485,7 +1504,7 @@ fields-same-length-2 : (t : ℕ) → fields-lts.Need-same-length-2 (
 fields-same-length-2 t c =
     search needs
 
--- src/lib.rt:1064:17
+-- src/lib.rt:1107:17
 fields-returns-2 : (t : ℕ) → fields-lts.Need-returns-2 (
   for-encoded-container-reads.Asked,
   for-encoded-container-reads.Learnt,
@@ -1503,7 +1522,7 @@ fields-returns-2 : (t : ℕ) → fields-lts.Need-returns-2 (
 fields-returns-2 t c =
     fields-no-offset (c .before .before .before .before .before .before .loop .inv) (few-variants (c .before .before .before .before .before .before .before .before .before .before .before .before .pre .1 .3)) (next-field-is _ _ _ (c .before .before .before .before .before .before .loop .inv .rowed) (c .before .before .before .before .before .field-at .ensures) (c .before .before .before .if1 .left)) (denied (c .before .before .if2 .taken)) _ (c .before .before .before .before .before .before .before .before .for-encoded-container .ensures) _ (c .before .offset-before .ensures) (c .if3 .taken)
 
--- src/lib.rt:1070:20
+-- src/lib.rt:1113:20
 fields-add-stop : (t : ℕ) → fields-lts.Need-add-stop (
   for-encoded-container-reads.Asked,
   for-encoded-container-reads.Learnt,
@@ -1521,7 +1540,7 @@ fields-add-stop : (t : ℕ) → fields-lts.Need-add-stop (
 fields-add-stop t c =
     omega (arith, offset-small _ _ _ (c .before .before .before .before .before .before .before .before .before .before .before .before .before .args .part .now) _ (λ i. omega (arith, c .before .before .before .before .before .before .before .before .before .before .before .shared-slice-known2 .given i)) (omega (arith, c .before .before .before .before .before .before .before .before .before .for-encoded-container .ensures, width-small (length (c .before .before .before .before .before .before .before .before .before .before .before .before .before .args .part .now) - c .before .before .before .before .before .before .before .before .before .before .before .before .before .args .lead) (omega (arith, c .before .before .before .before .before .before .before .before .before .before .before .before .before .pre .1 .3 .in-frame)))) (offset-there _ _ _ _ _ (c .before .before .offset-before .ensures) (c .before .if3 .left)), c .before .before .before .before .before .before .before .before .before .before .before .before .before .pre .1 .3 .in-frame, c .before .before .before .before .before .before .before .before .before .before .before .before .before .pre .1 .4)
 
--- src/lib.rt:1071:19
+-- src/lib.rt:1114:19
 fields-sub-end : (t : ℕ) → fields-lts.Need-sub-end (
   for-encoded-container-reads.Asked,
   for-encoded-container-reads.Learnt,
@@ -1539,7 +1558,7 @@ fields-sub-end : (t : ℕ) → fields-lts.Need-sub-end (
 fields-sub-end t c =
     omega (arith, c .before .before .before .before .before .before .before .before .width .ensures, (offset-there _ _ _ _ _ (c .before .before .offset-before .ensures) (c .before .if3 .left)) .room)
 
--- src/lib.rt:1073:13
+-- src/lib.rt:1116:13
 fields-child-value-requires : (t : ℕ) → fields-lts.Need-child-value-requires (
   for-encoded-container-reads.Asked,
   for-encoded-container-reads.Learnt,
@@ -1557,7 +1576,7 @@ fields-child-value-requires : (t : ℕ) → fields-lts.Need-child-value-requires
 fields-child-value-requires t c κs =
     let g = next-field-is _ _ _ (c .before .before .before .before .before .loop .inv .rowed) (c .before .before .before .before .field-at .ensures) (c .before .before .if1 .left) in (omega (arith, c .before .before .before .before .before .before .before .before .before .before .before .pre .0), (g .typed, g .child, c .before .before .before .before .before .before .before .before .before .before .before .pre .1 .3, c .before .before .before .before .before .loop .inv .within))
 
--- src/lib.rt:1093:23
+-- src/lib.rt:1136:23
 fields-add-t40 : (t : ℕ) → fields-lts.Need-add-t40 (
   for-encoded-container-reads.Asked,
   for-encoded-container-reads.Learnt,
@@ -1575,7 +1594,7 @@ fields-add-t40 : (t : ℕ) → fields-lts.Need-add-t40 (
 fields-add-t40 t c =
     omega (arith, c .before .before .before .child-value .ensures .fits, c .before .before .before .before .before .before .before .before .before .before .before .before .before .before .before .pre .1 .3 .in-frame, c .before .before .before .before .before .before .before .before .before .loop .inv .within)
 
--- src/lib.rt:1091:13
+-- src/lib.rt:1134:13
 fields-same-length-3 : (t : ℕ) → fields-lts.Need-same-length-3 (
   for-encoded-container-reads.Asked,
   for-encoded-container-reads.Learnt,
@@ -1593,7 +1612,7 @@ fields-same-length-3 : (t : ℕ) → fields-lts.Need-same-length-3 (
 fields-same-length-3 t c =
     search needs
 
--- src/lib.rt:1091:13
+-- src/lib.rt:1134:13
 fields-returns-3 : (t : ℕ) → fields-lts.Need-returns-3 (
   for-encoded-container-reads.Asked,
   for-encoded-container-reads.Learnt,
@@ -1611,7 +1630,7 @@ fields-returns-3 : (t : ℕ) → fields-lts.Need-returns-3 (
 fields-returns-3 t c =
     fields-stop (c .before .before .before .before .before .before .before .before .before .loop .inv) (few-variants (c .before .before .before .before .before .before .before .before .before .before .before .before .before .before .before .pre .1 .3)) (next-field-is _ _ _ (c .before .before .before .before .before .before .before .before .before .loop .inv .rowed) (c .before .before .before .before .before .before .before .before .field-at .ensures) (c .before .before .before .before .before .before .if1 .left)) (⊎-elim (λ x. turn-other (c .before .before .before .before .before .before .before .before .before .loop .inv) (few-variants (c .before .before .before .before .before .before .before .before .before .before .before .before .before .before .before .pre .1 .3)) (next-field-is _ _ _ (c .before .before .before .before .before .before .before .before .before .loop .inv .rowed) (c .before .before .before .before .before .before .before .before .field-at .ensures) (c .before .before .before .before .before .before .if1 .left)) (denied (x .0 .taken)) _ (c .before .before .before .before .before .before .before .before .before .before .before .for-encoded-container .ensures) _ (x .1 .ensures) (x .2 .left) (c .before .before .before .before .before .if2 .stop) (c .before .before .before .before .before .if2 .end) (x .5) (x .4 ∙ ap (λ (w : ℕ). c .before .before .before .before .before .before .before .before .before .loop .end - w) (c .before .before .before .before .before .before .before .before .before .before .width .ensures))) (λ x. turn-fixed (c .before .before .before .before .before .before .before .before .before .loop .inv) (few-variants (c .before .before .before .before .before .before .before .before .before .before .before .before .before .before .before .pre .1 .3)) (next-field-is _ _ _ (c .before .before .before .before .before .before .before .before .before .loop .inv .rowed) (c .before .before .before .before .before .before .before .before .field-at .ensures) (c .before .before .before .before .before .before .if1 .left)) (granted (x .0 .left)) (c .before .before .before .before .before .if2 .stop) (c .before .before .before .before .before .if2 .end) (x .2) (x .1)) (c .before .before .before .before .before .if2 .came)) _ _ (c .before .before .before .child-value .ensures) (c .if4 .taken)
 
--- src/lib.rt:1097:13
+-- src/lib.rt:1140:13
 fields-add-u : (t : ℕ) → fields-lts.Need-add-u (
   for-encoded-container-reads.Asked,
   for-encoded-container-reads.Learnt,
@@ -1629,7 +1648,7 @@ fields-add-u : (t : ℕ) → fields-lts.Need-add-u (
 fields-add-u t c =
     omega (arith, c .before .before .before .child-value .ensures .fits, c .before .before .before .before .before .before .before .before .before .before .before .before .before .before .before .pre .1 .3 .in-frame, c .before .before .before .before .before .before .before .before .before .loop .inv .within)
 
--- src/lib.rt:1030:5
+-- src/lib.rt:1073:5
 fields-loop-less : (t : ℕ) → fields-lts.Need-loop-less (
   for-encoded-container-reads.Asked,
   for-encoded-container-reads.Learnt,
@@ -1647,7 +1666,7 @@ fields-loop-less : (t : ℕ) → fields-lts.Need-loop-less (
 fields-loop-less t c =
     let g = next-field-is _ _ _ (c .before .before .before .before .before .before .before .before .before .loop .inv .rowed) (c .before .before .before .before .before .before .before .before .field-at .ensures) (c .before .before .before .before .before .before .if1 .left) in omega (arith, g .onward, g .within)
 
--- src/lib.rt:1030:5
+-- src/lib.rt:1073:5
 fields-loop-again : (t : ℕ) → fields-lts.Need-loop-again (
   for-encoded-container-reads.Asked,
   for-encoded-container-reads.Learnt,
@@ -1665,7 +1684,7 @@ fields-loop-again : (t : ℕ) → fields-lts.Need-loop-again (
 fields-loop-again t c =
     fields-next (c .before .before .before .before .before .before .before .before .before .loop .inv) (few-variants (c .before .before .before .before .before .before .before .before .before .before .before .before .before .before .before .pre .1 .3)) (next-field-is _ _ _ (c .before .before .before .before .before .before .before .before .before .loop .inv .rowed) (c .before .before .before .before .before .before .before .before .field-at .ensures) (c .before .before .before .before .before .before .if1 .left)) (⊎-elim (λ x. turn-other (c .before .before .before .before .before .before .before .before .before .loop .inv) (few-variants (c .before .before .before .before .before .before .before .before .before .before .before .before .before .before .before .pre .1 .3)) (next-field-is _ _ _ (c .before .before .before .before .before .before .before .before .before .loop .inv .rowed) (c .before .before .before .before .before .before .before .before .field-at .ensures) (c .before .before .before .before .before .before .if1 .left)) (denied (x .0 .taken)) _ (c .before .before .before .before .before .before .before .before .before .before .before .for-encoded-container .ensures) _ (x .1 .ensures) (x .2 .left) (c .before .before .before .before .before .if2 .stop) (c .before .before .before .before .before .if2 .end) (x .5) (x .4 ∙ ap (λ (w : ℕ). c .before .before .before .before .before .before .before .before .before .loop .end - w) (c .before .before .before .before .before .before .before .before .before .before .width .ensures))) (λ x. turn-fixed (c .before .before .before .before .before .before .before .before .before .loop .inv) (few-variants (c .before .before .before .before .before .before .before .before .before .before .before .before .before .before .before .pre .1 .3)) (next-field-is _ _ _ (c .before .before .before .before .before .before .before .before .before .loop .inv .rowed) (c .before .before .before .before .before .before .before .before .field-at .ensures) (c .before .before .before .before .before .before .if1 .left)) (granted (x .0 .left)) (c .before .before .before .before .before .if2 .stop) (c .before .before .before .before .before .if2 .end) (x .2) (x .1)) (c .before .before .before .before .before .if2 .came)) _ _ (c .before .before .before .child-value .ensures) (c .if4 .left)
 
--- src/lib.rt:843:9
+-- src/lib.rt:886:9
 fixed-key-child-key-requires : (t : ℕ) → fixed-key-lts.Need-child-key-requires (
   child-key-reads.Asked,
   child-key-reads.Learnt,
@@ -1677,7 +1696,7 @@ fixed-key-child-key-requires : (t : ℕ) → fixed-key-lts.Need-child-key-requir
 fixed-key-child-key-requires t c κs =
     (c .before .before .before .before .before .pre .1 .1 .in-frame, c .before .before .before .before .before .pre .1 .1 .near, c .before .before .before .before .before .pre .1 .2, c .before .before .before .before .before .pre .1 .0 .key)
 
--- src/lib.rt:847:9
+-- src/lib.rt:890:9
 fixed-key-same-length : (t : ℕ) → fixed-key-lts.Need-same-length (
   child-key-reads.Asked,
   child-key-reads.Learnt,
@@ -1689,7 +1708,7 @@ fixed-key-same-length : (t : ℕ) → fixed-key-lts.Need-same-length (
 fixed-key-same-length t c =
     search needs
 
--- src/lib.rt:847:9
+-- src/lib.rt:890:9
 fixed-key-returns : (t : ℕ) → fixed-key-lts.Need-returns (
   child-key-reads.Asked,
   child-key-reads.Learnt,
@@ -1701,7 +1720,7 @@ fixed-key-returns : (t : ℕ) → fixed-key-lts.Need-returns (
 fixed-key-returns t c =
     λ b. fixed-key-stop _ _ _ _ _ _ _ _ b _ _ _ _ _ _ (c .before .before .before .child-key .ensures (depthsOf (c .before .before .before .before .before .before .before .before .before .args .d))) (c .if1 .taken)
 
--- src/lib.rt:849:16
+-- src/lib.rt:892:16
 fixed-key-add-from : (t : ℕ) → fixed-key-lts.Need-add-from (
   child-key-reads.Asked,
   child-key-reads.Learnt,
@@ -1713,7 +1732,7 @@ fixed-key-add-from : (t : ℕ) → fixed-key-lts.Need-add-from (
 fixed-key-add-from t c =
     omega (arith, (c .before .before .before .child-key .ensures (depthsOf (c .before .before .before .before .before .before .before .before .before .args .d))) .fits, c .before .before .before .before .before .before .before .before .before .pre .1 .1 .in-frame, c .before .before .before .before .before .before .before .before .before .pre .1 .2)
 
--- src/lib.rt:850:9
+-- src/lib.rt:893:9
 fixed-key-child-value-requires : (t : ℕ) → fixed-key-lts.Need-child-value-requires (
   child-key-reads.Asked,
   child-key-reads.Learnt,
@@ -1725,7 +1744,7 @@ fixed-key-child-value-requires : (t : ℕ) → fixed-key-lts.Need-child-value-re
 fixed-key-child-value-requires t c κs =
     (omega (arith, c .before .before .before .before .before .before .before .before .before .before .pre .0), (c .before .before .before .before .before .before .before .before .before .before .pre .1 .0 .typed, c .before .before .before .before .before .before .before .before .before .before .pre .1 .0 .child, c .before .before .before .before .before .before .before .before .before .before .pre .1 .1, omega (arith, (c .before .before .before .before .child-key .ensures (depthsOf (c .before .before .before .before .before .before .before .before .before .before .args .d))) .fits, c .before .before .before .before .before .before .before .before .before .before .pre .1 .2)))
 
--- src/lib.rt:866:13
+-- src/lib.rt:909:13
 fixed-key-end-padding-requires : (t : ℕ) → fixed-key-lts.Need-end-padding-requires (
   child-key-reads.Asked,
   child-key-reads.Learnt,
@@ -1737,7 +1756,7 @@ fixed-key-end-padding-requires : (t : ℕ) → fixed-key-lts.Need-end-padding-re
 fixed-key-end-padding-requires t c κs =
     (c .before .before .before .before .before .before .before .before .before .before .before .before .before .before .pre .1 .1 .in-frame, c .before .before .before .before .before .before .before .before .before .before .before .before .before .before .pre .1 .1 .near, omega (arith, c .before .before .before .child-value .ensures .fits, (c .before .before .before .before .before .before .before .before .child-key .ensures (depthsOf (c .before .before .before .before .before .before .before .before .before .before .before .before .before .before .args .d))) .fits, c .before .before .before .before .before .before .before .before .before .before .before .before .before .before .pre .1 .2), c .before .before .before .before .before .before .before .before .before .before .before .before .before .before .pre .1 .0 .aligned)
 
--- src/lib.rt:869:19
+-- src/lib.rt:912:19
 fixed-key-add-t27 : (t : ℕ) → fixed-key-lts.Need-add-t27 (
   child-key-reads.Asked,
   child-key-reads.Learnt,
@@ -1749,7 +1768,7 @@ fixed-key-add-t27 : (t : ℕ) → fixed-key-lts.Need-add-t27 (
 fixed-key-add-t27 t c =
     omega (arith, c .before .end-padding .ensures _ _ _ _ _ _ refl (c .before .before .before .before .before .child-value .ensures) .fits, (c .before .before .before .before .before .before .before .before .before .before .child-key .ensures (depthsOf (c .before .before .before .before .before .before .before .before .before .before .before .before .before .before .before .before .args .d))) .fits, c .before .before .before .before .before .before .before .before .before .before .before .before .before .before .before .before .pre .1 .1 .in-frame)
 
--- src/lib.rt:867:9
+-- src/lib.rt:910:9
 fixed-key-same-length-2 : (t : ℕ) → fixed-key-lts.Need-same-length-2 (
   child-key-reads.Asked,
   child-key-reads.Learnt,
@@ -1761,7 +1780,7 @@ fixed-key-same-length-2 : (t : ℕ) → fixed-key-lts.Need-same-length-2 (
 fixed-key-same-length-2 t c =
     search needs
 
--- src/lib.rt:867:9
+-- src/lib.rt:910:9
 fixed-key-returns-2 : (t : ℕ) → fixed-key-lts.Need-returns-2 (
   child-key-reads.Asked,
   child-key-reads.Learnt,
@@ -1773,7 +1792,7 @@ fixed-key-returns-2 : (t : ℕ) → fixed-key-lts.Need-returns-2 (
 fixed-key-returns-2 t c =
     λ b. fixed-key-padded _ _ _ _ _ _ _ _ b _ _ _ _ _ _ (c .before .before .before .before .before .before .before .before .before .before .child-key .ensures (depthsOf (c .before .before .before .before .before .before .before .before .before .before .before .before .before .before .before .before .args .d))) (c .before .before .before .before .before .before .before .if1 .left) _ _ (c .before .before .before .before .before .child-value .ensures) _ (c .before .before .if2 .taken) (c .before .before .before .before .before .before .before .before .before .before .before .before .before .before .before .before .pre .1 .4 (c .before .before .if2 .taken)) (c .before .end-padding .ensures)
 
--- src/lib.rt:875:15
+-- src/lib.rt:918:15
 fixed-key-add-t28 : (t : ℕ) → fixed-key-lts.Need-add-t28 (
   child-key-reads.Asked,
   child-key-reads.Learnt,
@@ -1785,7 +1804,7 @@ fixed-key-add-t28 : (t : ℕ) → fixed-key-lts.Need-add-t28 (
 fixed-key-add-t28 t c =
     omega (arith, c .before .before .before .before .child-value .ensures .fits, (c .before .before .before .before .before .before .before .before .before .child-key .ensures (depthsOf (c .before .before .before .before .before .before .before .before .before .before .before .before .before .before .before .args .d))) .fits, c .before .before .before .before .before .before .before .before .before .before .before .before .before .before .before .pre .1 .1 .in-frame)
 
--- src/lib.rt:824:1
+-- src/lib.rt:867:1
 fixed-key-same-length-3 : (t : ℕ) → fixed-key-lts.Need-same-length-3 (
   child-key-reads.Asked,
   child-key-reads.Learnt,
@@ -1797,7 +1816,7 @@ fixed-key-same-length-3 : (t : ℕ) → fixed-key-lts.Need-same-length-3 (
 fixed-key-same-length-3 t c =
     search needs
 
--- src/lib.rt:824:1
+-- src/lib.rt:867:1
 fixed-key-returns-3 : (t : ℕ) → fixed-key-lts.Need-returns-3 (
   child-key-reads.Asked,
   child-key-reads.Learnt,
@@ -1817,108 +1836,34 @@ abbrev framed-μ-loop : framed-lts.MeasureT-loop
 framed-μ-loop text item offsets part lead place position big d out₀ n table many body-end i₀ u₀ count₀ out i u count =
     many - i
 
--- src/lib.rt:716:17
-framed-sub-table : (t : ℕ) → framed-lts.Need-sub-table (
+-- src/lib.rt:744:29
+framed-enum-known-held : (t : ℕ) → framed-lts.Need-enum-known-held (
+  readings-reads.Asked,
+  readings-reads.Learnt,
   next-reads.Asked,
   next-reads.Learnt,
   step-below t,
   step.Post,
 ) (framed-at t) framed.Post framed-Inv-loop framed-μ-loop
-framed-sub-table t c =
-    omega arith
-
--- src/lib.rt:716:17
-framed-part-table-start : (t : ℕ) → framed-lts.Need-part-table-start (
-  next-reads.Asked,
-  next-reads.Learnt,
-  step-below t,
-  step.Post,
-) (framed-at t) framed.Post framed-Inv-loop framed-μ-loop
-framed-part-table-start t c =
-    omega arith
-
--- src/lib.rt:716:17
-framed-part-table-end : (t : ℕ) → framed-lts.Need-part-table-end (
-  next-reads.Asked,
-  next-reads.Learnt,
-  step-below t,
-  step.Post,
-) (framed-at t) framed.Post framed-Inv-loop framed-μ-loop
-framed-part-table-end t c =
-    omega arith
-
--- src/lib.rt:718:20
-framed-add-body-end : (t : ℕ) → framed-lts.Need-add-body-end (
-  next-reads.Asked,
-  next-reads.Learnt,
-  step-below t,
-  step.Post,
-) (framed-at t) framed.Post framed-Inv-loop framed-μ-loop
-framed-add-body-end t c =
-    omega (arith, c .before .before .before .before .before .pre .1 .4 .start, length-drop (c .before .before .before .before .before .args .lead) (c .before .before .before .before .before .args .part .now), c .before .before .before .before .before .pre .1 .2 .in-frame)
-
--- src/lib.rt:722:5
-framed-loop-holds : (t : ℕ) → framed-lts.Need-loop-holds (
-  next-reads.Asked,
-  next-reads.Learnt,
-  step-below t,
-  step.Post,
-) (framed-at t) framed.Post framed-Inv-loop framed-μ-loop
-framed-loop-holds t c =
-    framed-begin _ _ _ _ _ _ _ (omega arith)
-
--- src/lib.rt:723:13
-framed-next-requires : (t : ℕ) → framed-lts.Need-next-requires (
-  next-reads.Asked,
-  next-reads.Learnt,
-  step-below t,
-  step.Post,
-) (framed-at t) framed.Post framed-Inv-loop framed-μ-loop
-framed-next-requires t c κs =
+framed-enum-known-held t c =
     search needs
 
--- src/lib.rt:729:13
-framed-add-step : (t : ℕ) → framed-lts.Need-add-step (
+-- src/lib.rt:745:9
+framed-readings-requires : (t : ℕ) → framed-lts.Need-readings-requires (
+  readings-reads.Asked,
+  readings-reads.Learnt,
   next-reads.Asked,
   next-reads.Learnt,
   step-below t,
   step.Post,
 ) (framed-at t) framed.Post framed-Inv-loop framed-μ-loop
-framed-add-step t c =
-    omega (arith, c .before .before .loop .inv .bound, c .before .before .before .before .before .before .before .before .pre .1 .4 .start, length-drop (c .before .before .before .before .before .before .before .before .args .lead) (c .before .before .before .before .before .before .before .before .args .part .now), c .before .before .before .before .before .before .before .before .pre .1 .2 .in-frame, c .before .before .before .before .before .before .before .before .pre .1 .3)
+framed-readings-requires t c κs =
+    (c .before .before .before .before .before .before .before .pre .1 .2 .in-frame, c .before .before .before .before .before .before .before .pre .1 .2 .near, c .before .before .before .before .before .before .before .pre .1 .3, c .before .before .before .before .before .before .before .pre .1 .0 .number _ _ (c .before .before .held .given .1) .aligned, c .before .before .before .before .before .before .before .pre .1 .4)
 
--- src/lib.rt:730:13
-framed-add-step-2 : (t : ℕ) → framed-lts.Need-add-step-2 (
-  next-reads.Asked,
-  next-reads.Learnt,
-  step-below t,
-  step.Post,
-) (framed-at t) framed.Post framed-Inv-loop framed-μ-loop
-framed-add-step-2 t c =
-    omega (arith, next-end (c .before .before .before .before .before .before .before .before .before .pre .1 .4) (c .before .before .before .loop .i) (c .before .next .result) (c .before .before .loop-test .taken) (rw (tail (c .before .before .before .before .before .before .before .before .before .args .lead) (c .before .before .before .before .before .before .before .before .before .args .part .now)) at (c .before .next .ensures)), ends-below (c .before .before .before .before .before .before .before .before .before .pre .1 .4) (c .before .before .before .loop .i), c .before .before .before .before .before .before .before .before .before .pre .1 .4 .start, length-drop (c .before .before .before .before .before .before .before .before .before .args .lead) (c .before .before .before .before .before .before .before .before .before .args .part .now), c .before .before .before .before .before .before .before .before .before .pre .1 .2 .in-frame, c .before .before .before .before .before .before .before .before .before .pre .1 .3)
-
--- src/lib.rt:724:13
-framed-step-requires : (t : ℕ) → framed-lts.Need-step-requires (
-  next-reads.Asked,
-  next-reads.Learnt,
-  step-below t,
-  step.Post,
-) (framed-at t) framed.Post framed-Inv-loop framed-μ-loop
-framed-step-requires t c κs =
-    (omega (arith, c .before .before .before .before .before .before .before .before .before .before .pre .0), (c .before .before .before .before .before .before .before .before .before .before .pre .1 .0, c .before .before .before .before .before .before .before .before .before .before .pre .1 .2, omega (arith, c .before .before .before .before .loop .inv .bound, c .before .before .before .before .before .before .before .before .before .before .pre .1 .4 .start, length-drop (c .before .before .before .before .before .before .before .before .before .before .args .lead) (c .before .before .before .before .before .before .before .before .before .before .args .part .now), c .before .before .before .before .before .before .before .before .before .before .pre .1 .3), omega (arith, next-end (c .before .before .before .before .before .before .before .before .before .before .pre .1 .4) (c .before .before .before .before .loop .i) (c .before .before .next .result) (c .before .before .before .loop-test .taken) (rw (tail (c .before .before .before .before .before .before .before .before .before .before .args .lead) (c .before .before .before .before .before .before .before .before .before .before .args .part .now)) at (c .before .before .next .ensures)), ends-below (c .before .before .before .before .before .before .before .before .before .before .pre .1 .4) (c .before .before .before .before .loop .i)), omega (arith, c .before .before .before .before .before .before .before .before .before .before .pre .1 .4 .start, length-drop (c .before .before .before .before .before .before .before .before .before .before .args .lead) (c .before .before .before .before .before .before .before .before .before .before .args .part .now), c .before .before .before .before .before .before .before .before .before .before .pre .1 .3), λ z. absurd (false≢true (sym (c .before .before .before .before .before .before .before .before .before .before .pre .1 .1) ∙ z))))
-
--- src/lib.rt:744:23
-framed-add-t30 : (t : ℕ) → framed-lts.Need-add-t30 (
-  next-reads.Asked,
-  next-reads.Learnt,
-  step-below t,
-  step.Post,
-) (framed-at t) framed.Post framed-Inv-loop framed-μ-loop
-framed-add-t30 t c =
-    omega (arith, c .before .before .before .step .ensures .fits, c .before .before .before .before .before .before .before .before .loop .inv .bound, c .before .before .before .before .before .before .before .before .before .before .before .before .before .before .pre .1 .4 .start, length-drop (c .before .before .before .before .before .before .before .before .before .before .before .before .before .before .args .lead) (c .before .before .before .before .before .before .before .before .before .before .before .before .before .before .args .part .now), c .before .before .before .before .before .before .before .before .before .before .before .before .before .before .pre .1 .2 .in-frame, c .before .before .before .before .before .before .before .before .before .before .before .before .before .before .pre .1 .3)
-
--- src/lib.rt:742:13
+-- src/lib.rt:745:9
 framed-same-length : (t : ℕ) → framed-lts.Need-same-length (
+  readings-reads.Asked,
+  readings-reads.Learnt,
   next-reads.Asked,
   next-reads.Learnt,
   step-below t,
@@ -1927,78 +1872,142 @@ framed-same-length : (t : ℕ) → framed-lts.Need-same-length (
 framed-same-length t c =
     search needs
 
--- src/lib.rt:742:13
+-- src/lib.rt:745:9
 framed-returns : (t : ℕ) → framed-lts.Need-returns (
+  readings-reads.Asked,
+  readings-reads.Learnt,
   next-reads.Asked,
   next-reads.Learnt,
   step-below t,
   step.Post,
 ) (framed-at t) framed.Post framed-Inv-loop framed-μ-loop
 framed-returns t c =
-    framed-stop _ _ _ _ _ _ _ _ _ _ _ (c .before .before .before .before .before .before .before .before .loop .inv) (omega (arith, c .before .before .before .before .before .before .before .before .before .before .before .before .before .before .pre .1 .4 .start, length-drop (c .before .before .before .before .before .before .before .before .before .before .before .before .before .before .args .lead) (c .before .before .before .before .before .before .before .before .before .before .before .before .before .before .args .part .now), c .before .before .before .before .before .before .before .before .before .before .before .before .before .before .pre .1 .3)) (omega (arith, length-ends (tableIn (c .before .before .before .before .before .before .before .before .before .before .before .before .before .before .args .offsets)) (drop (c .before .before .before .before .before .before .before .before .before .before .before .before .before .before .args .lead) (c .before .before .before .before .before .before .before .before .before .before .before .before .before .before .args .part .now)), c .before .before .before .before .before .before .before .loop-test .taken)) _ _ (omega (arith, ends-below (c .before .before .before .before .before .before .before .before .before .before .before .before .before .before .pre .1 .4) (c .before .before .before .before .before .before .before .before .loop .i))) (rw (next-end (c .before .before .before .before .before .before .before .before .before .before .before .before .before .before .pre .1 .4) (c .before .before .before .before .before .before .before .before .loop .i) (c .before .before .before .before .before .before .next .result) (c .before .before .before .before .before .before .before .loop-test .taken) (rw (tail (c .before .before .before .before .before .before .before .before .before .before .before .before .before .before .args .lead) (c .before .before .before .before .before .before .before .before .before .before .before .before .before .before .args .part .now)) at (c .before .before .before .before .before .before .next .ensures))) at (c .before .before .before .step .ensures)) (c .if1 .taken)
+    held-numbers _ _ _ _ (c .before .before .before .before .before .before .before .before .before .before .pre .1 .0 .number _ _ (c .before .before .before .before .before .held .given .1)) _ _ _ _ _ _ _ _ _ _ _ _ _ _ _ _ (c .before .before .before .before .before .before .before .before .before .before .pre .1 .1) (c .before .before .readings .ensures)
 
--- src/lib.rt:748:13
-framed-add-u : (t : ℕ) → framed-lts.Need-add-u (
+-- src/lib.rt:759:17
+framed-sub-table : (t : ℕ) → framed-lts.Need-sub-table (
+  readings-reads.Asked,
+  readings-reads.Learnt,
   next-reads.Asked,
   next-reads.Learnt,
   step-below t,
   step.Post,
 ) (framed-at t) framed.Post framed-Inv-loop framed-μ-loop
-framed-add-u t c =
-    omega (arith, c .before .before .before .step .ensures .fits, c .before .before .before .before .before .before .before .before .loop .inv .bound, c .before .before .before .before .before .before .before .before .before .before .before .before .before .before .pre .1 .4 .start, length-drop (c .before .before .before .before .before .before .before .before .before .before .before .before .before .before .args .lead) (c .before .before .before .before .before .before .before .before .before .before .before .before .before .before .args .part .now), c .before .before .before .before .before .before .before .before .before .before .before .before .before .before .pre .1 .2 .in-frame, c .before .before .before .before .before .before .before .before .before .before .before .before .before .before .pre .1 .3)
-
--- src/lib.rt:749:13
-framed-add-i : (t : ℕ) → framed-lts.Need-add-i (
-  next-reads.Asked,
-  next-reads.Learnt,
-  step-below t,
-  step.Post,
-) (framed-at t) framed.Post framed-Inv-loop framed-μ-loop
-framed-add-i t c =
+framed-sub-table t c =
     omega arith
 
--- src/lib.rt:722:5
-framed-loop-less : (t : ℕ) → framed-lts.Need-loop-less (
+-- src/lib.rt:759:17
+framed-part-table-start : (t : ℕ) → framed-lts.Need-part-table-start (
+  readings-reads.Asked,
+  readings-reads.Learnt,
   next-reads.Asked,
   next-reads.Learnt,
   step-below t,
   step.Post,
 ) (framed-at t) framed.Post framed-Inv-loop framed-μ-loop
-framed-loop-less t c =
-    omega (arith, c .before .before .before .before .before .before .before .loop-test .taken)
+framed-part-table-start t c =
+    omega arith
 
--- src/lib.rt:722:5
-framed-loop-again : (t : ℕ) → framed-lts.Need-loop-again (
+-- src/lib.rt:759:17
+framed-part-table-end : (t : ℕ) → framed-lts.Need-part-table-end (
+  readings-reads.Asked,
+  readings-reads.Learnt,
   next-reads.Asked,
   next-reads.Learnt,
   step-below t,
   step.Post,
 ) (framed-at t) framed.Post framed-Inv-loop framed-μ-loop
-framed-loop-again t c =
-    framed-next _ _ _ _ _ _ _ _ _ _ _ (c .before .before .before .before .before .before .before .before .loop .inv) (omega (arith, c .before .before .before .before .before .before .before .before .before .before .before .before .before .before .pre .1 .4 .start, length-drop (c .before .before .before .before .before .before .before .before .before .before .before .before .before .before .args .lead) (c .before .before .before .before .before .before .before .before .before .before .before .before .before .before .args .part .now), c .before .before .before .before .before .before .before .before .before .before .before .before .before .before .pre .1 .3)) (omega (arith, length-ends (tableIn (c .before .before .before .before .before .before .before .before .before .before .before .before .before .before .args .offsets)) (drop (c .before .before .before .before .before .before .before .before .before .before .before .before .before .before .args .lead) (c .before .before .before .before .before .before .before .before .before .before .before .before .before .before .args .part .now)), c .before .before .before .before .before .before .before .loop-test .taken)) _ _ (omega (arith, ends-below (c .before .before .before .before .before .before .before .before .before .before .before .before .before .before .pre .1 .4) (c .before .before .before .before .before .before .before .before .loop .i))) (rw (next-end (c .before .before .before .before .before .before .before .before .before .before .before .before .before .before .pre .1 .4) (c .before .before .before .before .before .before .before .before .loop .i) (c .before .before .before .before .before .before .next .result) (c .before .before .before .before .before .before .before .loop-test .taken) (rw (tail (c .before .before .before .before .before .before .before .before .before .before .before .before .before .before .args .lead) (c .before .before .before .before .before .before .before .before .before .before .before .before .before .before .args .part .now)) at (c .before .before .before .before .before .before .next .ensures))) at (c .before .before .before .step .ensures)) (c .if1 .left)
+framed-part-table-end t c =
+    omega arith
 
--- src/lib.rt:753:20
-framed-sub-t31 : (t : ℕ) → framed-lts.Need-sub-t31 (
+-- src/lib.rt:761:20
+framed-add-body-end : (t : ℕ) → framed-lts.Need-add-body-end (
+  readings-reads.Asked,
+  readings-reads.Learnt,
   next-reads.Asked,
   next-reads.Learnt,
   step-below t,
   step.Post,
 ) (framed-at t) framed.Post framed-Inv-loop framed-μ-loop
-framed-sub-t31 t c =
-    omega (arith, c .before .before .before .before .before .before .before .pre .1 .4 .start, length-drop (c .before .before .before .before .before .before .before .args .lead) (c .before .before .before .before .before .before .before .args .part .now), c .before .before .before .before .before .before .before .pre .1 .3)
+framed-add-body-end t c =
+    omega (arith, c .before .before .before .before .before .before .pre .1 .4 .start, length-drop (c .before .before .before .before .before .before .args .lead) (c .before .before .before .before .before .before .args .part .now), c .before .before .before .before .before .before .pre .1 .2 .in-frame)
 
--- src/lib.rt:753:15
-framed-add-t32 : (t : ℕ) → framed-lts.Need-add-t32 (
+-- src/lib.rt:765:5
+framed-loop-holds : (t : ℕ) → framed-lts.Need-loop-holds (
+  readings-reads.Asked,
+  readings-reads.Learnt,
   next-reads.Asked,
   next-reads.Learnt,
   step-below t,
   step.Post,
 ) (framed-at t) framed.Post framed-Inv-loop framed-μ-loop
-framed-add-t32 t c =
-    omega (arith, c .before .loop .inv .bound, c .before .before .before .before .before .before .before .pre .1 .4 .start, length-drop (c .before .before .before .before .before .before .before .args .lead) (c .before .before .before .before .before .before .before .args .part .now), c .before .before .before .before .before .before .before .pre .1 .2 .in-frame, c .before .before .before .before .before .before .before .pre .1 .3)
+framed-loop-holds t c =
+    framed-begin _ _ _ _ _ _ _ (omega arith)
 
--- src/lib.rt:700:1
+-- src/lib.rt:766:13
+framed-next-requires : (t : ℕ) → framed-lts.Need-next-requires (
+  readings-reads.Asked,
+  readings-reads.Learnt,
+  next-reads.Asked,
+  next-reads.Learnt,
+  step-below t,
+  step.Post,
+) (framed-at t) framed.Post framed-Inv-loop framed-μ-loop
+framed-next-requires t c κs =
+    search needs
+
+-- src/lib.rt:772:13
+framed-add-step : (t : ℕ) → framed-lts.Need-add-step (
+  readings-reads.Asked,
+  readings-reads.Learnt,
+  next-reads.Asked,
+  next-reads.Learnt,
+  step-below t,
+  step.Post,
+) (framed-at t) framed.Post framed-Inv-loop framed-μ-loop
+framed-add-step t c =
+    omega (arith, c .before .before .loop .inv .bound, c .before .before .before .before .before .before .before .before .before .pre .1 .4 .start, length-drop (c .before .before .before .before .before .before .before .before .before .args .lead) (c .before .before .before .before .before .before .before .before .before .args .part .now), c .before .before .before .before .before .before .before .before .before .pre .1 .2 .in-frame, c .before .before .before .before .before .before .before .before .before .pre .1 .3)
+
+-- src/lib.rt:773:13
+framed-add-step-2 : (t : ℕ) → framed-lts.Need-add-step-2 (
+  readings-reads.Asked,
+  readings-reads.Learnt,
+  next-reads.Asked,
+  next-reads.Learnt,
+  step-below t,
+  step.Post,
+) (framed-at t) framed.Post framed-Inv-loop framed-μ-loop
+framed-add-step-2 t c =
+    omega (arith, next-end (c .before .before .before .before .before .before .before .before .before .before .pre .1 .4) (c .before .before .before .loop .i) (c .before .next .result) (c .before .before .loop-test .taken) (rw (tail (c .before .before .before .before .before .before .before .before .before .before .args .lead) (c .before .before .before .before .before .before .before .before .before .before .args .part .now)) at (c .before .next .ensures)), ends-below (c .before .before .before .before .before .before .before .before .before .before .pre .1 .4) (c .before .before .before .loop .i), c .before .before .before .before .before .before .before .before .before .before .pre .1 .4 .start, length-drop (c .before .before .before .before .before .before .before .before .before .before .args .lead) (c .before .before .before .before .before .before .before .before .before .before .args .part .now), c .before .before .before .before .before .before .before .before .before .before .pre .1 .2 .in-frame, c .before .before .before .before .before .before .before .before .before .before .pre .1 .3)
+
+-- src/lib.rt:767:13
+framed-step-requires : (t : ℕ) → framed-lts.Need-step-requires (
+  readings-reads.Asked,
+  readings-reads.Learnt,
+  next-reads.Asked,
+  next-reads.Learnt,
+  step-below t,
+  step.Post,
+) (framed-at t) framed.Post framed-Inv-loop framed-μ-loop
+framed-step-requires t c κs =
+    (omega (arith, c .before .before .before .before .before .before .before .before .before .before .before .pre .0), (c .before .before .before .before .before .before .before .before .before .before .before .pre .1 .0, c .before .before .before .before .before .before .before .before .before .before .before .pre .1 .2, omega (arith, c .before .before .before .before .loop .inv .bound, c .before .before .before .before .before .before .before .before .before .before .before .pre .1 .4 .start, length-drop (c .before .before .before .before .before .before .before .before .before .before .before .args .lead) (c .before .before .before .before .before .before .before .before .before .before .before .args .part .now), c .before .before .before .before .before .before .before .before .before .before .before .pre .1 .3), omega (arith, next-end (c .before .before .before .before .before .before .before .before .before .before .before .pre .1 .4) (c .before .before .before .before .loop .i) (c .before .before .next .result) (c .before .before .before .loop-test .taken) (rw (tail (c .before .before .before .before .before .before .before .before .before .before .before .args .lead) (c .before .before .before .before .before .before .before .before .before .before .before .args .part .now)) at (c .before .before .next .ensures)), ends-below (c .before .before .before .before .before .before .before .before .before .before .before .pre .1 .4) (c .before .before .before .before .loop .i)), omega (arith, c .before .before .before .before .before .before .before .before .before .before .before .pre .1 .4 .start, length-drop (c .before .before .before .before .before .before .before .before .before .before .before .args .lead) (c .before .before .before .before .before .before .before .before .before .before .before .args .part .now), c .before .before .before .before .before .before .before .before .before .before .before .pre .1 .3), λ z. absurd (false≢true (sym (c .before .before .before .before .before .before .before .before .before .before .before .pre .1 .1) ∙ z))))
+
+-- src/lib.rt:787:23
+framed-add-t35 : (t : ℕ) → framed-lts.Need-add-t35 (
+  readings-reads.Asked,
+  readings-reads.Learnt,
+  next-reads.Asked,
+  next-reads.Learnt,
+  step-below t,
+  step.Post,
+) (framed-at t) framed.Post framed-Inv-loop framed-μ-loop
+framed-add-t35 t c =
+    omega (arith, c .before .before .before .step .ensures .fits, c .before .before .before .before .before .before .before .before .loop .inv .bound, c .before .before .before .before .before .before .before .before .before .before .before .before .before .before .before .pre .1 .4 .start, length-drop (c .before .before .before .before .before .before .before .before .before .before .before .before .before .before .before .args .lead) (c .before .before .before .before .before .before .before .before .before .before .before .before .before .before .before .args .part .now), c .before .before .before .before .before .before .before .before .before .before .before .before .before .before .before .pre .1 .2 .in-frame, c .before .before .before .before .before .before .before .before .before .before .before .before .before .before .before .pre .1 .3)
+
+-- src/lib.rt:785:13
 framed-same-length-2 : (t : ℕ) → framed-lts.Need-same-length-2 (
+  readings-reads.Asked,
+  readings-reads.Learnt,
   next-reads.Asked,
   next-reads.Learnt,
   step-below t,
@@ -2007,17 +2016,115 @@ framed-same-length-2 : (t : ℕ) → framed-lts.Need-same-length-2 (
 framed-same-length-2 t c =
     search needs
 
--- src/lib.rt:700:1
+-- src/lib.rt:785:13
 framed-returns-2 : (t : ℕ) → framed-lts.Need-returns-2 (
+  readings-reads.Asked,
+  readings-reads.Learnt,
   next-reads.Asked,
   next-reads.Learnt,
   step-below t,
   step.Post,
 ) (framed-at t) framed.Post framed-Inv-loop framed-μ-loop
 framed-returns-2 t c =
-    framed-end _ _ _ _ _ _ _ _ _ _ _ (c .before .loop .inv) (omega (arith, c .before .before .before .before .before .before .before .pre .1 .4 .start, length-drop (c .before .before .before .before .before .before .before .args .lead) (c .before .before .before .before .before .before .before .args .part .now), c .before .before .before .before .before .before .before .pre .1 .3)) (omega (arith, length-ends (tableIn (c .before .before .before .before .before .before .before .args .offsets)) (drop (c .before .before .before .before .before .before .before .args .lead) (c .before .before .before .before .before .before .before .args .part .now)), c .loop-test .left))
+    framed-stop _ _ _ _ _ _ _ _ _ _ _ (c .before .before .before .before .before .before .before .before .loop .inv) (omega (arith, c .before .before .before .before .before .before .before .before .before .before .before .before .before .before .before .pre .1 .4 .start, length-drop (c .before .before .before .before .before .before .before .before .before .before .before .before .before .before .before .args .lead) (c .before .before .before .before .before .before .before .before .before .before .before .before .before .before .before .args .part .now), c .before .before .before .before .before .before .before .before .before .before .before .before .before .before .before .pre .1 .3)) (omega (arith, length-ends (tableIn (c .before .before .before .before .before .before .before .before .before .before .before .before .before .before .before .args .offsets)) (drop (c .before .before .before .before .before .before .before .before .before .before .before .before .before .before .before .args .lead) (c .before .before .before .before .before .before .before .before .before .before .before .before .before .before .before .args .part .now)), c .before .before .before .before .before .before .before .loop-test .taken)) _ _ (omega (arith, ends-below (c .before .before .before .before .before .before .before .before .before .before .before .before .before .before .before .pre .1 .4) (c .before .before .before .before .before .before .before .before .loop .i))) (rw (next-end (c .before .before .before .before .before .before .before .before .before .before .before .before .before .before .before .pre .1 .4) (c .before .before .before .before .before .before .before .before .loop .i) (c .before .before .before .before .before .before .next .result) (c .before .before .before .before .before .before .before .loop-test .taken) (rw (tail (c .before .before .before .before .before .before .before .before .before .before .before .before .before .before .before .args .lead) (c .before .before .before .before .before .before .before .before .before .before .before .before .before .before .before .args .part .now)) at (c .before .before .before .before .before .before .next .ensures))) at (c .before .before .before .step .ensures)) (c .if1 .taken)
 
--- src/lib.rt:1122:9
+-- src/lib.rt:791:13
+framed-add-u : (t : ℕ) → framed-lts.Need-add-u (
+  readings-reads.Asked,
+  readings-reads.Learnt,
+  next-reads.Asked,
+  next-reads.Learnt,
+  step-below t,
+  step.Post,
+) (framed-at t) framed.Post framed-Inv-loop framed-μ-loop
+framed-add-u t c =
+    omega (arith, c .before .before .before .step .ensures .fits, c .before .before .before .before .before .before .before .before .loop .inv .bound, c .before .before .before .before .before .before .before .before .before .before .before .before .before .before .before .pre .1 .4 .start, length-drop (c .before .before .before .before .before .before .before .before .before .before .before .before .before .before .before .args .lead) (c .before .before .before .before .before .before .before .before .before .before .before .before .before .before .before .args .part .now), c .before .before .before .before .before .before .before .before .before .before .before .before .before .before .before .pre .1 .2 .in-frame, c .before .before .before .before .before .before .before .before .before .before .before .before .before .before .before .pre .1 .3)
+
+-- src/lib.rt:792:13
+framed-add-i : (t : ℕ) → framed-lts.Need-add-i (
+  readings-reads.Asked,
+  readings-reads.Learnt,
+  next-reads.Asked,
+  next-reads.Learnt,
+  step-below t,
+  step.Post,
+) (framed-at t) framed.Post framed-Inv-loop framed-μ-loop
+framed-add-i t c =
+    omega arith
+
+-- src/lib.rt:765:5
+framed-loop-less : (t : ℕ) → framed-lts.Need-loop-less (
+  readings-reads.Asked,
+  readings-reads.Learnt,
+  next-reads.Asked,
+  next-reads.Learnt,
+  step-below t,
+  step.Post,
+) (framed-at t) framed.Post framed-Inv-loop framed-μ-loop
+framed-loop-less t c =
+    omega (arith, c .before .before .before .before .before .before .before .loop-test .taken)
+
+-- src/lib.rt:765:5
+framed-loop-again : (t : ℕ) → framed-lts.Need-loop-again (
+  readings-reads.Asked,
+  readings-reads.Learnt,
+  next-reads.Asked,
+  next-reads.Learnt,
+  step-below t,
+  step.Post,
+) (framed-at t) framed.Post framed-Inv-loop framed-μ-loop
+framed-loop-again t c =
+    framed-next _ _ _ _ _ _ _ _ _ _ _ (c .before .before .before .before .before .before .before .before .loop .inv) (omega (arith, c .before .before .before .before .before .before .before .before .before .before .before .before .before .before .before .pre .1 .4 .start, length-drop (c .before .before .before .before .before .before .before .before .before .before .before .before .before .before .before .args .lead) (c .before .before .before .before .before .before .before .before .before .before .before .before .before .before .before .args .part .now), c .before .before .before .before .before .before .before .before .before .before .before .before .before .before .before .pre .1 .3)) (omega (arith, length-ends (tableIn (c .before .before .before .before .before .before .before .before .before .before .before .before .before .before .before .args .offsets)) (drop (c .before .before .before .before .before .before .before .before .before .before .before .before .before .before .before .args .lead) (c .before .before .before .before .before .before .before .before .before .before .before .before .before .before .before .args .part .now)), c .before .before .before .before .before .before .before .loop-test .taken)) _ _ (omega (arith, ends-below (c .before .before .before .before .before .before .before .before .before .before .before .before .before .before .before .pre .1 .4) (c .before .before .before .before .before .before .before .before .loop .i))) (rw (next-end (c .before .before .before .before .before .before .before .before .before .before .before .before .before .before .before .pre .1 .4) (c .before .before .before .before .before .before .before .before .loop .i) (c .before .before .before .before .before .before .next .result) (c .before .before .before .before .before .before .before .loop-test .taken) (rw (tail (c .before .before .before .before .before .before .before .before .before .before .before .before .before .before .before .args .lead) (c .before .before .before .before .before .before .before .before .before .before .before .before .before .before .before .args .part .now)) at (c .before .before .before .before .before .before .next .ensures))) at (c .before .before .before .step .ensures)) (c .if1 .left)
+
+-- src/lib.rt:796:20
+framed-sub-t36 : (t : ℕ) → framed-lts.Need-sub-t36 (
+  readings-reads.Asked,
+  readings-reads.Learnt,
+  next-reads.Asked,
+  next-reads.Learnt,
+  step-below t,
+  step.Post,
+) (framed-at t) framed.Post framed-Inv-loop framed-μ-loop
+framed-sub-t36 t c =
+    omega (arith, c .before .before .before .before .before .before .before .before .pre .1 .4 .start, length-drop (c .before .before .before .before .before .before .before .before .args .lead) (c .before .before .before .before .before .before .before .before .args .part .now), c .before .before .before .before .before .before .before .before .pre .1 .3)
+
+-- src/lib.rt:796:15
+framed-add-t37 : (t : ℕ) → framed-lts.Need-add-t37 (
+  readings-reads.Asked,
+  readings-reads.Learnt,
+  next-reads.Asked,
+  next-reads.Learnt,
+  step-below t,
+  step.Post,
+) (framed-at t) framed.Post framed-Inv-loop framed-μ-loop
+framed-add-t37 t c =
+    omega (arith, c .before .loop .inv .bound, c .before .before .before .before .before .before .before .before .pre .1 .4 .start, length-drop (c .before .before .before .before .before .before .before .before .args .lead) (c .before .before .before .before .before .before .before .before .args .part .now), c .before .before .before .before .before .before .before .before .pre .1 .2 .in-frame, c .before .before .before .before .before .before .before .before .pre .1 .3)
+
+-- src/lib.rt:727:1
+framed-same-length-3 : (t : ℕ) → framed-lts.Need-same-length-3 (
+  readings-reads.Asked,
+  readings-reads.Learnt,
+  next-reads.Asked,
+  next-reads.Learnt,
+  step-below t,
+  step.Post,
+) (framed-at t) framed.Post framed-Inv-loop framed-μ-loop
+framed-same-length-3 t c =
+    search needs
+
+-- src/lib.rt:727:1
+framed-returns-3 : (t : ℕ) → framed-lts.Need-returns-3 (
+  readings-reads.Asked,
+  readings-reads.Learnt,
+  next-reads.Asked,
+  next-reads.Learnt,
+  step-below t,
+  step.Post,
+) (framed-at t) framed.Post framed-Inv-loop framed-μ-loop
+framed-returns-3 t c =
+    framed-end _ _ _ _ _ _ _ _ _ _ _ (c .before .loop .inv) (omega (arith, c .before .before .before .before .before .before .before .before .pre .1 .4 .start, length-drop (c .before .before .before .before .before .before .before .before .args .lead) (c .before .before .before .before .before .before .before .before .args .part .now), c .before .before .before .before .before .before .before .before .pre .1 .3)) (omega (arith, length-ends (tableIn (c .before .before .before .before .before .before .before .before .args .offsets)) (drop (c .before .before .before .before .before .before .before .before .args .lead) (c .before .before .before .before .before .before .before .before .args .part .now)), c .loop-test .left))
+
+-- src/lib.rt:1165:9
 last-field-child-value-requires : (t : ℕ) → last-field-lts.Need-child-value-requires (
   child-value-below t,
   child-value.Post,
@@ -2027,7 +2134,7 @@ last-field-child-value-requires : (t : ℕ) → last-field-lts.Need-child-value-
 last-field-child-value-requires t c κs =
     (omega (arith, c .before .before .before .before .pre .0), (c .before .before .before .before .pre .1 .0, c .before .before .before .before .pre .1 .1, c .before .before .before .before .pre .1 .3, c .before .before .before .before .pre .1 .4))
 
--- src/lib.rt:1137:9
+-- src/lib.rt:1180:9
 last-field-end-padding-requires : (t : ℕ) → last-field-lts.Need-end-padding-requires (
   child-value-below t,
   child-value.Post,
@@ -2037,7 +2144,7 @@ last-field-end-padding-requires : (t : ℕ) → last-field-lts.Need-end-padding-
 last-field-end-padding-requires t c κs =
     (c .before .before .before .before .before .before .before .before .pre .1 .3 .in-frame, c .before .before .before .before .before .before .before .before .pre .1 .3 .near, omega (arith, c .before .before .before .child-value .ensures .fits, c .before .before .before .before .before .before .before .before .pre .1 .4), c .before .before .before .before .before .before .before .before .pre .1 .2)
 
--- src/lib.rt:1137:9
+-- src/lib.rt:1180:9
 last-field-same-length : (t : ℕ) → last-field-lts.Need-same-length (
   child-value-below t,
   child-value.Post,
@@ -2047,7 +2154,7 @@ last-field-same-length : (t : ℕ) → last-field-lts.Need-same-length (
 last-field-same-length t c =
     search needs
 
--- src/lib.rt:1137:9
+-- src/lib.rt:1180:9
 last-field-returns : (t : ℕ) → last-field-lts.Need-returns (
   child-value-below t,
   child-value.Post,
@@ -2057,7 +2164,7 @@ last-field-returns : (t : ℕ) → last-field-lts.Need-returns (
 last-field-returns t c =
     last-field-padded _ _ _ _ _ _ _ _ _ _ _ _ (c .before .before .before .before .child-value .ensures) _ (c .before .if1 .taken) (c .before .before .before .before .before .before .before .before .before .pre .1 .6 (c .before .if1 .taken)) (c .end-padding .ensures)
 
--- src/lib.rt:1141:9
+-- src/lib.rt:1184:9
 last-field-same-length-2 : (t : ℕ) → last-field-lts.Need-same-length-2 (
   child-value-below t,
   child-value.Post,
@@ -2067,7 +2174,7 @@ last-field-same-length-2 : (t : ℕ) → last-field-lts.Need-same-length-2 (
 last-field-same-length-2 t c =
     search needs
 
--- src/lib.rt:1141:9
+-- src/lib.rt:1184:9
 last-field-returns-2 : (t : ℕ) → last-field-lts.Need-returns-2 (
   child-value-below t,
   child-value.Post,
@@ -2077,7 +2184,7 @@ last-field-returns-2 : (t : ℕ) → last-field-lts.Need-returns-2 (
 last-field-returns-2 t c =
     last-field-stop _ _ _ _ _ _ _ _ _ _ _ _ (c .before .before .before .before .child-value .ensures) (c .before .if1 .left) (c .if2 .taken)
 
--- src/lib.rt:1145:25
+-- src/lib.rt:1188:25
 last-field-sub-t21 : (t : ℕ) → last-field-lts.Need-sub-t21 (
   child-value-below t,
   child-value.Post,
@@ -2087,7 +2194,7 @@ last-field-sub-t21 : (t : ℕ) → last-field-lts.Need-sub-t21 (
 last-field-sub-t21 t c =
     c .before .before .before .before .before .before .before .before .before .pre .1 .5
 
--- src/lib.rt:1145:15
+-- src/lib.rt:1188:15
 last-field-add-t22 : (t : ℕ) → last-field-lts.Need-add-t22 (
   child-value-below t,
   child-value.Post,
@@ -2097,7 +2204,7 @@ last-field-add-t22 : (t : ℕ) → last-field-lts.Need-add-t22 (
 last-field-add-t22 t c =
     omega (arith, c .before .before .before .before .before .child-value .ensures .fits, c .before .before .before .before .before .before .before .before .before .before .pre .1 .3 .in-frame, c .before .before .before .before .before .before .before .before .before .before .pre .1 .5, c .before .before .before .before .before .before .before .before .before .before .pre .1 .4)
 
--- src/lib.rt:1103:1
+-- src/lib.rt:1146:1
 last-field-same-length-3 : (t : ℕ) → last-field-lts.Need-same-length-3 (
   child-value-below t,
   child-value.Post,
@@ -2107,7 +2214,7 @@ last-field-same-length-3 : (t : ℕ) → last-field-lts.Need-same-length-3 (
 last-field-same-length-3 t c =
     search needs
 
--- src/lib.rt:1103:1
+-- src/lib.rt:1146:1
 last-field-returns-3 : (t : ℕ) → last-field-lts.Need-returns-3 (
   child-value-below t,
   child-value.Post,
@@ -2117,7 +2224,7 @@ last-field-returns-3 : (t : ℕ) → last-field-lts.Need-returns-3 (
 last-field-returns-3 t c =
     last-field-done _ _ _ _ _ _ _ _ _ _ _ _ (c .before .before .before .before .before .child-value .ensures) (c .before .before .if1 .left) (c .before .before .before .before .before .before .before .before .before .before .pre .1 .5) (c .before .if2 .left)
 
--- src/lib.rt:515:38
+-- src/lib.rt:538:38
 maybe-add-emit : (t : ℕ) → maybe-lts.Need-add-emit (
   emit-reads.Asked,
   emit-reads.Learnt,
@@ -2131,7 +2238,7 @@ maybe-add-emit : (t : ℕ) → maybe-lts.Need-add-emit (
 maybe-add-emit t c =
     omega arith
 
--- src/lib.rt:515:13
+-- src/lib.rt:538:13
 maybe-emit-requires : (t : ℕ) → maybe-lts.Need-emit-requires (
   emit-reads.Asked,
   emit-reads.Learnt,
@@ -2145,7 +2252,7 @@ maybe-emit-requires : (t : ℕ) → maybe-lts.Need-emit-requires (
 maybe-emit-requires t c κs =
     search needs
 
--- src/lib.rt:516:9
+-- src/lib.rt:539:9
 maybe-same-length : (t : ℕ) → maybe-lts.Need-same-length (
   emit-reads.Asked,
   emit-reads.Learnt,
@@ -2159,7 +2266,7 @@ maybe-same-length : (t : ℕ) → maybe-lts.Need-same-length (
 maybe-same-length t c =
     search needs
 
--- src/lib.rt:516:9
+-- src/lib.rt:539:9
 maybe-returns : (t : ℕ) → maybe-lts.Need-returns (
   emit-reads.Asked,
   emit-reads.Learnt,
@@ -2173,7 +2280,7 @@ maybe-returns : (t : ℕ) → maybe-lts.Need-returns (
 maybe-returns t c =
     maybe-none _ _ (c .before .before .before .before .before .before .before .before .pre .1 .0) (c .before .before .before .before .before .before .before .before .pre .1 .1) _ _ _ _ _ _ _ _ _ _ (c .before .before .before .before .if1 .taken) (c .before .before .emit .ensures .0) (c .before .before .emit .ensures .1)
 
--- src/lib.rt:522:9
+-- src/lib.rt:545:9
 maybe-inc-maybe-requires : (t : ℕ) → maybe-lts.Need-inc-maybe-requires (
   emit-reads.Asked,
   emit-reads.Learnt,
@@ -2187,7 +2294,7 @@ maybe-inc-maybe-requires : (t : ℕ) → maybe-lts.Need-inc-maybe-requires (
 maybe-inc-maybe-requires t c κs =
     search needs
 
--- src/lib.rt:526:9
+-- src/lib.rt:549:9
 maybe-returns-2 : (t : ℕ) → maybe-lts.Need-returns-2 (
   emit-reads.Asked,
   emit-reads.Learnt,
@@ -2201,7 +2308,7 @@ maybe-returns-2 : (t : ℕ) → maybe-lts.Need-returns-2 (
 maybe-returns-2 t c =
     maybe-deep _ _ (c .before .before .before .before .before .before .before .pre .1 .0) (c .before .before .before .before .before .before .before .pre .1 .1) _ _ _ _ _ _ _ _ (c .before .before .before .if1 .left) _ (c .before .before .inc-maybe .ensures) (c .if2 .taken)
 
--- src/lib.rt:532:31
+-- src/lib.rt:555:31
 maybe-add-emit-2 : (t : ℕ) → maybe-lts.Need-add-emit-2 (
   emit-reads.Asked,
   emit-reads.Learnt,
@@ -2215,7 +2322,7 @@ maybe-add-emit-2 : (t : ℕ) → maybe-lts.Need-add-emit-2 (
 maybe-add-emit-2 t c =
     omega arith
 
--- src/lib.rt:532:9
+-- src/lib.rt:555:9
 maybe-emit-requires-2 : (t : ℕ) → maybe-lts.Need-emit-requires-2 (
   emit-reads.Asked,
   emit-reads.Learnt,
@@ -2229,7 +2336,7 @@ maybe-emit-requires-2 : (t : ℕ) → maybe-lts.Need-emit-requires-2 (
 maybe-emit-requires-2 t c κs =
     search needs
 
--- src/lib.rt:533:14
+-- src/lib.rt:556:14
 maybe-add-of : (t : ℕ) → maybe-lts.Need-add-of (
   emit-reads.Asked,
   emit-reads.Learnt,
@@ -2243,7 +2350,7 @@ maybe-add-of : (t : ℕ) → maybe-lts.Need-add-of (
 maybe-add-of t c =
     omega (arith, cut (c .before .before .before .before .before .before .before .before .before .before .before .args .text .now) (c .before .before .before .before .before .before .before .before .before .before .before .args .at) Maybe 109 (c .before .before .before .before .before .before .before .before .before .before .before .pre .1 .1) refl .within, c .before .before .before .before .before .before .before .before .before .before .before .pre .1 .0 .short)
 
--- src/lib.rt:534:9
+-- src/lib.rt:557:9
 maybe-child-at-requires : (t : ℕ) → maybe-lts.Need-child-at-requires (
   emit-reads.Asked,
   emit-reads.Learnt,
@@ -2257,7 +2364,7 @@ maybe-child-at-requires : (t : ℕ) → maybe-lts.Need-child-at-requires (
 maybe-child-at-requires t c κs =
     search needs
 
--- src/lib.rt:538:9
+-- src/lib.rt:561:9
 maybe-child-value-requires : (t : ℕ) → maybe-lts.Need-child-value-requires (
   emit-reads.Asked,
   emit-reads.Learnt,
@@ -2271,7 +2378,7 @@ maybe-child-value-requires : (t : ℕ) → maybe-lts.Need-child-value-requires (
 maybe-child-value-requires t c κs =
     (omega (arith, level-falls Depth.maybe (c .before .before .before .before .before .before .before .before .before .before .before .before .before .before .args .d) (c .before .before .before .before .before .before .before .before .before .inc-maybe .result) (c .before .before .before .before .before .before .before .before .before .inc-maybe .ensures) (c .before .before .before .before .before .before .before .if2 .left), c .before .before .before .before .before .before .before .before .before .before .before .before .before .before .pre .0), (maybe-typed _ _ (c .before .before .before .before .before .before .before .before .before .before .before .before .before .before .pre .1 .0) (c .before .before .before .before .before .before .before .before .before .before .before .before .before .before .pre .1 .1), c .before .before .child-at .ensures, within-raised Depth.maybe (c .before .before .before .before .before .before .before .before .before .before .before .before .before .before .args .d) (c .before .before .before .before .before .before .before .before .before .inc-maybe .result) (c .before .before .before .before .before .before .before .before .before .before .before .before .before .before .pre .1 .2) (c .before .before .before .before .before .before .before .before .before .inc-maybe .ensures) (c .before .before .before .before .before .before .before .if2 .left), c .before .before .before .before .before .before .before .before .before .before .before .before .before .before .pre .1 .3))
 
--- src/lib.rt:538:9
+-- src/lib.rt:561:9
 maybe-same-length-2 : (t : ℕ) → maybe-lts.Need-same-length-2 (
   emit-reads.Asked,
   emit-reads.Learnt,
@@ -2285,7 +2392,7 @@ maybe-same-length-2 : (t : ℕ) → maybe-lts.Need-same-length-2 (
 maybe-same-length-2 t c =
     search needs
 
--- src/lib.rt:538:9
+-- src/lib.rt:561:9
 maybe-returns-3 : (t : ℕ) → maybe-lts.Need-returns-3 (
   emit-reads.Asked,
   emit-reads.Learnt,
@@ -2299,7 +2406,7 @@ maybe-returns-3 : (t : ℕ) → maybe-lts.Need-returns-3 (
 maybe-returns-3 t c =
     maybe-fixed _ _ (c .before .before .before .before .before .before .before .before .before .before .before .before .before .before .before .before .before .pre .1 .0) (c .before .before .before .before .before .before .before .before .before .before .before .before .before .before .before .before .before .pre .1 .1) _ _ _ _ _ _ _ _ (c .before .before .before .before .before .before .before .before .before .before .before .before .before .if1 .left) _ (c .before .before .before .before .before .before .before .before .before .before .before .before .inc-maybe .ensures) (c .before .before .before .before .before .before .before .before .before .before .if2 .left) _ _ (c .before .before .before .before .before .before .before .before .emit2 .ensures .0) (c .before .before .before .before .before .before .before .before .emit2 .ensures .1) _ _ (sym (fixed-is _ _ _ (maybe-typed _ _ (c .before .before .before .before .before .before .before .before .before .before .before .before .before .before .before .before .before .pre .1 .0) (c .before .before .before .before .before .before .before .before .before .before .before .before .before .before .before .before .before .pre .1 .1)) (c .before .before .before .before .before .child-at .ensures)) ∙ c .before .before .before .before .if3 .taken) (c .before .before .child-value .ensures)
 
--- src/lib.rt:559:9
+-- src/lib.rt:582:9
 maybe-sub-child-value : (t : ℕ) → maybe-lts.Need-sub-child-value (
   emit-reads.Asked,
   emit-reads.Learnt,
@@ -2313,7 +2420,7 @@ maybe-sub-child-value : (t : ℕ) → maybe-lts.Need-sub-child-value (
 maybe-sub-child-value t c =
     omega arith
 
--- src/lib.rt:553:9
+-- src/lib.rt:576:9
 maybe-child-value-requires-2 : (t : ℕ) → maybe-lts.Need-child-value-requires-2 (
   emit-reads.Asked,
   emit-reads.Learnt,
@@ -2327,7 +2434,7 @@ maybe-child-value-requires-2 : (t : ℕ) → maybe-lts.Need-child-value-requires
 maybe-child-value-requires-2 t c κs =
     (omega (arith, level-falls Depth.maybe (c .before .before .before .before .before .before .before .before .before .before .before .before .before .before .args .d) (c .before .before .before .before .before .before .before .before .before .inc-maybe .result) (c .before .before .before .before .before .before .before .before .before .inc-maybe .ensures) (c .before .before .before .before .before .before .before .if2 .left), c .before .before .before .before .before .before .before .before .before .before .before .before .before .before .pre .0), (maybe-typed _ _ (c .before .before .before .before .before .before .before .before .before .before .before .before .before .before .pre .1 .0) (c .before .before .before .before .before .before .before .before .before .before .before .before .before .before .pre .1 .1), c .before .before .child-at .ensures, within-raised Depth.maybe (c .before .before .before .before .before .before .before .before .before .before .before .before .before .before .args .d) (c .before .before .before .before .before .before .before .before .before .inc-maybe .result) (c .before .before .before .before .before .before .before .before .before .before .before .before .before .before .pre .1 .2) (c .before .before .before .before .before .before .before .before .before .inc-maybe .ensures) (c .before .before .before .before .before .before .before .if2 .left), c .before .before .before .before .before .before .before .before .before .before .before .before .before .before .pre .1 .3))
 
--- src/lib.rt:570:9
+-- src/lib.rt:593:9
 maybe-same-length-3 : (t : ℕ) → maybe-lts.Need-same-length-3 (
   emit-reads.Asked,
   emit-reads.Learnt,
@@ -2341,7 +2448,7 @@ maybe-same-length-3 : (t : ℕ) → maybe-lts.Need-same-length-3 (
 maybe-same-length-3 t c =
     search needs
 
--- src/lib.rt:570:9
+-- src/lib.rt:593:9
 maybe-returns-4 : (t : ℕ) → maybe-lts.Need-returns-4 (
   emit-reads.Asked,
   emit-reads.Learnt,
@@ -2355,7 +2462,7 @@ maybe-returns-4 : (t : ℕ) → maybe-lts.Need-returns-4 (
 maybe-returns-4 t c =
     maybe-stop _ _ (c .before .before .before .before .before .before .before .before .before .before .before .before .before .before .before .before .before .before .pre .1 .0) (c .before .before .before .before .before .before .before .before .before .before .before .before .before .before .before .before .before .before .pre .1 .1) _ _ _ _ _ _ _ _ (c .before .before .before .before .before .before .before .before .before .before .before .before .before .before .if1 .left) _ (c .before .before .before .before .before .before .before .before .before .before .before .before .before .inc-maybe .ensures) (c .before .before .before .before .before .before .before .before .before .before .before .if2 .left) _ _ (c .before .before .before .before .before .before .before .before .before .emit2 .ensures .0) (c .before .before .before .before .before .before .before .before .before .emit2 .ensures .1) (sym (fixed-is _ _ _ (maybe-typed _ _ (c .before .before .before .before .before .before .before .before .before .before .before .before .before .before .before .before .before .before .pre .1 .0) (c .before .before .before .before .before .before .before .before .before .before .before .before .before .before .before .before .before .before .pre .1 .1)) (c .before .before .before .before .before .before .child-at .ensures)) ∙ c .before .before .before .before .before .if3 .left) _ _ (c .before .before .before .child-value2 .ensures) (c .if4 .taken)
 
--- src/lib.rt:572:13
+-- src/lib.rt:595:13
 maybe-add-if5 : (t : ℕ) → maybe-lts.Need-add-if5 (
   emit-reads.Asked,
   emit-reads.Learnt,
@@ -2369,7 +2476,7 @@ maybe-add-if5 : (t : ℕ) → maybe-lts.Need-add-if5 (
 maybe-add-if5 t c =
     let e = c .before .before .before .child-value2 .ensures .fits in omega (arith, c .before .before .before .before .before .before .before .before .before .before .before .before .before .before .before .before .before .before .pre .1 .2 .in-frame, c .before .before .before .before .before .before .before .before .before .before .before .before .before .before .before .before .before .before .pre .1 .3)
 
--- src/lib.rt:572:8
+-- src/lib.rt:595:8
 maybe-shared-slice-read-if5 : (t : ℕ) → maybe-lts.Need-shared-slice-read-if5 (
   emit-reads.Asked,
   emit-reads.Learnt,
@@ -2383,7 +2490,7 @@ maybe-shared-slice-read-if5 : (t : ℕ) → maybe-lts.Need-shared-slice-read-if5
 maybe-shared-slice-read-if5 t c =
     let e = c .before .before .before .before .child-value2 .ensures .ends (c .before .if4 .left) in omega (arith, c .before .before .before .before .before .before .before .before .before .before .before .before .before .before .before .if1 .left)
 
--- src/lib.rt:573:9
+-- src/lib.rt:596:9
 maybe-same-length-4 : (t : ℕ) → maybe-lts.Need-same-length-4 (
   emit-reads.Asked,
   emit-reads.Learnt,
@@ -2397,7 +2504,7 @@ maybe-same-length-4 : (t : ℕ) → maybe-lts.Need-same-length-4 (
 maybe-same-length-4 t c =
     search needs
 
--- src/lib.rt:573:9
+-- src/lib.rt:596:9
 maybe-returns-5 : (t : ℕ) → maybe-lts.Need-returns-5 (
   emit-reads.Asked,
   emit-reads.Learnt,
@@ -2411,7 +2518,7 @@ maybe-returns-5 : (t : ℕ) → maybe-lts.Need-returns-5 (
 maybe-returns-5 t c =
     maybe-seven _ _ (c .before .before .before .before .before .before .before .before .before .before .before .before .before .before .before .before .before .before .before .before .pre .1 .0) (c .before .before .before .before .before .before .before .before .before .before .before .before .before .before .before .before .before .before .before .before .pre .1 .1) _ _ _ _ _ _ _ _ (c .before .before .before .before .before .before .before .before .before .before .before .before .before .before .before .before .if1 .left) _ (c .before .before .before .before .before .before .before .before .before .before .before .before .before .before .before .inc-maybe .ensures) (c .before .before .before .before .before .before .before .before .before .before .before .before .before .if2 .left) _ _ (c .before .before .before .before .before .before .before .before .before .before .before .emit2 .ensures .0) (c .before .before .before .before .before .before .before .before .before .before .before .emit2 .ensures .1) (sym (fixed-is _ _ _ (maybe-typed _ _ (c .before .before .before .before .before .before .before .before .before .before .before .before .before .before .before .before .before .before .before .before .pre .1 .0) (c .before .before .before .before .before .before .before .before .before .before .before .before .before .before .before .before .before .before .before .before .pre .1 .1)) (c .before .before .before .before .before .before .before .before .child-at .ensures)) ∙ c .before .before .before .before .before .before .before .if3 .left) _ _ (c .before .before .before .before .before .child-value2 .ensures) (c .before .before .if4 .left) (λ z. c .if5 .taken (sym (within-default (c .before .before .before .before .before .before .before .before .before .before .before .before .before .before .before .before .before .before .before .before .args .part .now) (c .before .before .before .before .before .before .before .before .before .before .before .before .before .before .before .before .before .before .before .before .args .lead + c .before .before .before .before .before .child-value2 .result .used) (let e = c .before .before .before .before .before .child-value2 .ensures .ends (c .before .before .if4 .left) in omega (arith, c .before .before .before .before .before .before .before .before .before .before .before .before .before .before .before .before .if1 .left))) ∙ z))
 
--- src/lib.rt:581:15
+-- src/lib.rt:604:15
 maybe-add-t23 : (t : ℕ) → maybe-lts.Need-add-t23 (
   emit-reads.Asked,
   emit-reads.Learnt,
@@ -2425,7 +2532,7 @@ maybe-add-t23 : (t : ℕ) → maybe-lts.Need-add-t23 (
 maybe-add-t23 t c =
     let e = c .before .before .before .before .before .child-value2 .ensures .fits in omega (arith, c .before .before .before .before .before .before .before .before .before .before .before .before .before .before .before .before .before .before .before .before .pre .1 .2 .in-frame, c .before .before .before .before .before .before .before .before .before .before .before .before .before .before .before .before .before .before .before .before .pre .1 .3)
 
--- src/lib.rt:499:1
+-- src/lib.rt:522:1
 maybe-same-length-5 : (t : ℕ) → maybe-lts.Need-same-length-5 (
   emit-reads.Asked,
   emit-reads.Learnt,
@@ -2439,7 +2546,7 @@ maybe-same-length-5 : (t : ℕ) → maybe-lts.Need-same-length-5 (
 maybe-same-length-5 t c =
     search needs
 
--- src/lib.rt:499:1
+-- src/lib.rt:522:1
 maybe-returns-6 : (t : ℕ) → maybe-lts.Need-returns-6 (
   emit-reads.Asked,
   emit-reads.Learnt,
@@ -2453,7 +2560,7 @@ maybe-returns-6 : (t : ℕ) → maybe-lts.Need-returns-6 (
 maybe-returns-6 t c =
     maybe-closed _ _ (c .before .before .before .before .before .before .before .before .before .before .before .before .before .before .before .before .before .before .before .before .pre .1 .0) (c .before .before .before .before .before .before .before .before .before .before .before .before .before .before .before .before .before .before .before .before .pre .1 .1) _ _ _ _ _ _ _ _ (c .before .before .before .before .before .before .before .before .before .before .before .before .before .before .before .before .if1 .left) _ (c .before .before .before .before .before .before .before .before .before .before .before .before .before .before .before .inc-maybe .ensures) (c .before .before .before .before .before .before .before .before .before .before .before .before .before .if2 .left) _ _ (c .before .before .before .before .before .before .before .before .before .before .before .emit2 .ensures .0) (c .before .before .before .before .before .before .before .before .before .before .before .emit2 .ensures .1) (sym (fixed-is _ _ _ (maybe-typed _ _ (c .before .before .before .before .before .before .before .before .before .before .before .before .before .before .before .before .before .before .before .before .pre .1 .0) (c .before .before .before .before .before .before .before .before .before .before .before .before .before .before .before .before .before .before .before .before .pre .1 .1)) (c .before .before .before .before .before .before .before .before .child-at .ensures)) ∙ c .before .before .before .before .before .before .before .if3 .left) _ _ (c .before .before .before .before .before .child-value2 .ensures) (c .before .before .if4 .left) (within-default (c .before .before .before .before .before .before .before .before .before .before .before .before .before .before .before .before .before .before .before .before .args .part .now) (c .before .before .before .before .before .before .before .before .before .before .before .before .before .before .before .before .before .before .before .before .args .lead + c .before .before .before .before .before .child-value2 .result .used) (let e = c .before .before .before .before .before .child-value2 .ensures .ends (c .before .before .if4 .left) in omega (arith, c .before .before .before .before .before .before .before .before .before .before .before .before .before .before .before .before .if1 .left)) ∙ c .if5 .left)
 
--- src/lib.rt:780:9
+-- src/lib.rt:823:9
 step-child-value-requires : (t : ℕ) → step-lts.Need-child-value-requires (
   child-value-below t,
   child-value.Post,
@@ -2467,7 +2574,7 @@ step-child-value-requires : (t : ℕ) → step-lts.Need-child-value-requires (
 step-child-value-requires t c κs =
     (omega (arith, c .before .before .before .before .before .before .pre .0), (c .before .before .before .before .before .before .pre .1 .0 .typed, c .before .before .before .before .before .before .pre .1 .0 .child, c .before .before .before .before .before .before .pre .1 .1, c .before .before .before .before .before .before .pre .1 .2))
 
--- src/lib.rt:780:9
+-- src/lib.rt:823:9
 step-same-length : (t : ℕ) → step-lts.Need-same-length (
   child-value-below t,
   child-value.Post,
@@ -2481,7 +2588,7 @@ step-same-length : (t : ℕ) → step-lts.Need-same-length (
 step-same-length t c =
     search needs
 
--- src/lib.rt:780:9
+-- src/lib.rt:823:9
 step-returns : (t : ℕ) → step-lts.Need-returns (
   child-value-below t,
   child-value.Post,
@@ -2495,7 +2602,7 @@ step-returns : (t : ℕ) → step-lts.Need-returns (
 step-returns t c =
     step-child (c .before .before .before .before .before .before .before .before .before .args .position) (c .before .before .before .before .before .before .before .before .before .args .big) (c .before .before .before .before .before .before .before .before .before .args .d .variant) (c .before .before .before .before .before .before .before .before .before .args .text .now) (c .before .before .before .before .before .before .before .before .before .args .item) (depthsOf (c .before .before .before .before .before .before .before .before .before .args .d)) (c .before .before .before .before .before .before .before .before .before .args .place) (c .before .before .before .before .before .before .before .before .before .args .part .now) (c .before .before .before .before .before .before .before .before .before .args .b) (c .before .before .before .before .before .before .before .before .before .args .j) (c .before .before .before .before .before .before .before .before .before .args .e) (c .before .before .before .before .before .before .before .before .before .args .n) _ _ _ (denied (c .before .before .before .before .if1 .taken)) (c .before .before .child-value .ensures)
 
--- src/lib.rt:782:33
+-- src/lib.rt:825:33
 step-add-parse-padding : (t : ℕ) → step-lts.Need-add-parse-padding (
   child-value-below t,
   child-value.Post,
@@ -2509,7 +2616,7 @@ step-add-parse-padding : (t : ℕ) → step-lts.Need-add-parse-padding (
 step-add-parse-padding t c =
     omega (arith, c .before .before .before .before .before .pre .1 .1 .in-frame, c .before .before .before .before .before .pre .1 .1 .near)
 
--- src/lib.rt:782:9
+-- src/lib.rt:825:9
 step-parse-padding-requires : (t : ℕ) → step-lts.Need-parse-padding-requires (
   child-value-below t,
   child-value.Post,
@@ -2523,7 +2630,7 @@ step-parse-padding-requires : (t : ℕ) → step-lts.Need-parse-padding-requires
 step-parse-padding-requires t c κs =
     search needs
 
--- src/lib.rt:786:9
+-- src/lib.rt:829:9
 step-returns-2 : (t : ℕ) → step-lts.Need-returns-2 (
   child-value-below t,
   child-value.Post,
@@ -2537,7 +2644,7 @@ step-returns-2 : (t : ℕ) → step-lts.Need-returns-2 (
 step-returns-2 t c =
     step-unpadded (c .before .before .before .before .before .before .before .args .position) (c .before .before .before .before .before .before .before .args .big) (c .before .before .before .before .before .before .before .args .d .variant) (c .before .before .before .before .before .before .before .args .text .now) (c .before .before .before .before .before .before .before .args .item) (depthsOf (c .before .before .before .before .before .before .before .args .d)) (c .before .before .before .before .before .before .before .args .place) (c .before .before .before .before .before .before .before .args .part .now) (c .before .before .before .before .before .before .before .args .b) (c .before .before .before .before .before .before .before .args .j) (c .before .before .before .before .before .before .before .args .e) (c .before .before .before .before .before .before .before .args .n) _ (granted (c .before .before .if1 .left)) _ (c .before .before .before .before .before .before .before .pre .1 .0 .aligned) (omega (arith, c .before .before .before .before .before .before .before .pre .1 .1 .in-frame, c .before .before .before .before .before .before .before .pre .1 .1 .near, c .before .before .before .before .before .before .before .pre .1 .2)) (c .before .before .before .before .before .before .before .pre .1 .2) (c .before .parse-padding .ensures) (c .if2 .taken)
 
--- src/lib.rt:792:16
+-- src/lib.rt:835:16
 step-add-from : (t : ℕ) → step-lts.Need-add-from (
   child-value-below t,
   child-value.Post,
@@ -2551,7 +2658,7 @@ step-add-from : (t : ℕ) → step-lts.Need-add-from (
 step-add-from t c =
     omega (arith, entry-within _ _ _ _ _ _ (c .before .before .before .before .before .before .before .pre .1 .0 .aligned) (omega (arith, c .before .before .before .before .before .before .before .pre .1 .1 .in-frame, c .before .before .before .before .before .before .before .pre .1 .1 .near, c .before .before .before .before .before .before .before .pre .1 .2)) (c .before .before .before .before .before .before .before .pre .1 .2) (c .before .parse-padding .ensures), c .before .before .before .before .before .before .before .pre .1 .1 .in-frame)
 
--- src/lib.rt:795:13
+-- src/lib.rt:838:13
 step-fixed-key-requires : (t : ℕ) → step-lts.Need-fixed-key-requires (
   child-value-below t,
   child-value.Post,
@@ -2565,7 +2672,7 @@ step-fixed-key-requires : (t : ℕ) → step-lts.Need-fixed-key-requires (
 step-fixed-key-requires t c κs =
     (omega (arith, c .before .before .before .before .before .before .before .before .before .pre .0), (c .before .before .before .before .before .before .before .before .before .pre .1 .0, c .before .before .before .before .before .before .before .before .before .pre .1 .1, entry-within _ _ _ _ _ _ (c .before .before .before .before .before .before .before .before .before .pre .1 .0 .aligned) (omega (arith, c .before .before .before .before .before .before .before .before .before .pre .1 .1 .in-frame, c .before .before .before .before .before .before .before .before .before .pre .1 .1 .near, c .before .before .before .before .before .before .before .before .before .pre .1 .2)) (c .before .before .before .before .before .before .before .before .before .pre .1 .2) (c .before .before .before .parse-padding .ensures), omega (arith, c .before .before .before .before .before .before .before .before .before .pre .1 .3, c .before .before .before .before .before .before .before .before .before .pre .1 .4), c .before .before .before .before .before .before .before .before .before .pre .1 .5))
 
--- src/lib.rt:798:19
+-- src/lib.rt:841:19
 step-add-t29 : (t : ℕ) → step-lts.Need-add-t29 (
   child-value-below t,
   child-value.Post,
@@ -2579,7 +2686,7 @@ step-add-t29 : (t : ℕ) → step-lts.Need-add-t29 (
 step-add-t29 t c =
     omega (arith, c .before .before .before .fixed-key .ensures 0 .fits, entry-within _ _ _ _ _ _ (c .before .before .before .before .before .before .before .before .before .before .before .before .before .pre .1 .0 .aligned) (omega (arith, c .before .before .before .before .before .before .before .before .before .before .before .before .before .pre .1 .1 .in-frame, c .before .before .before .before .before .before .before .before .before .before .before .before .before .pre .1 .1 .near, c .before .before .before .before .before .before .before .before .before .before .before .before .before .pre .1 .2)) (c .before .before .before .before .before .before .before .before .before .before .before .before .before .pre .1 .2) (c .before .before .before .before .before .before .before .parse-padding .ensures), c .before .before .before .before .before .before .before .before .before .before .before .before .before .pre .1 .1 .in-frame)
 
--- src/lib.rt:796:9
+-- src/lib.rt:839:9
 step-same-length-2 : (t : ℕ) → step-lts.Need-same-length-2 (
   child-value-below t,
   child-value.Post,
@@ -2593,7 +2700,7 @@ step-same-length-2 : (t : ℕ) → step-lts.Need-same-length-2 (
 step-same-length-2 t c =
     search needs
 
--- src/lib.rt:796:9
+-- src/lib.rt:839:9
 step-returns-3 : (t : ℕ) → step-lts.Need-returns-3 (
   child-value-below t,
   child-value.Post,
@@ -2607,7 +2714,7 @@ step-returns-3 : (t : ℕ) → step-lts.Need-returns-3 (
 step-returns-3 t c =
     step-keyed (c .before .before .before .before .before .before .before .before .before .before .before .before .before .args .position) (c .before .before .before .before .before .before .before .before .before .before .before .before .before .args .big) (c .before .before .before .before .before .before .before .before .before .before .before .before .before .args .d .variant) (c .before .before .before .before .before .before .before .before .before .before .before .before .before .args .text .now) (c .before .before .before .before .before .before .before .before .before .before .before .before .before .args .item) (depthsOf (c .before .before .before .before .before .before .before .before .before .before .before .before .before .args .d)) (c .before .before .before .before .before .before .before .before .before .before .before .before .before .args .place) (c .before .before .before .before .before .before .before .before .before .before .before .before .before .args .part .now) (c .before .before .before .before .before .before .before .before .before .before .before .before .before .args .b) (c .before .before .before .before .before .before .before .before .before .before .before .before .before .args .j) (c .before .before .before .before .before .before .before .before .before .before .before .before .before .args .e) (c .before .before .before .before .before .before .before .before .before .before .before .before .before .args .n) _ (granted (c .before .before .before .before .before .before .before .before .if1 .left)) _ (c .before .before .before .before .before .before .before .before .before .before .before .before .before .pre .1 .0 .aligned) (omega (arith, c .before .before .before .before .before .before .before .before .before .before .before .before .before .pre .1 .1 .in-frame, c .before .before .before .before .before .before .before .before .before .before .before .before .before .pre .1 .1 .near, c .before .before .before .before .before .before .before .before .before .before .before .before .before .pre .1 .2)) (c .before .before .before .before .before .before .before .before .before .before .before .before .before .pre .1 .2) (c .before .before .before .before .before .before .before .parse-padding .ensures) (c .before .before .before .before .before .before .if2 .left) _ _ (c .before .before .before .before .before .if3 .taken) (c .before .before .before .fixed-key .ensures _)
 
--- src/lib.rt:802:9
+-- src/lib.rt:845:9
 step-text-key-requires : (t : ℕ) → step-lts.Need-text-key-requires (
   child-value-below t,
   child-value.Post,
@@ -2621,7 +2728,7 @@ step-text-key-requires : (t : ℕ) → step-lts.Need-text-key-requires (
 step-text-key-requires t c κs =
     (omega (arith, c .before .before .before .before .before .before .before .before .before .pre .0), (c .before .before .before .before .before .before .before .before .before .pre .1 .0, c .before .before .before .before .before .before .before .before .before .pre .1 .1, entry-within _ _ _ _ _ _ (c .before .before .before .before .before .before .before .before .before .pre .1 .0 .aligned) (omega (arith, c .before .before .before .before .before .before .before .before .before .pre .1 .1 .in-frame, c .before .before .before .before .before .before .before .before .before .pre .1 .1 .near, c .before .before .before .before .before .before .before .before .before .pre .1 .2)) (c .before .before .before .before .before .before .before .before .before .pre .1 .2) (c .before .before .before .parse-padding .ensures), c .before .before .before .before .before .before .before .before .before .pre .1 .3, c .before .before .before .before .before .before .before .before .before .pre .1 .4))
 
--- src/lib.rt:818:15
+-- src/lib.rt:861:15
 step-add-t26 : (t : ℕ) → step-lts.Need-add-t26 (
   child-value-below t,
   child-value.Post,
@@ -2635,7 +2742,7 @@ step-add-t26 : (t : ℕ) → step-lts.Need-add-t26 (
 step-add-t26 t c =
     omega (arith, c .before .before .before .text-key .ensures .fits, entry-within _ _ _ _ _ _ (c .before .before .before .before .before .before .before .before .before .before .before .before .before .pre .1 .0 .aligned) (omega (arith, c .before .before .before .before .before .before .before .before .before .before .before .before .before .pre .1 .1 .in-frame, c .before .before .before .before .before .before .before .before .before .before .before .before .before .pre .1 .1 .near, c .before .before .before .before .before .before .before .before .before .before .before .before .before .pre .1 .2)) (c .before .before .before .before .before .before .before .before .before .before .before .before .before .pre .1 .2) (c .before .before .before .before .before .before .before .parse-padding .ensures), c .before .before .before .before .before .before .before .before .before .before .before .before .before .pre .1 .1 .in-frame)
 
--- src/lib.rt:759:1
+-- src/lib.rt:802:1
 step-same-length-3 : (t : ℕ) → step-lts.Need-same-length-3 (
   child-value-below t,
   child-value.Post,
@@ -2649,7 +2756,7 @@ step-same-length-3 : (t : ℕ) → step-lts.Need-same-length-3 (
 step-same-length-3 t c =
     search needs
 
--- src/lib.rt:759:1
+-- src/lib.rt:802:1
 step-returns-4 : (t : ℕ) → step-lts.Need-returns-4 (
   child-value-below t,
   child-value.Post,
@@ -2663,7 +2770,7 @@ step-returns-4 : (t : ℕ) → step-lts.Need-returns-4 (
 step-returns-4 t c =
     step-text (c .before .before .before .before .before .before .before .before .before .before .before .before .before .args .position) (c .before .before .before .before .before .before .before .before .before .before .before .before .before .args .big) (c .before .before .before .before .before .before .before .before .before .before .before .before .before .args .d .variant) (c .before .before .before .before .before .before .before .before .before .before .before .before .before .args .text .now) (c .before .before .before .before .before .before .before .before .before .before .before .before .before .args .item) (depthsOf (c .before .before .before .before .before .before .before .before .before .before .before .before .before .args .d)) (c .before .before .before .before .before .before .before .before .before .before .before .before .before .args .place) (c .before .before .before .before .before .before .before .before .before .before .before .before .before .args .part .now) (c .before .before .before .before .before .before .before .before .before .before .before .before .before .args .b) (c .before .before .before .before .before .before .before .before .before .before .before .before .before .args .j) (c .before .before .before .before .before .before .before .before .before .before .before .before .before .args .e) (c .before .before .before .before .before .before .before .before .before .before .before .before .before .args .n) _ (granted (c .before .before .before .before .before .before .before .before .if1 .left)) _ (c .before .before .before .before .before .before .before .before .before .before .before .before .before .pre .1 .0 .aligned) (omega (arith, c .before .before .before .before .before .before .before .before .before .before .before .before .before .pre .1 .1 .in-frame, c .before .before .before .before .before .before .before .before .before .before .before .before .before .pre .1 .1 .near, c .before .before .before .before .before .before .before .before .before .before .before .before .before .pre .1 .2)) (c .before .before .before .before .before .before .before .before .before .before .before .before .before .pre .1 .2) (c .before .before .before .before .before .before .before .parse-padding .ensures) (c .before .before .before .before .before .before .if2 .left) _ _ (c .before .before .before .before .before .if3 .left) (c .before .before .before .text-key .ensures)
 
--- src/lib.rt:978:9
+-- src/lib.rt:1021:9
 structure-inc-structure-requires : (t : ℕ) → structure-lts.Need-inc-structure-requires (
   inc-structure-reads.Asked,
   inc-structure-reads.Learnt,
@@ -2677,7 +2784,7 @@ structure-inc-structure-requires : (t : ℕ) → structure-lts.Need-inc-structur
 structure-inc-structure-requires t c κs =
     search needs
 
--- src/lib.rt:982:9
+-- src/lib.rt:1025:9
 structure-returns : (t : ℕ) → structure-lts.Need-returns (
   inc-structure-reads.Asked,
   inc-structure-reads.Learnt,
@@ -2691,7 +2798,7 @@ structure-returns : (t : ℕ) → structure-lts.Need-returns (
 structure-returns t c =
     structure-deep _ _ (c .before .before .before .before .before .before .pre .1 .0) (c .before .before .before .before .before .before .pre .1 .2) _ (c .before .before .before .before .before .before .pre .1 .1) _ _ _ _ _ _ _ _ _ (c .before .before .inc-structure .ensures) (c .if1 .taken)
 
--- src/lib.rt:988:30
+-- src/lib.rt:1031:30
 structure-add-emit : (t : ℕ) → structure-lts.Need-add-emit (
   inc-structure-reads.Asked,
   inc-structure-reads.Learnt,
@@ -2705,7 +2812,7 @@ structure-add-emit : (t : ℕ) → structure-lts.Need-add-emit (
 structure-add-emit t c =
     omega (arith, c .before .before .before .before .before .before .before .pre .1 .3 .in-frame, c .before .before .before .before .before .before .before .pre .1 .4)
 
--- src/lib.rt:988:9
+-- src/lib.rt:1031:9
 structure-emit-requires : (t : ℕ) → structure-lts.Need-emit-requires (
   inc-structure-reads.Asked,
   inc-structure-reads.Learnt,
@@ -2719,7 +2826,7 @@ structure-emit-requires : (t : ℕ) → structure-lts.Need-emit-requires (
 structure-emit-requires t c κs =
     search needs
 
--- src/lib.rt:991:9
+-- src/lib.rt:1034:9
 structure-add-fields : (t : ℕ) → structure-lts.Need-add-fields (
   inc-structure-reads.Asked,
   inc-structure-reads.Learnt,
@@ -2733,7 +2840,7 @@ structure-add-fields : (t : ℕ) → structure-lts.Need-add-fields (
 structure-add-fields t c =
     omega (arith, cut (c .before .before .before .before .before .before .before .before .before .before .args .text .now) (c .before .before .before .before .before .before .before .before .before .before .args .at) OpenStructure 40 (c .before .before .before .before .before .before .before .before .before .before .pre .1 .2) refl .within, c .before .before .before .before .before .before .before .before .before .before .pre .1 .0 .short)
 
--- src/lib.rt:989:9
+-- src/lib.rt:1032:9
 structure-fields-requires : (t : ℕ) → structure-lts.Need-fields-requires (
   inc-structure-reads.Asked,
   inc-structure-reads.Learnt,
@@ -2747,7 +2854,7 @@ structure-fields-requires : (t : ℕ) → structure-lts.Need-fields-requires (
 structure-fields-requires t c κs =
     (omega (arith, level-falls Depth.structure (c .before .before .before .before .before .before .before .before .before .before .before .args .d) (c .before .before .before .before .before .before .before .inc-structure .result) (c .before .before .before .before .before .before .before .inc-structure .ensures) (c .before .before .before .before .before .if1 .left), c .before .before .before .before .before .before .before .before .before .before .before .pre .0), (structure-rowed _ _ (c .before .before .before .before .before .before .before .before .before .before .before .pre .1 .0) (c .before .before .before .before .before .before .before .before .before .before .before .pre .1 .2), structure-fixed _ _ (c .before .before .before .before .before .before .before .before .before .before .before .pre .1 .0) (c .before .before .before .before .before .before .before .before .before .before .before .pre .1 .2) _ (c .before .before .before .before .before .before .before .before .before .before .before .pre .1 .1), child-aligned _ _ _ (c .before .before .before .before .before .before .before .before .before .before .before .pre .1 .0) (c .before .before .before .before .before .before .before .before .before .before .before .pre .1 .1), within-raised Depth.structure (c .before .before .before .before .before .before .before .before .before .before .before .args .d) (c .before .before .before .before .before .before .before .inc-structure .result) (c .before .before .before .before .before .before .before .before .before .before .before .pre .1 .3) (c .before .before .before .before .before .before .before .inc-structure .ensures) (c .before .before .before .before .before .if1 .left), c .before .before .before .before .before .before .before .before .before .before .before .pre .1 .4))
 
--- src/lib.rt:1003:14
+-- src/lib.rt:1046:14
 structure-add-close : (t : ℕ) → structure-lts.Need-add-close (
   inc-structure-reads.Asked,
   inc-structure-reads.Learnt,
@@ -2761,7 +2868,7 @@ structure-add-close : (t : ℕ) → structure-lts.Need-add-close (
 structure-add-close t c =
     omega (arith, c .before .before .before .before .before .before .before .before .before .before .before .before .before .before .pre .1 .3 .in-frame, c .before .before .before .before .before .before .before .before .before .before .before .before .before .before .pre .1 .4)
 
--- src/lib.rt:1003:5
+-- src/lib.rt:1046:5
 structure-close-requires : (t : ℕ) → structure-lts.Need-close-requires (
   inc-structure-reads.Asked,
   inc-structure-reads.Learnt,
@@ -2775,7 +2882,7 @@ structure-close-requires : (t : ℕ) → structure-lts.Need-close-requires (
 structure-close-requires t c κs =
     omega (arith, c .before .before .before .fields .ensures .fits, c .before .before .before .before .before .before .before .before .before .before .before .before .before .before .before .pre .1 .3 .in-frame, c .before .before .before .before .before .before .before .before .before .before .before .before .before .before .before .pre .1 .4)
 
--- src/lib.rt:962:1
+-- src/lib.rt:1005:1
 structure-same-length : (t : ℕ) → structure-lts.Need-same-length (
   inc-structure-reads.Asked,
   inc-structure-reads.Learnt,
@@ -2789,7 +2896,7 @@ structure-same-length : (t : ℕ) → structure-lts.Need-same-length (
 structure-same-length t c =
     search needs
 
--- src/lib.rt:962:1
+-- src/lib.rt:1005:1
 structure-returns-2 : (t : ℕ) → structure-lts.Need-returns-2 (
   inc-structure-reads.Asked,
   inc-structure-reads.Learnt,
@@ -2803,7 +2910,7 @@ structure-returns-2 : (t : ℕ) → structure-lts.Need-returns-2 (
 structure-returns-2 t c =
     structure-on _ _ (c .before .before .before .before .before .before .before .before .before .before .before .before .before .before .before .before .before .before .pre .1 .0) (c .before .before .before .before .before .before .before .before .before .before .before .before .before .before .before .before .before .before .pre .1 .2) _ (c .before .before .before .before .before .before .before .before .before .before .before .before .before .before .before .before .before .before .pre .1 .1) _ _ _ _ _ _ _ _ _ (c .before .before .before .before .before .before .before .before .before .before .before .before .before .before .inc-structure .ensures) _ _ _ _ (c .before .before .before .before .before .before .before .before .before .before .before .before .if1 .left) (c .before .before .before .before .before .before .before .before .before .before .emit .ensures .0) (c .before .before .before .before .before .before .before .before .before .before .emit .ensures .1) (c .before .before .close .ensures _ _ _ _ _ (c .before .before .before .before .before .before .fields .ensures))
 
--- src/lib.rt:899:9
+-- src/lib.rt:942:9
 text-key-returns : (t : ℕ) → text-key-lts.Need-returns (
   for-encoded-container-reads.Asked,
   for-encoded-container-reads.Learnt,
@@ -2819,7 +2926,7 @@ text-key-returns : (t : ℕ) → text-key-lts.Need-returns (
 text-key-returns t c =
     text-key-before _ _ _ _ _ _ _ _ _ _ _ _ _ (c .if1 .taken)
 
--- src/lib.rt:905:9
+-- src/lib.rt:948:9
 text-key-for-encoded-container-requires :
     (t : ℕ) → text-key-lts.Need-for-encoded-container-requires (
       for-encoded-container-reads.Asked,
@@ -2836,7 +2943,7 @@ text-key-for-encoded-container-requires :
 text-key-for-encoded-container-requires t c κs =
     search needs
 
--- src/lib.rt:906:9
+-- src/lib.rt:949:9
 text-key-width-requires : (t : ℕ) → text-key-lts.Need-width-requires (
   for-encoded-container-reads.Asked,
   for-encoded-container-reads.Learnt,
@@ -2852,7 +2959,7 @@ text-key-width-requires : (t : ℕ) → text-key-lts.Need-width-requires (
 text-key-width-requires t c κs =
     search needs
 
--- src/lib.rt:907:50
+-- src/lib.rt:950:50
 text-key-part-read-last-offset-from-buffer-start :
     (t : ℕ) → text-key-lts.Need-part-read-last-offset-from-buffer-start (
       for-encoded-container-reads.Asked,
@@ -2869,7 +2976,7 @@ text-key-part-read-last-offset-from-buffer-start :
 text-key-part-read-last-offset-from-buffer-start t c =
     omega arith
 
--- src/lib.rt:907:50
+-- src/lib.rt:950:50
 text-key-part-read-last-offset-from-buffer-end :
     (t : ℕ) → text-key-lts.Need-part-read-last-offset-from-buffer-end (
       for-encoded-container-reads.Asked,
@@ -2886,7 +2993,7 @@ text-key-part-read-last-offset-from-buffer-end :
 text-key-part-read-last-offset-from-buffer-end t c =
     omega arith
 
--- src/lib.rt:907:9
+-- src/lib.rt:950:9
 text-key-read-last-offset-from-buffer-requires :
     (t : ℕ) → text-key-lts.Need-read-last-offset-from-buffer-requires (
       for-encoded-container-reads.Asked,
@@ -2903,7 +3010,7 @@ text-key-read-last-offset-from-buffer-requires :
 text-key-read-last-offset-from-buffer-requires t c κs =
     search needs
 
--- src/lib.rt:909:8
+-- src/lib.rt:952:8
 text-key-sub-if2 : (t : ℕ) → text-key-lts.Need-sub-if2 (
   for-encoded-container-reads.Asked,
   for-encoded-container-reads.Learnt,
@@ -2919,7 +3026,7 @@ text-key-sub-if2 : (t : ℕ) → text-key-lts.Need-sub-if2 (
 text-key-sub-if2 t c =
     omega (arith, c .before .before .before .before .if1 .left, c .before .before .before .before .before .before .before .before .pre .1 .3)
 
--- src/lib.rt:910:9
+-- src/lib.rt:953:9
 text-key-returns-2 : (t : ℕ) → text-key-lts.Need-returns-2 (
   for-encoded-container-reads.Asked,
   for-encoded-container-reads.Learnt,
@@ -2935,7 +3042,7 @@ text-key-returns-2 : (t : ℕ) → text-key-lts.Need-returns-2 (
 text-key-returns-2 t c =
     text-key-past _ _ _ _ _ _ _ _ _ _ _ _ _ (c .before .before .before .before .before .if1 .left) (c .before .before .before .before .before .before .before .before .before .pre .1 .3) (c .before .before .before .before .before .before .before .before .before .pre .1 .4) _ _ (c .before .before .before .width .ensures ∙ c .before .before .before .before .for-encoded-container .ensures) ((key-end _ _ _ _ _ (c .before .before .before .before .before .if1 .left) (omega (arith, c .before .before .before .before .before .before .before .before .before .pre .1 .3, c .before .before .before .before .before .before .before .before .before .pre .1 .4)) (c .before .before .before .before .for-encoded-container .ensures) (c .before .read-last-offset-from-buffer .ensures)) .end) (c .if2 .taken)
 
--- src/lib.rt:917:37
+-- src/lib.rt:960:37
 text-key-add-child-key : (t : ℕ) → text-key-lts.Need-add-child-key (
   for-encoded-container-reads.Asked,
   for-encoded-container-reads.Learnt,
@@ -2951,7 +3058,7 @@ text-key-add-child-key : (t : ℕ) → text-key-lts.Need-add-child-key (
 text-key-add-child-key t c =
     omega (arith, c .before .before .before .before .before .if1 .left, c .if2 .left, c .before .before .before .before .before .before .before .before .before .pre .1 .1 .in-frame, c .before .before .before .before .before .before .before .before .before .pre .1 .3, c .before .before .before .before .before .before .before .before .before .pre .1 .4)
 
--- src/lib.rt:917:9
+-- src/lib.rt:960:9
 text-key-child-key-requires : (t : ℕ) → text-key-lts.Need-child-key-requires (
   for-encoded-container-reads.Asked,
   for-encoded-container-reads.Learnt,
@@ -2967,7 +3074,7 @@ text-key-child-key-requires : (t : ℕ) → text-key-lts.Need-child-key-requires
 text-key-child-key-requires t c κs =
     (c .before .before .before .before .before .before .before .before .before .before .pre .1 .1 .in-frame, c .before .before .before .before .before .before .before .before .before .before .pre .1 .1 .near, c .before .before .before .before .before .before .before .before .before .before .pre .1 .2, c .before .before .before .before .before .before .before .before .before .before .pre .1 .0 .key)
 
--- src/lib.rt:921:9
+-- src/lib.rt:964:9
 text-key-same-length : (t : ℕ) → text-key-lts.Need-same-length (
   for-encoded-container-reads.Asked,
   for-encoded-container-reads.Learnt,
@@ -2983,7 +3090,7 @@ text-key-same-length : (t : ℕ) → text-key-lts.Need-same-length (
 text-key-same-length t c =
     search needs
 
--- src/lib.rt:921:9
+-- src/lib.rt:964:9
 text-key-returns-3 : (t : ℕ) → text-key-lts.Need-returns-3 (
   for-encoded-container-reads.Asked,
   for-encoded-container-reads.Learnt,
@@ -2999,7 +3106,7 @@ text-key-returns-3 : (t : ℕ) → text-key-lts.Need-returns-3 (
 text-key-returns-3 t c =
     text-key-stop _ _ _ _ _ _ _ _ _ _ _ _ _ (c .before .before .before .before .before .before .before .before .before .before .if1 .left) (c .before .before .before .before .before .before .before .before .before .before .before .before .before .before .pre .1 .3) (c .before .before .before .before .before .before .before .before .before .before .before .before .before .before .pre .1 .4) _ _ (c .before .before .before .before .before .before .before .before .width .ensures ∙ c .before .before .before .before .before .before .before .before .before .for-encoded-container .ensures) ((key-end _ _ _ _ _ (c .before .before .before .before .before .before .before .before .before .before .if1 .left) (omega (arith, c .before .before .before .before .before .before .before .before .before .before .before .before .before .before .pre .1 .3, c .before .before .before .before .before .before .before .before .before .before .before .before .before .before .pre .1 .4)) (c .before .before .before .before .before .before .before .before .before .for-encoded-container .ensures) (c .before .before .before .before .before .before .read-last-offset-from-buffer .ensures)) .end) (c .before .before .before .before .before .if2 .left) _ _ (c .before .before .before .child-key .ensures (depthsOf (c .before .before .before .before .before .before .before .before .before .before .before .before .before .before .args .d))) (c .if3 .taken)
 
--- src/lib.rt:923:16
+-- src/lib.rt:966:16
 text-key-add-from : (t : ℕ) → text-key-lts.Need-add-from (
   for-encoded-container-reads.Asked,
   for-encoded-container-reads.Learnt,
@@ -3015,7 +3122,7 @@ text-key-add-from : (t : ℕ) → text-key-lts.Need-add-from (
 text-key-add-from t c =
     omega (arith, (c .before .before .before .child-key .ensures (depthsOf (c .before .before .before .before .before .before .before .before .before .before .before .before .before .before .args .d))) .fits, c .before .before .before .before .before .before .before .before .before .before .before .before .before .before .pre .1 .1 .in-frame, c .before .before .before .before .before .before .before .before .before .before .before .before .before .before .pre .1 .2)
 
--- src/lib.rt:924:12
+-- src/lib.rt:967:12
 text-key-add-if4 : (t : ℕ) → text-key-lts.Need-add-if4 (
   for-encoded-container-reads.Asked,
   for-encoded-container-reads.Learnt,
@@ -3031,7 +3138,7 @@ text-key-add-if4 : (t : ℕ) → text-key-lts.Need-add-if4 (
 text-key-add-if4 t c =
     omega (arith, (c .before .before .before .before .before .before .before .before .width .ensures ∙ c .before .before .before .before .before .before .before .before .before .for-encoded-container .ensures), width-small (c .before .before .before .before .before .before .before .before .before .before .before .before .before .before .args .e - c .before .before .before .before .before .before .before .before .before .before .before .before .before .before .args .j) (omega (arith, c .before .before .before .before .before .before .before .before .before .before .before .before .before .before .pre .1 .1 .in-frame, c .before .before .before .before .before .before .before .before .before .before .before .before .before .before .pre .1 .3, c .before .before .before .before .before .before .before .before .before .before .before .before .before .before .pre .1 .4)), (c .before .before .before .child-key .ensures (depthsOf (c .before .before .before .before .before .before .before .before .before .before .before .before .before .before .args .d))) .fits, c .before .before .before .before .before .before .before .before .before .before .before .before .before .before .pre .1 .1 .in-frame, c .before .before .before .before .before .before .before .before .before .before .before .before .before .before .pre .1 .2)
 
--- src/lib.rt:925:9
+-- src/lib.rt:968:9
 text-key-same-length-2 : (t : ℕ) → text-key-lts.Need-same-length-2 (
   for-encoded-container-reads.Asked,
   for-encoded-container-reads.Learnt,
@@ -3047,7 +3154,7 @@ text-key-same-length-2 : (t : ℕ) → text-key-lts.Need-same-length-2 (
 text-key-same-length-2 t c =
     search needs
 
--- src/lib.rt:925:9
+-- src/lib.rt:968:9
 text-key-returns-4 : (t : ℕ) → text-key-lts.Need-returns-4 (
   for-encoded-container-reads.Asked,
   for-encoded-container-reads.Learnt,
@@ -3063,7 +3170,7 @@ text-key-returns-4 : (t : ℕ) → text-key-lts.Need-returns-4 (
 text-key-returns-4 t c =
     text-key-narrow _ _ _ _ _ _ _ _ _ _ _ _ _ (c .before .before .before .before .before .before .before .before .before .before .before .if1 .left) (c .before .before .before .before .before .before .before .before .before .before .before .before .before .before .before .pre .1 .3) (c .before .before .before .before .before .before .before .before .before .before .before .before .before .before .before .pre .1 .4) _ _ (c .before .before .before .before .before .before .before .before .before .width .ensures ∙ c .before .before .before .before .before .before .before .before .before .before .for-encoded-container .ensures) ((key-end _ _ _ _ _ (c .before .before .before .before .before .before .before .before .before .before .before .if1 .left) (omega (arith, c .before .before .before .before .before .before .before .before .before .before .before .before .before .before .before .pre .1 .3, c .before .before .before .before .before .before .before .before .before .before .before .before .before .before .before .pre .1 .4)) (c .before .before .before .before .before .before .before .before .before .before .for-encoded-container .ensures) (c .before .before .before .before .before .before .before .read-last-offset-from-buffer .ensures)) .end) (c .before .before .before .before .before .before .if2 .left) _ _ (c .before .before .before .before .child-key .ensures (depthsOf (c .before .before .before .before .before .before .before .before .before .before .before .before .before .before .before .args .d))) (c .before .if3 .left) (c .if4 .taken)
 
--- src/lib.rt:939:9
+-- src/lib.rt:982:9
 text-key-sub-child-value : (t : ℕ) → text-key-lts.Need-sub-child-value (
   for-encoded-container-reads.Asked,
   for-encoded-container-reads.Learnt,
@@ -3079,7 +3186,7 @@ text-key-sub-child-value : (t : ℕ) → text-key-lts.Need-sub-child-value (
 text-key-sub-child-value t c =
     omega (arith, c .before .if4 .left)
 
--- src/lib.rt:933:9
+-- src/lib.rt:976:9
 text-key-child-value-requires : (t : ℕ) → text-key-lts.Need-child-value-requires (
   for-encoded-container-reads.Asked,
   for-encoded-container-reads.Learnt,
@@ -3095,7 +3202,7 @@ text-key-child-value-requires : (t : ℕ) → text-key-lts.Need-child-value-requ
 text-key-child-value-requires t c κs =
     (omega (arith, c .before .before .before .before .before .before .before .before .before .before .before .before .before .before .before .before .before .pre .0), (c .before .before .before .before .before .before .before .before .before .before .before .before .before .before .before .before .before .pre .1 .0 .typed, c .before .before .before .before .before .before .before .before .before .before .before .before .before .before .before .before .before .pre .1 .0 .child, c .before .before .before .before .before .before .before .before .before .before .before .before .before .before .before .before .before .pre .1 .1, omega (arith, (c .before .before .before .before .before .before .child-key .ensures (depthsOf (c .before .before .before .before .before .before .before .before .before .before .before .before .before .before .before .before .before .args .d))) .fits, c .before .before .before .before .before .before .before .before .before .before .before .before .before .before .before .before .before .pre .1 .2)))
 
--- src/lib.rt:951:19
+-- src/lib.rt:994:19
 text-key-add-t35 : (t : ℕ) → text-key-lts.Need-add-t35 (
   for-encoded-container-reads.Asked,
   for-encoded-container-reads.Learnt,
@@ -3111,7 +3218,7 @@ text-key-add-t35 : (t : ℕ) → text-key-lts.Need-add-t35 (
 text-key-add-t35 t c =
     omega (arith, c .before .before .before .before .child-value .ensures .fits, (c .before .before .before .before .before .before .before .before .before .before .before .child-key .ensures (depthsOf (c .before .before .before .before .before .before .before .before .before .before .before .before .before .before .before .before .before .before .before .before .before .before .args .d))) .fits, c .before .before .before .before .before .before .before .before .before .before .before .before .before .before .before .before .before .before .before .before .before .before .pre .1 .1 .in-frame)
 
--- src/lib.rt:949:9
+-- src/lib.rt:992:9
 text-key-same-length-3 : (t : ℕ) → text-key-lts.Need-same-length-3 (
   for-encoded-container-reads.Asked,
   for-encoded-container-reads.Learnt,
@@ -3127,7 +3234,7 @@ text-key-same-length-3 : (t : ℕ) → text-key-lts.Need-same-length-3 (
 text-key-same-length-3 t c =
     search needs
 
--- src/lib.rt:949:9
+-- src/lib.rt:992:9
 text-key-returns-5 : (t : ℕ) → text-key-lts.Need-returns-5 (
   for-encoded-container-reads.Asked,
   for-encoded-container-reads.Learnt,
@@ -3143,7 +3250,7 @@ text-key-returns-5 : (t : ℕ) → text-key-lts.Need-returns-5 (
 text-key-returns-5 t c =
     text-key-value-stop _ _ _ _ _ _ _ _ _ _ _ _ _ (c .before .before .before .before .before .before .before .before .before .before .before .before .before .before .before .before .before .before .if1 .left) (c .before .before .before .before .before .before .before .before .before .before .before .before .before .before .before .before .before .before .before .before .before .before .pre .1 .3) (c .before .before .before .before .before .before .before .before .before .before .before .before .before .before .before .before .before .before .before .before .before .before .pre .1 .4) _ _ (c .before .before .before .before .before .before .before .before .before .before .before .before .before .before .before .before .width .ensures ∙ c .before .before .before .before .before .before .before .before .before .before .before .before .before .before .before .before .before .for-encoded-container .ensures) ((key-end _ _ _ _ _ (c .before .before .before .before .before .before .before .before .before .before .before .before .before .before .before .before .before .before .if1 .left) (omega (arith, c .before .before .before .before .before .before .before .before .before .before .before .before .before .before .before .before .before .before .before .before .before .before .pre .1 .3, c .before .before .before .before .before .before .before .before .before .before .before .before .before .before .before .before .before .before .before .before .before .before .pre .1 .4)) (c .before .before .before .before .before .before .before .before .before .before .before .before .before .before .before .before .before .for-encoded-container .ensures) (c .before .before .before .before .before .before .before .before .before .before .before .before .before .before .read-last-offset-from-buffer .ensures)) .end) (c .before .before .before .before .before .before .before .before .before .before .before .before .before .if2 .left) _ _ (c .before .before .before .before .before .before .before .before .before .before .before .child-key .ensures (depthsOf (c .before .before .before .before .before .before .before .before .before .before .before .before .before .before .before .before .before .before .before .before .before .before .args .d))) (c .before .before .before .before .before .before .before .before .if3 .left) (c .before .before .before .before .before .before .before .if4 .left) _ _ (c .before .before .before .before .child-value .ensures) (c .before .if5 .taken)
 
--- src/lib.rt:957:15
+-- src/lib.rt:1000:15
 text-key-add-t27 : (t : ℕ) → text-key-lts.Need-add-t27 (
   for-encoded-container-reads.Asked,
   for-encoded-container-reads.Learnt,
@@ -3159,7 +3266,7 @@ text-key-add-t27 : (t : ℕ) → text-key-lts.Need-add-t27 (
 text-key-add-t27 t c =
     omega (arith, c .before .before .before .before .child-value .ensures .fits, (c .before .before .before .before .before .before .before .before .before .before .before .child-key .ensures (depthsOf (c .before .before .before .before .before .before .before .before .before .before .before .before .before .before .before .before .before .before .before .before .before .before .args .d))) .fits, c .before .before .before .before .before .before .before .before .before .before .before .before .before .before .before .before .before .before .before .before .before .before .pre .1 .1 .in-frame)
 
--- src/lib.rt:957:15
+-- src/lib.rt:1000:15
 text-key-add-t36 : (t : ℕ) → text-key-lts.Need-add-t36 (
   for-encoded-container-reads.Asked,
   for-encoded-container-reads.Learnt,
@@ -3175,7 +3282,7 @@ text-key-add-t36 : (t : ℕ) → text-key-lts.Need-add-t36 (
 text-key-add-t36 t c =
     omega (arith, (c .before .before .before .before .before .before .before .before .before .before .before .before .before .before .before .before .width .ensures ∙ c .before .before .before .before .before .before .before .before .before .before .before .before .before .before .before .before .before .for-encoded-container .ensures), width-small (c .before .before .before .before .before .before .before .before .before .before .before .before .before .before .before .before .before .before .before .before .before .before .args .e - c .before .before .before .before .before .before .before .before .before .before .before .before .before .before .before .before .before .before .before .before .before .before .args .j) (omega (arith, c .before .before .before .before .before .before .before .before .before .before .before .before .before .before .before .before .before .before .before .before .before .before .pre .1 .1 .in-frame, c .before .before .before .before .before .before .before .before .before .before .before .before .before .before .before .before .before .before .before .before .before .before .pre .1 .3, c .before .before .before .before .before .before .before .before .before .before .before .before .before .before .before .before .before .before .before .before .before .before .pre .1 .4)), c .before .before .before .before .child-value .ensures .fits, (c .before .before .before .before .before .before .before .before .before .before .before .child-key .ensures (depthsOf (c .before .before .before .before .before .before .before .before .before .before .before .before .before .before .before .before .before .before .before .before .before .before .args .d))) .fits, c .before .before .before .before .before .before .before .before .before .before .before .before .before .before .before .before .before .before .before .before .before .before .pre .1 .1 .in-frame)
 
--- src/lib.rt:881:1
+-- src/lib.rt:924:1
 text-key-same-length-4 : (t : ℕ) → text-key-lts.Need-same-length-4 (
   for-encoded-container-reads.Asked,
   for-encoded-container-reads.Learnt,
@@ -3191,7 +3298,7 @@ text-key-same-length-4 : (t : ℕ) → text-key-lts.Need-same-length-4 (
 text-key-same-length-4 t c =
     search needs
 
--- src/lib.rt:881:1
+-- src/lib.rt:924:1
 text-key-returns-6 : (t : ℕ) → text-key-lts.Need-returns-6 (
   for-encoded-container-reads.Asked,
   for-encoded-container-reads.Learnt,
@@ -3207,7 +3314,7 @@ text-key-returns-6 : (t : ℕ) → text-key-lts.Need-returns-6 (
 text-key-returns-6 t c =
     text-key-done _ _ _ _ _ _ _ _ _ _ _ _ _ (c .before .before .before .before .before .before .before .before .before .before .before .before .before .before .before .before .before .before .if1 .left) (c .before .before .before .before .before .before .before .before .before .before .before .before .before .before .before .before .before .before .before .before .before .before .pre .1 .3) (c .before .before .before .before .before .before .before .before .before .before .before .before .before .before .before .before .before .before .before .before .before .before .pre .1 .4) _ _ (c .before .before .before .before .before .before .before .before .before .before .before .before .before .before .before .before .width .ensures ∙ c .before .before .before .before .before .before .before .before .before .before .before .before .before .before .before .before .before .for-encoded-container .ensures) ((key-end _ _ _ _ _ (c .before .before .before .before .before .before .before .before .before .before .before .before .before .before .before .before .before .before .if1 .left) (omega (arith, c .before .before .before .before .before .before .before .before .before .before .before .before .before .before .before .before .before .before .before .before .before .before .pre .1 .3, c .before .before .before .before .before .before .before .before .before .before .before .before .before .before .before .before .before .before .before .before .before .before .pre .1 .4)) (c .before .before .before .before .before .before .before .before .before .before .before .before .before .before .before .before .before .for-encoded-container .ensures) (c .before .before .before .before .before .before .before .before .before .before .before .before .before .before .read-last-offset-from-buffer .ensures)) .end) (c .before .before .before .before .before .before .before .before .before .before .before .before .before .if2 .left) _ _ (c .before .before .before .before .before .before .before .before .before .before .before .child-key .ensures (depthsOf (c .before .before .before .before .before .before .before .before .before .before .before .before .before .before .before .before .before .before .before .before .before .before .args .d))) (c .before .before .before .before .before .before .before .before .if3 .left) (c .before .before .before .before .before .before .before .if4 .left) _ _ (c .before .before .before .before .child-value .ensures) (c .before .if5 .left)
 
--- src/lib.rt:420:49
+-- src/lib.rt:443:49
 value-enum-told : (t : ℕ) → value-lts.Need-enum-told (
   boolean-reads.Asked,
   boolean-reads.Learnt,
@@ -3221,7 +3328,7 @@ value-enum-told : (t : ℕ) → value-lts.Need-enum-told (
 value-enum-told t c =
     search needs
 
--- src/lib.rt:420:28
+-- src/lib.rt:443:28
 value-boolean-requires : (t : ℕ) → value-lts.Need-boolean-requires (
   boolean-reads.Asked,
   boolean-reads.Learnt,
@@ -3235,7 +3342,7 @@ value-boolean-requires : (t : ℕ) → value-lts.Need-boolean-requires (
 value-boolean-requires t c κs =
     search needs
 
--- src/lib.rt:421:26
+-- src/lib.rt:444:26
 value-enum-known-kind : (t : ℕ) → value-lts.Need-enum-known-kind (
   boolean-reads.Asked,
   boolean-reads.Learnt,
@@ -3249,7 +3356,7 @@ value-enum-known-kind : (t : ℕ) → value-lts.Need-enum-known-kind (
 value-enum-known-kind t c =
     search needs
 
--- src/lib.rt:421:43
+-- src/lib.rt:444:43
 value-number-requires : (t : ℕ) → value-lts.Need-number-requires (
   boolean-reads.Asked,
   boolean-reads.Learnt,
@@ -3263,7 +3370,7 @@ value-number-requires : (t : ℕ) → value-lts.Need-number-requires (
 value-number-requires t c κs =
     (c .before .before .before .before .before .before .before .pre .1 .2 .in-frame, c .before .before .before .before .before .before .before .pre .1 .2 .near, number-aligned _ _ (c .before .before .before .before .before .before .before .pre .1 .0) 0 false 0 _ _ (sym (kind-is _ _ _ (c .before .before .before .before .before .before .before .pre .1 .1)) ∙ c .before .before .kind .given .1))
 
--- src/lib.rt:422:24
+-- src/lib.rt:445:24
 value-enum-known-kind-2 : (t : ℕ) → value-lts.Need-enum-known-kind-2 (
   boolean-reads.Asked,
   boolean-reads.Learnt,
@@ -3277,7 +3384,7 @@ value-enum-known-kind-2 : (t : ℕ) → value-lts.Need-enum-known-kind-2 (
 value-enum-known-kind-2 t c =
     search needs
 
--- src/lib.rt:422:34
+-- src/lib.rt:445:34
 value-text-value-requires : (t : ℕ) → value-lts.Need-text-value-requires (
   boolean-reads.Asked,
   boolean-reads.Learnt,
@@ -3291,7 +3398,7 @@ value-text-value-requires : (t : ℕ) → value-lts.Need-text-value-requires (
 value-text-value-requires t c κs =
     search needs
 
--- src/lib.rt:423:14
+-- src/lib.rt:446:14
 value-container-requires : (t : ℕ) → value-lts.Need-container-requires (
   boolean-reads.Asked,
   boolean-reads.Learnt,
@@ -3305,7 +3412,7 @@ value-container-requires : (t : ℕ) → value-lts.Need-container-requires (
 value-container-requires t c κs =
     (omega arith, (c .before .before .before .before .before .pre .1 .0, c .before .before .before .before .before .pre .1 .1, c .before .before .before .before .before .pre .1 .2, contains-by _ _ _ (c .before .before .before .before .before .pre .1 .0) (kind-is _ _ _ (c .before .before .before .before .before .pre .1 .1)) (c .before .match .keys4)))
 
--- src/lib.rt:403:1
+-- src/lib.rt:426:1
 value-same-length : (t : ℕ) → value-lts.Need-same-length (
   boolean-reads.Asked,
   boolean-reads.Learnt,
@@ -3319,7 +3426,7 @@ value-same-length : (t : ℕ) → value-lts.Need-same-length (
 value-same-length t c =
     search needs
 
--- src/lib.rt:403:1
+-- src/lib.rt:426:1
 value-returns : (t : ℕ) → value-lts.Need-returns (
   boolean-reads.Asked,
   boolean-reads.Learnt,
@@ -3333,7 +3440,7 @@ value-returns : (t : ℕ) → value-lts.Need-returns (
 value-returns t c =
     value-bool _ _ (c .before .before .before .before .before .before .before .before .before .pre .1 .0) _ _ _ _ _ _ _ _ _ _ _ _ (sym (kind-is _ _ _ (c .before .before .before .before .before .before .before .before .before .pre .1 .1)) ∙ c .before .before .before .before .enum-told .given .1) (c .before .before .boolean .ensures)
 
--- src/lib.rt:403:1
+-- src/lib.rt:426:1
 value-same-length-2 : (t : ℕ) → value-lts.Need-same-length-2 (
   boolean-reads.Asked,
   boolean-reads.Learnt,
@@ -3347,7 +3454,7 @@ value-same-length-2 : (t : ℕ) → value-lts.Need-same-length-2 (
 value-same-length-2 t c =
     search needs
 
--- src/lib.rt:403:1
+-- src/lib.rt:426:1
 value-returns-2 : (t : ℕ) → value-lts.Need-returns-2 (
   boolean-reads.Asked,
   boolean-reads.Learnt,
@@ -3361,7 +3468,7 @@ value-returns-2 : (t : ℕ) → value-lts.Need-returns-2 (
 value-returns-2 t c =
     value-number _ _ (c .before .before .before .before .before .before .before .before .before .before .pre .1 .0) _ _ _ _ _ _ _ _ _ _ _ _ _ _ (sym (kind-is _ _ _ (c .before .before .before .before .before .before .before .before .before .before .pre .1 .1)) ∙ c .before .before .before .before .before .kind .given .1) (c .before .before .number .ensures)
 
--- src/lib.rt:403:1
+-- src/lib.rt:426:1
 value-same-length-3 : (t : ℕ) → value-lts.Need-same-length-3 (
   boolean-reads.Asked,
   boolean-reads.Learnt,
@@ -3375,7 +3482,7 @@ value-same-length-3 : (t : ℕ) → value-lts.Need-same-length-3 (
 value-same-length-3 t c =
     search needs
 
--- src/lib.rt:403:1
+-- src/lib.rt:426:1
 value-returns-3 : (t : ℕ) → value-lts.Need-returns-3 (
   boolean-reads.Asked,
   boolean-reads.Learnt,
@@ -3389,7 +3496,7 @@ value-returns-3 : (t : ℕ) → value-lts.Need-returns-3 (
 value-returns-3 t c =
     value-text _ _ (c .before .before .before .before .before .before .before .before .before .before .pre .1 .0) _ _ _ _ _ _ _ _ _ _ _ _ _ (sym (kind-is _ _ _ (c .before .before .before .before .before .before .before .before .before .before .pre .1 .1)) ∙ c .before .before .before .before .before .kind2 .given .1) (c .before .before .text-value .ensures)
 
--- src/lib.rt:403:1
+-- src/lib.rt:426:1
 value-same-length-4 : (t : ℕ) → value-lts.Need-same-length-4 (
   boolean-reads.Asked,
   boolean-reads.Learnt,
@@ -3403,7 +3510,7 @@ value-same-length-4 : (t : ℕ) → value-lts.Need-same-length-4 (
 value-same-length-4 t c =
     search needs
 
--- src/lib.rt:403:1
+-- src/lib.rt:426:1
 value-returns-4 : (t : ℕ) → value-lts.Need-returns-4 (
   boolean-reads.Asked,
   boolean-reads.Learnt,
@@ -3417,7 +3524,7 @@ value-returns-4 : (t : ℕ) → value-lts.Need-returns-4 (
 value-returns-4 t c =
     c .before .before .container .ensures
 
--- src/lib.rt:1164:23
+-- src/lib.rt:1207:23
 variant-sub-separator : (t : ℕ) → variant-lts.Need-sub-separator (
   separator-reads.Asked,
   separator-reads.Learnt,
@@ -3439,7 +3546,7 @@ variant-sub-separator : (t : ℕ) → variant-lts.Need-sub-separator (
 variant-sub-separator t c =
     omega arith
 
--- src/lib.rt:1164:23
+-- src/lib.rt:1207:23
 variant-part-separator-start : (t : ℕ) → variant-lts.Need-part-separator-start (
   separator-reads.Asked,
   separator-reads.Learnt,
@@ -3461,7 +3568,7 @@ variant-part-separator-start : (t : ℕ) → variant-lts.Need-part-separator-sta
 variant-part-separator-start t c =
     omega arith
 
--- src/lib.rt:1164:23
+-- src/lib.rt:1207:23
 variant-part-separator-end : (t : ℕ) → variant-lts.Need-part-separator-end (
   separator-reads.Asked,
   separator-reads.Learnt,
@@ -3483,7 +3590,7 @@ variant-part-separator-end : (t : ℕ) → variant-lts.Need-part-separator-end (
 variant-part-separator-end t c =
     omega arith
 
--- src/lib.rt:1164:9
+-- src/lib.rt:1207:9
 variant-separator-requires : (t : ℕ) → variant-lts.Need-separator-requires (
   separator-reads.Asked,
   separator-reads.Learnt,
@@ -3505,7 +3612,7 @@ variant-separator-requires : (t : ℕ) → variant-lts.Need-separator-requires (
 variant-separator-requires t c κs =
     search needs
 
--- src/lib.rt:1166:9
+-- src/lib.rt:1209:9
 variant-returns : (t : ℕ) → variant-lts.Need-returns (
   separator-reads.Asked,
   separator-reads.Learnt,
@@ -3527,7 +3634,7 @@ variant-returns : (t : ℕ) → variant-lts.Need-returns (
 variant-returns t c =
     variant-none _ _ _ _ _ _ _ _ _ (rw (tail (c .before .before .before .before .before .args .lead) (c .before .before .before .before .before .args .part .now)) at (c .before .separator .ensures .0)) (c .if1 .taken)
 
--- src/lib.rt:1172:31
+-- src/lib.rt:1215:31
 variant-add-emit : (t : ℕ) → variant-lts.Need-add-emit (
   separator-reads.Asked,
   separator-reads.Learnt,
@@ -3549,7 +3656,7 @@ variant-add-emit : (t : ℕ) → variant-lts.Need-add-emit (
 variant-add-emit t c =
     omega (arith, c .before .before .before .before .before .before .pre .1 .0 .in-frame, c .before .before .before .before .before .before .pre .1 .1)
 
--- src/lib.rt:1172:9
+-- src/lib.rt:1215:9
 variant-emit-requires : (t : ℕ) → variant-lts.Need-emit-requires (
   separator-reads.Asked,
   separator-reads.Learnt,
@@ -3571,7 +3678,7 @@ variant-emit-requires : (t : ℕ) → variant-lts.Need-emit-requires (
 variant-emit-requires t c κs =
     search needs
 
--- src/lib.rt:1173:16
+-- src/lib.rt:1216:16
 variant-add-from : (t : ℕ) → variant-lts.Need-add-from (
   separator-reads.Asked,
   separator-reads.Learnt,
@@ -3593,7 +3700,7 @@ variant-add-from : (t : ℕ) → variant-lts.Need-add-from (
 variant-add-from t c =
     omega (arith, c .before .before .before .before .before .before .before .before .before .pre .1 .0 .in-frame, c .before .before .before .before .before .before .before .before .before .pre .1 .1, c .before .before .before .before .before .separator .ensures .1, length-take (length (c .before .before .before .before .before .before .before .before .before .args .part .now) - c .before .before .before .before .before .before .before .before .before .args .lead) (drop (c .before .before .before .before .before .before .before .before .before .args .lead) (c .before .before .before .before .before .before .before .before .before .args .part .now)))
 
--- src/lib.rt:1174:21
+-- src/lib.rt:1217:21
 variant-sub-signature : (t : ℕ) → variant-lts.Need-sub-signature (
   separator-reads.Asked,
   separator-reads.Learnt,
@@ -3615,7 +3722,7 @@ variant-sub-signature : (t : ℕ) → variant-lts.Need-sub-signature (
 variant-sub-signature t c =
     omega arith
 
--- src/lib.rt:1174:21
+-- src/lib.rt:1217:21
 variant-part-signature-start : (t : ℕ) → variant-lts.Need-part-signature-start (
   separator-reads.Asked,
   separator-reads.Learnt,
@@ -3637,7 +3744,7 @@ variant-part-signature-start : (t : ℕ) → variant-lts.Need-part-signature-sta
 variant-part-signature-start t c =
     omega arith
 
--- src/lib.rt:1174:21
+-- src/lib.rt:1217:21
 variant-part-signature-end : (t : ℕ) → variant-lts.Need-part-signature-end (
   separator-reads.Asked,
   separator-reads.Learnt,
@@ -3659,7 +3766,7 @@ variant-part-signature-end : (t : ℕ) → variant-lts.Need-part-signature-end (
 variant-part-signature-end t c =
     omega arith
 
--- src/lib.rt:1175:9
+-- src/lib.rt:1218:9
 variant-text-requires : (t : ℕ) → variant-lts.Need-text-requires (
   separator-reads.Asked,
   separator-reads.Learnt,
@@ -3681,7 +3788,7 @@ variant-text-requires : (t : ℕ) → variant-lts.Need-text-requires (
 variant-text-requires t c κs =
     search needs
 
--- src/lib.rt:1176:9
+-- src/lib.rt:1219:9
 variant-text-refusal-requires : (t : ℕ) → variant-lts.Need-text-refusal-requires (
   separator-reads.Asked,
   separator-reads.Learnt,
@@ -3703,7 +3810,7 @@ variant-text-refusal-requires : (t : ℕ) → variant-lts.Need-text-refusal-requ
 variant-text-refusal-requires t c κs =
     search needs
 
--- src/lib.rt:1178:9
+-- src/lib.rt:1221:9
 variant-same-length : (t : ℕ) → variant-lts.Need-same-length (
   separator-reads.Asked,
   separator-reads.Learnt,
@@ -3725,7 +3832,7 @@ variant-same-length : (t : ℕ) → variant-lts.Need-same-length (
 variant-same-length t c =
     search needs
 
--- src/lib.rt:1178:9
+-- src/lib.rt:1221:9
 variant-returns-2 : (t : ℕ) → variant-lts.Need-returns-2 (
   separator-reads.Asked,
   separator-reads.Learnt,
@@ -3747,7 +3854,7 @@ variant-returns-2 : (t : ℕ) → variant-lts.Need-returns-2 (
 variant-returns-2 t c =
     variant-text _ _ _ _ _ _ _ _ _ (rw (tail (c .before .before .before .before .before .before .before .before .before .before .before .before .before .args .lead) (c .before .before .before .before .before .before .before .before .before .before .before .before .before .args .part .now)) at (c .before .before .before .before .before .before .before .before .before .separator .ensures .0)) (c .before .before .before .before .before .before .before .before .if1 .left) _ _ (c .before .before .before .before .before .before .emit .ensures .0) (c .before .before .before .before .before .before .emit .ensures .1) _ (c .before .text-refusal .ensures ∙ ap textRefusal (c .before .before .text .ensures ∙ ap withoutFinalNul (tail (c .before .before .before .before .before .before .before .before .before .before .before .before .before .args .lead + c .before .before .before .before .before .before .before .before .before .separator .result) (c .before .before .before .before .before .before .before .before .before .before .before .before .before .args .part .now)))) (c .if2 .taken)
 
--- src/lib.rt:1184:31
+-- src/lib.rt:1227:31
 variant-add-emit-2 : (t : ℕ) → variant-lts.Need-add-emit-2 (
   separator-reads.Asked,
   separator-reads.Learnt,
@@ -3769,7 +3876,7 @@ variant-add-emit-2 : (t : ℕ) → variant-lts.Need-add-emit-2 (
 variant-add-emit-2 t c =
     omega arith
 
--- src/lib.rt:1184:9
+-- src/lib.rt:1227:9
 variant-emit-requires-2 : (t : ℕ) → variant-lts.Need-emit-requires-2 (
   separator-reads.Asked,
   separator-reads.Learnt,
@@ -3791,7 +3898,7 @@ variant-emit-requires-2 : (t : ℕ) → variant-lts.Need-emit-requires-2 (
 variant-emit-requires-2 t c κs =
     search needs
 
--- src/lib.rt:1185:9
+-- src/lib.rt:1228:9
 variant-judge-requires : (t : ℕ) → variant-lts.Need-judge-requires (
   separator-reads.Asked,
   separator-reads.Learnt,
@@ -3813,7 +3920,7 @@ variant-judge-requires : (t : ℕ) → variant-lts.Need-judge-requires (
 variant-judge-requires t c κs =
     search needs
 
--- src/lib.rt:1186:9
+-- src/lib.rt:1229:9
 variant-same-length-2 : (t : ℕ) → variant-lts.Need-same-length-2 (
   separator-reads.Asked,
   separator-reads.Learnt,
@@ -3835,7 +3942,7 @@ variant-same-length-2 : (t : ℕ) → variant-lts.Need-same-length-2 (
 variant-same-length-2 t c =
     search needs
 
--- src/lib.rt:1186:9
+-- src/lib.rt:1229:9
 variant-returns-3 : (t : ℕ) → variant-lts.Need-returns-3 (
   separator-reads.Asked,
   separator-reads.Learnt,
@@ -3857,7 +3964,7 @@ variant-returns-3 : (t : ℕ) → variant-lts.Need-returns-3 (
 variant-returns-3 t c =
     variant-type _ _ _ _ _ _ _ _ _ (rw (tail (c .before .before .before .before .before .before .before .before .before .before .before .before .before .before .before .before .before .before .before .args .lead) (c .before .before .before .before .before .before .before .before .before .before .before .before .before .before .before .before .before .before .before .args .part .now)) at (c .before .before .before .before .before .before .before .before .before .before .before .before .before .before .before .separator .ensures .0)) (c .before .before .before .before .before .before .before .before .before .before .before .before .before .before .if1 .left) _ _ (c .before .before .before .before .before .before .before .before .before .before .before .before .emit .ensures .0) (c .before .before .before .before .before .before .before .before .before .before .before .before .emit .ensures .1) (sym (c .before .before .before .before .before .before .before .text-refusal .ensures ∙ ap textRefusal (c .before .before .before .before .before .before .before .before .text .ensures ∙ ap withoutFinalNul (tail (c .before .before .before .before .before .before .before .before .before .before .before .before .before .before .before .before .before .before .before .args .lead + c .before .before .before .before .before .before .before .before .before .before .before .before .before .before .before .separator .result) (c .before .before .before .before .before .before .before .before .before .before .before .before .before .before .before .before .before .before .before .args .part .now)))) ∙ c .before .before .before .before .before .before .if2 .left) _ _ (c .before .before .before .before .emit2 .ensures .0) (rw (c .before .before .before .before .before .before .before .before .text .ensures ∙ ap withoutFinalNul (tail (c .before .before .before .before .before .before .before .before .before .before .before .before .before .before .before .before .before .before .before .args .lead + c .before .before .before .before .before .before .before .before .before .before .before .before .before .before .before .separator .result) (c .before .before .before .before .before .before .before .before .before .before .before .before .before .before .before .before .before .before .before .args .part .now))) at (c .before .before .before .before .emit2 .ensures .1)) (sym (rw (tail (c .before .before .before .before .before .before .before .before .before .before .before .before .before .before .before .before .before .before .before .args .lead + c .before .before .before .before .before .before .before .before .before .before .before .before .before .before .before .separator .result) (c .before .before .before .before .before .before .before .before .before .before .before .before .before .before .before .before .before .before .before .args .part .now)) at (c .before .judge .ensures)) ∙ denied (c .if3 .taken))
 
--- src/lib.rt:1192:9
+-- src/lib.rt:1235:9
 variant-inc-variant-requires : (t : ℕ) → variant-lts.Need-inc-variant-requires (
   separator-reads.Asked,
   separator-reads.Learnt,
@@ -3879,7 +3986,7 @@ variant-inc-variant-requires : (t : ℕ) → variant-lts.Need-inc-variant-requir
 variant-inc-variant-requires t c κs =
     search needs
 
--- src/lib.rt:1196:9
+-- src/lib.rt:1239:9
 variant-same-length-3 : (t : ℕ) → variant-lts.Need-same-length-3 (
   separator-reads.Asked,
   separator-reads.Learnt,
@@ -3901,7 +4008,7 @@ variant-same-length-3 : (t : ℕ) → variant-lts.Need-same-length-3 (
 variant-same-length-3 t c =
     search needs
 
--- src/lib.rt:1196:9
+-- src/lib.rt:1239:9
 variant-returns-4 : (t : ℕ) → variant-lts.Need-returns-4 (
   separator-reads.Asked,
   separator-reads.Learnt,
@@ -3923,7 +4030,7 @@ variant-returns-4 : (t : ℕ) → variant-lts.Need-returns-4 (
 variant-returns-4 t c =
     variant-deep _ _ _ _ _ _ _ _ _ (rw (tail (c .before .before .before .before .before .before .before .before .before .before .before .before .before .before .before .before .before .before .before .before .before .before .args .lead) (c .before .before .before .before .before .before .before .before .before .before .before .before .before .before .before .before .before .before .before .before .before .before .args .part .now)) at (c .before .before .before .before .before .before .before .before .before .before .before .before .before .before .before .before .before .before .separator .ensures .0)) (c .before .before .before .before .before .before .before .before .before .before .before .before .before .before .before .before .before .if1 .left) _ _ (c .before .before .before .before .before .before .before .before .before .before .before .before .before .before .before .emit .ensures .0) (c .before .before .before .before .before .before .before .before .before .before .before .before .before .before .before .emit .ensures .1) (sym (c .before .before .before .before .before .before .before .before .before .before .text-refusal .ensures ∙ ap textRefusal (c .before .before .before .before .before .before .before .before .before .before .before .text .ensures ∙ ap withoutFinalNul (tail (c .before .before .before .before .before .before .before .before .before .before .before .before .before .before .before .before .before .before .before .before .before .before .args .lead + c .before .before .before .before .before .before .before .before .before .before .before .before .before .before .before .before .before .before .separator .result) (c .before .before .before .before .before .before .before .before .before .before .before .before .before .before .before .before .before .before .before .before .before .before .args .part .now)))) ∙ c .before .before .before .before .before .before .before .before .before .if2 .left) _ _ (c .before .before .before .before .before .before .before .emit2 .ensures .0) (rw (c .before .before .before .before .before .before .before .before .before .before .before .text .ensures ∙ ap withoutFinalNul (tail (c .before .before .before .before .before .before .before .before .before .before .before .before .before .before .before .before .before .before .before .before .before .before .args .lead + c .before .before .before .before .before .before .before .before .before .before .before .before .before .before .before .before .before .before .separator .result) (c .before .before .before .before .before .before .before .before .before .before .before .before .before .before .before .before .before .before .before .before .before .before .args .part .now))) at (c .before .before .before .before .before .before .before .emit2 .ensures .1)) (judged _ (sym (rw (tail (c .before .before .before .before .before .before .before .before .before .before .before .before .before .before .before .before .before .before .before .before .before .before .args .lead + c .before .before .before .before .before .before .before .before .before .before .before .before .before .before .before .before .before .before .separator .result) (c .before .before .before .before .before .before .before .before .before .before .before .before .before .before .before .before .before .before .before .before .before .before .args .part .now)) at (c .before .before .before .before .judge .ensures)) ∙ granted (c .before .before .before .if3 .left))) _ (c .before .before .inc-variant .ensures) (c .if4 .taken)
 
--- src/lib.rt:1202:9
+-- src/lib.rt:1245:9
 variant-child-at-requires : (t : ℕ) → variant-lts.Need-child-at-requires (
   separator-reads.Asked,
   separator-reads.Learnt,
@@ -3945,7 +4052,7 @@ variant-child-at-requires : (t : ℕ) → variant-lts.Need-child-at-requires (
 variant-child-at-requires t c κs =
     search needs
 
--- src/lib.rt:1209:9
+-- src/lib.rt:1252:9
 variant-sub-child-value : (t : ℕ) → variant-lts.Need-sub-child-value (
   separator-reads.Asked,
   separator-reads.Learnt,
@@ -3967,7 +4074,7 @@ variant-sub-child-value : (t : ℕ) → variant-lts.Need-sub-child-value (
 variant-sub-child-value t c =
     omega arith
 
--- src/lib.rt:1203:9
+-- src/lib.rt:1246:9
 variant-child-value-requires : (t : ℕ) → variant-lts.Need-child-value-requires (
   separator-reads.Asked,
   separator-reads.Learnt,
@@ -3989,7 +4096,7 @@ variant-child-value-requires : (t : ℕ) → variant-lts.Need-child-value-requir
 variant-child-value-requires t c κs =
     (omega (arith, level-falls Depth.variant (c .before .before .before .before .before .before .before .before .before .before .before .before .before .before .before .before .before .before .before .before .before .before .before .before .args .d) (c .before .before .before .before .inc-variant .result) (c .before .before .before .before .inc-variant .ensures) (c .before .before .if4 .left), c .before .before .before .before .before .before .before .before .before .before .before .before .before .before .before .before .before .before .before .before .before .before .before .before .pre .0), (rw (tail (c .before .before .before .before .before .before .before .before .before .before .before .before .before .before .before .before .before .before .before .before .before .before .before .before .args .lead + c .before .before .before .before .before .before .before .before .before .before .before .before .before .before .before .before .before .before .before .before .separator .result) (c .before .before .before .before .before .before .before .before .before .before .before .before .before .before .before .before .before .before .before .before .before .before .before .before .args .part .now)) ((judged _ (sym (rw (tail (c .before .before .before .before .before .before .before .before .before .before .before .before .before .before .before .before .before .before .before .before .before .before .before .before .args .lead + c .before .before .before .before .before .before .before .before .before .before .before .before .before .before .before .before .before .before .before .before .separator .result) (c .before .before .before .before .before .before .before .before .before .before .before .before .before .before .before .before .before .before .before .before .before .before .before .before .args .part .now)) at (c .before .before .before .before .before .before .judge .ensures)) ∙ granted (c .before .before .before .before .before .if3 .left))) .typed), c .before .child-at .ensures, within-raised Depth.variant (c .before .before .before .before .before .before .before .before .before .before .before .before .before .before .before .before .before .before .before .before .before .before .before .before .args .d) (c .before .before .before .before .inc-variant .result) (c .before .before .before .before .before .before .before .before .before .before .before .before .before .before .before .before .before .before .before .before .before .before .before .before .pre .1 .0) (c .before .before .before .before .inc-variant .ensures) (c .before .before .if4 .left), c .before .before .before .before .before .before .before .before .before .before .before .before .before .before .before .before .before .before .before .before .before .before .before .before .pre .1 .1))
 
--- src/lib.rt:1219:9
+-- src/lib.rt:1262:9
 variant-same-length-4 : (t : ℕ) → variant-lts.Need-same-length-4 (
   separator-reads.Asked,
   separator-reads.Learnt,
@@ -4011,7 +4118,7 @@ variant-same-length-4 : (t : ℕ) → variant-lts.Need-same-length-4 (
 variant-same-length-4 t c =
     kept (c .before .before .before .child-value .ensures) ∙ ap length (c .before .before .before .before .before .before .before .before .before .before .before .before .before .emit2 .ensures .1) ∙ length-put _ _ _ ∙ ap length (c .before .before .before .before .before .before .before .before .before .before .before .before .before .before .before .before .before .before .before .before .before .emit .ensures .1) ∙ length-put _ _ _
 
--- src/lib.rt:1219:9
+-- src/lib.rt:1262:9
 variant-returns-5 : (t : ℕ) → variant-lts.Need-returns-5 (
   separator-reads.Asked,
   separator-reads.Learnt,
@@ -4033,7 +4140,7 @@ variant-returns-5 : (t : ℕ) → variant-lts.Need-returns-5 (
 variant-returns-5 t c =
     variant-stop _ _ _ _ _ _ _ _ _ (rw (tail (c .before .before .before .before .before .before .before .before .before .before .before .before .before .before .before .before .before .before .before .before .before .before .before .before .before .before .before .before .args .lead) (c .before .before .before .before .before .before .before .before .before .before .before .before .before .before .before .before .before .before .before .before .before .before .before .before .before .before .before .before .args .part .now)) at (c .before .before .before .before .before .before .before .before .before .before .before .before .before .before .before .before .before .before .before .before .before .before .before .before .separator .ensures .0)) (c .before .before .before .before .before .before .before .before .before .before .before .before .before .before .before .before .before .before .before .before .before .before .before .if1 .left) _ _ (c .before .before .before .before .before .before .before .before .before .before .before .before .before .before .before .before .before .before .before .before .before .emit .ensures .0) (c .before .before .before .before .before .before .before .before .before .before .before .before .before .before .before .before .before .before .before .before .before .emit .ensures .1) (sym (c .before .before .before .before .before .before .before .before .before .before .before .before .before .before .before .before .text-refusal .ensures ∙ ap textRefusal (c .before .before .before .before .before .before .before .before .before .before .before .before .before .before .before .before .before .text .ensures ∙ ap withoutFinalNul (tail (c .before .before .before .before .before .before .before .before .before .before .before .before .before .before .before .before .before .before .before .before .before .before .before .before .before .before .before .before .args .lead + c .before .before .before .before .before .before .before .before .before .before .before .before .before .before .before .before .before .before .before .before .before .before .before .before .separator .result) (c .before .before .before .before .before .before .before .before .before .before .before .before .before .before .before .before .before .before .before .before .before .before .before .before .before .before .before .before .args .part .now)))) ∙ c .before .before .before .before .before .before .before .before .before .before .before .before .before .before .before .if2 .left) _ _ (c .before .before .before .before .before .before .before .before .before .before .before .before .before .emit2 .ensures .0) (rw (c .before .before .before .before .before .before .before .before .before .before .before .before .before .before .before .before .before .text .ensures ∙ ap withoutFinalNul (tail (c .before .before .before .before .before .before .before .before .before .before .before .before .before .before .before .before .before .before .before .before .before .before .before .before .before .before .before .before .args .lead + c .before .before .before .before .before .before .before .before .before .before .before .before .before .before .before .before .before .before .before .before .before .before .before .before .separator .result) (c .before .before .before .before .before .before .before .before .before .before .before .before .before .before .before .before .before .before .before .before .before .before .before .before .before .before .before .before .args .part .now))) at (c .before .before .before .before .before .before .before .before .before .before .before .before .before .emit2 .ensures .1)) (judged _ (sym (rw (tail (c .before .before .before .before .before .before .before .before .before .before .before .before .before .before .before .before .before .before .before .before .before .before .before .before .before .before .before .before .args .lead + c .before .before .before .before .before .before .before .before .before .before .before .before .before .before .before .before .before .before .before .before .before .before .before .before .separator .result) (c .before .before .before .before .before .before .before .before .before .before .before .before .before .before .before .before .before .before .before .before .before .before .before .before .before .before .before .before .args .part .now)) at (c .before .before .before .before .before .before .before .before .before .before .judge .ensures)) ∙ granted (c .before .before .before .before .before .before .before .before .before .if3 .left))) _ (c .before .before .before .before .before .before .before .before .inc-variant .ensures) (c .before .before .before .before .before .before .if4 .left) (few-variants (c .before .before .before .before .before .before .before .before .before .before .before .before .before .before .before .before .before .before .before .before .before .before .before .before .before .before .before .before .pre .1 .0)) _ _ (tail (c .before .before .before .before .before .before .before .before .before .before .before .before .before .before .before .before .before .before .before .before .before .before .before .before .before .before .before .before .args .lead + c .before .before .before .before .before .before .before .before .before .before .before .before .before .before .before .before .before .before .before .before .before .before .before .before .separator .result) (c .before .before .before .before .before .before .before .before .before .before .before .before .before .before .before .before .before .before .before .before .before .before .before .before .before .before .before .before .args .part .now)) (omega (arith, c .before .before .before .before .before .before .before .before .before .before .before .before .before .before .before .before .before .before .before .before .before .before .before .if1 .left)) _ _ (c .before .before .before .child-value .ensures) (c .if5 .taken)
 
--- src/lib.rt:1221:16
+-- src/lib.rt:1264:16
 variant-sub-used : (t : ℕ) → variant-lts.Need-sub-used (
   separator-reads.Asked,
   separator-reads.Learnt,
@@ -4055,7 +4162,7 @@ variant-sub-used : (t : ℕ) → variant-lts.Need-sub-used (
 variant-sub-used t c =
     c .before .before .before .before .before .before .before .before .before .before .before .before .before .before .before .before .before .before .before .before .before .before .before .before .before .before .before .before .pre .1 .1
 
--- src/lib.rt:1222:40
+-- src/lib.rt:1265:40
 variant-add-emit-3 : (t : ℕ) → variant-lts.Need-add-emit-3 (
   separator-reads.Asked,
   separator-reads.Learnt,
@@ -4077,7 +4184,7 @@ variant-add-emit-3 : (t : ℕ) → variant-lts.Need-add-emit-3 (
 variant-add-emit-3 t c =
     omega (arith, c .before .before .before .before .before .before .before .before .before .before .before .before .before .before .before .before .before .before .before .before .before .before .before .before .before .before .before .before .before .pre .1 .0 .in-frame)
 
--- src/lib.rt:1222:9
+-- src/lib.rt:1265:9
 variant-emit-requires-3 : (t : ℕ) → variant-lts.Need-emit-requires-3 (
   separator-reads.Asked,
   separator-reads.Learnt,
@@ -4099,7 +4206,7 @@ variant-emit-requires-3 : (t : ℕ) → variant-lts.Need-emit-requires-3 (
 variant-emit-requires-3 t c κs =
     search needs
 
--- src/lib.rt:1151:1
+-- src/lib.rt:1194:1
 variant-same-length-5 : (t : ℕ) → variant-lts.Need-same-length-5 (
   separator-reads.Asked,
   separator-reads.Learnt,
@@ -4121,7 +4228,7 @@ variant-same-length-5 : (t : ℕ) → variant-lts.Need-same-length-5 (
 variant-same-length-5 t c =
     ap length (c .before .before .emit3 .ensures .1) ∙ length-put _ _ _ ∙ kept (c .before .before .before .before .before .before .before .child-value .ensures) ∙ ap length (c .before .before .before .before .before .before .before .before .before .before .before .before .before .before .before .before .before .emit2 .ensures .1) ∙ length-put _ _ _ ∙ ap length (c .before .before .before .before .before .before .before .before .before .before .before .before .before .before .before .before .before .before .before .before .before .before .before .before .before .emit .ensures .1) ∙ length-put _ _ _
 
--- src/lib.rt:1151:1
+-- src/lib.rt:1194:1
 variant-returns-6 : (t : ℕ) → variant-lts.Need-returns-6 (
   separator-reads.Asked,
   separator-reads.Learnt,
@@ -4260,23 +4367,27 @@ pub +array+body+child-value+container+elements+fields+fixed-key+framed+last-fiel
     (container-same-length t)
     (container-returns-2 t))
     (λ t. elements-lts.spec
-    (step-below t, step.Post)
+    (numbers-reads.Asked, numbers-reads.Learnt, step-below t, step.Post)
     (elements-at t)
     elements.Post
     elements-Inv-loop
     elements-μ-loop
+    (elements-enum-known-plain t)
+    (elements-numbers-requires t)
+    (elements-same-length t)
+    (elements-returns t)
     (elements-loop-holds t)
     (elements-add-loop t)
     (elements-add-step t)
     (elements-step-requires t)
-    (elements-add-t21 t)
-    (elements-same-length t)
-    (elements-returns t)
+    (elements-add-t26 t)
+    (elements-same-length-2 t)
+    (elements-returns-2 t)
     (elements-add-u t)
     (elements-loop-less t)
     (elements-loop-again t)
-    (elements-same-length-2 t)
-    (elements-returns-2 t))
+    (elements-same-length-3 t)
+    (elements-returns-3 t))
     (λ t. fields-lts.spec (
       for-encoded-container-reads.Asked,
       for-encoded-container-reads.Learnt,
@@ -4339,12 +4450,22 @@ pub +array+body+child-value+container+elements+fields+fixed-key+framed+last-fiel
     (fixed-key-add-t28 t)
     (fixed-key-same-length-3 t)
     (fixed-key-returns-3 t))
-    (λ t. framed-lts.spec
-    (next-reads.Asked, next-reads.Learnt, step-below t, step.Post)
+    (λ t. framed-lts.spec (
+      readings-reads.Asked,
+      readings-reads.Learnt,
+      next-reads.Asked,
+      next-reads.Learnt,
+      step-below t,
+      step.Post,
+    )
     (framed-at t)
     framed.Post
     framed-Inv-loop
     framed-μ-loop
+    (framed-enum-known-held t)
+    (framed-readings-requires t)
+    (framed-same-length t)
+    (framed-returns t)
     (framed-sub-table t)
     (framed-part-table-start t)
     (framed-part-table-end t)
@@ -4354,17 +4475,17 @@ pub +array+body+child-value+container+elements+fields+fixed-key+framed+last-fiel
     (framed-add-step t)
     (framed-add-step-2 t)
     (framed-step-requires t)
-    (framed-add-t30 t)
-    (framed-same-length t)
-    (framed-returns t)
+    (framed-add-t35 t)
+    (framed-same-length-2 t)
+    (framed-returns-2 t)
     (framed-add-u t)
     (framed-add-i t)
     (framed-loop-less t)
     (framed-loop-again t)
-    (framed-sub-t31 t)
-    (framed-add-t32 t)
-    (framed-same-length-2 t)
-    (framed-returns-2 t))
+    (framed-sub-t36 t)
+    (framed-add-t37 t)
+    (framed-same-length-3 t)
+    (framed-returns-3 t))
     (λ t. last-field-lts.spec (
       child-value-below t,
       child-value.Post,

@@ -1,7 +1,7 @@
 #!/bin/bash
 # Builds the oracle: the given Rust files, unchanged, behind the stand-ins of this folder.
-# Usage: oracle/build.sh RUST_FOLDER
-# The program is left in target/oracle/oracle of the project.
+# Usage: oracle/build.sh [--fast] RUST_FOLDER
+# The program is left in target/oracle/oracle of the project; with --fast, for the benchmark, in target/oracle/fast.
 set -euo pipefail
 
 here=$(cd "$(dirname "$0")" && pwd)
@@ -62,6 +62,11 @@ opt-level = 2
 overflow-checks = true
 debug-assertions = false
 
+[profile.fast]
+inherits = "release"
+opt-level = 3
+overflow-checks = false
+
 [workspace]
 END
     cat >"$crate/.cargo/config.toml" <<END
@@ -72,16 +77,21 @@ directory = "$(crates_folder)"
 END
 }
 
+profile=release program=oracle
+if [ "${1:-}" = --fast ]; then
+    profile=fast program=fast
+    shift
+fi
 if [ $# -ne 1 ] || [ ! -f "$1/gvariant/de.rs" ]; then
-    echo "usage: oracle/build.sh RUST_FOLDER (the folder with gvariant/de.rs in it)" >&2
+    echo "usage: oracle/build.sh [--fast] RUST_FOLDER (the folder with gvariant/de.rs in it)" >&2
     exit 2
 fi
 folder=$(cd "$1" && pwd)
 install_what_is_missing
 lay_out "$folder"
-(cd "$crate" && cargo build --offline --release --quiet --target-dir "$room/build")
+(cd "$crate" && cargo build --offline --profile "$profile" --quiet --target-dir "$room/build")
 for file in $given_files; do
     cmp "$folder/$file" "$crate/src/given/$file"
 done
-cp "$room/build/release/oracle" "$room/oracle"
-echo "built target/oracle/oracle"
+cp "$room/build/$profile/oracle" "$room/$program"
+echo "built target/oracle/$program"

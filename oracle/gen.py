@@ -551,9 +551,20 @@ def mode_tiny(rng):
     yield frame(tree, random_order(rng), random_position(rng), data)
 
 
+def mode_positions(rng):
+    """One value at each position from 0 to 16, at 65,536 and at one past it, in both byte orders."""
+    tree = rng.choice(LEAD_TYPES + ORDER_TYPES) if rng.random() < 0.5 else random_type(rng, rng.randrange(1, 4))
+    value, harm = random_value(rng, tree, 2), rng.choice([0, 0, 0.3])
+    past = rng.choice([LIMIT + 1, LIMIT + 1, LIMIT + rng.randrange(1, 17), 2**32 - 1, 2**32, 2**63, 2**64 - 1, rng.randrange(LIMIT + 1, 2**64)])
+    for order in ("little", "big"):
+        data = damage_often(rng, written(tree, value, order), harm)
+        for position in [*range(17), LIMIT, past]:
+            yield placed(tree, order, position, data)
+
+
 MODES = {"valid": mode_valid, "fixed": mode_fixed, "boundary": mode_boundary, "damaged": mode_damaged, "lead": mode_lead, "order": mode_order,
-         "depth": mode_depth, "sig": mode_sig, "wide": mode_wide, "tiny": mode_tiny}
-# How often a throw of `mix` takes each mode, out of a thousand.
+         "depth": mode_depth, "sig": mode_sig, "wide": mode_wide, "tiny": mode_tiny, "positions": mode_positions}
+# How often a throw of `mix` takes each mode, out of a thousand. It does not take `positions`, so that its seeds keep their lines.
 MIX = {"valid": 80, "fixed": 130, "boundary": 50, "damaged": 160, "lead": 120, "order": 60, "depth": 120, "sig": 100, "wide": 1, "tiny": 179}
 
 

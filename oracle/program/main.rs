@@ -85,6 +85,7 @@ pub use endian::{Endian, WriteBytes, LE};
 pub use error::{Error, MaxDepthExceeded, Result};
 pub use signature::Signature;
 
+mod bench;
 mod frames;
 mod leaves;
 mod lines;
@@ -96,7 +97,10 @@ fn main() {
     let outcome = match arguments.iter().map(String::as_str).collect::<Vec<_>>()[..] {
         [] => lines::answer_all(frames::answer),
         ["--leaf"] => lines::answer_all(leaves::answer),
-        _ => Err("usage: oracle [--leaf], lines on standard input".to_string()),
+        ["--bench", mode, signature, file, calls] => {
+            bench::answer(mode, signature, file, calls).map(|answer| println!("{answer}"))
+        }
+        _ => Err("usage: oracle [--leaf], lines on standard input; oracle --bench record|ignore TYPE FRAME_FILE CALLS".to_string()),
     };
     if let Err(message) = outcome {
         eprintln!("{message}");

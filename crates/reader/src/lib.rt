@@ -127,15 +127,40 @@ fn boolean(part: &[u8], place: usize, out: &mut [u64], n: usize) -> Answer
     }
 }
 
+// A byte, and the numbers of two, four and eight bytes, at a place.
+fn byte_at(part: &[u8], place: usize) -> leaves::utils::Answer
+    ensures { λ r. ⌜ r ≡ numberAt 1 false (now (part .entry)) place ⌝ }
+{
+    read_number(part, place, FramingOffsetSize::U8, false)
+}
+
+fn two_at(part: &[u8], place: usize, big: bool) -> leaves::utils::Answer
+    ensures { λ r. ⌜ r ≡ numberAt 2 big (now (part .entry)) place ⌝ }
+{
+    read_number(part, place, FramingOffsetSize::U16, big)
+}
+
+fn four_at(part: &[u8], place: usize, big: bool) -> leaves::utils::Answer
+    ensures { λ r. ⌜ r ≡ numberAt 4 big (now (part .entry)) place ⌝ }
+{
+    read_number(part, place, FramingOffsetSize::U32, big)
+}
+
+fn eight_at(part: &[u8], place: usize, big: bool) -> leaves::utils::Answer
+    ensures { λ r. ⌜ r ≡ numberAt 8 big (now (part .entry)) place ⌝ }
+{
+    read_number(part, place, FramingOffsetSize::U64, big)
+}
+
 // The number of a width at a place.
 fn number_at(part: &[u8], place: usize, big: bool, width: usize) -> leaves::utils::Answer
     ensures { λ r. ⌜ (Aligns width → r ≡ numberAt width big (now (part .entry)) place) ⌝ }
 {
     match width {
-        1 => read_number(part, place, FramingOffsetSize::U8, big),
-        2 => read_number(part, place, FramingOffsetSize::U16, big),
-        4 => read_number(part, place, FramingOffsetSize::U32, big),
-        _ => read_number(part, place, FramingOffsetSize::U64, big),
+        1 => byte_at(part, place),
+        2 => two_at(part, place, big),
+        4 => four_at(part, place, big),
+        _ => eight_at(part, place, big),
     }
 }
 

@@ -3,13 +3,14 @@ use crate::Answer;
 use crate::emit;
 use crate::number;
 use crate::number_at;
+use crate::two_at;
 use crate::wide;
 use leaves::container_depths::ContainerDepths;
 use leaves::de::parse_padding;
 use leaves::framing_offsets::FramingOffsets;
 use leaves::framing_offsets::next;
 ghost use mathlib.Core.Path.{_≡_};
-ghost use mathlib.Core.Bool.{true};
+ghost use mathlib.Core.Bool.{Bool, true};
 ghost use Prim.Native.Nat.{ℕ, _+_, _-_, _≤_, _<_, min};
 ghost use lib.ListN.{length, drop};
 ghost use Rattle.meaning.specs.Depths.{Depths};
@@ -17,6 +18,7 @@ ghost use Rattle.meaning.specs.Offsets.{endsOf};
 ghost use Rattle.meaning.specs.Outcome.{chain, passing};
 ghost use Rattle.meaning.specs.Reading.{child, childStep, readNumber, readMaybe, elements as elementsIn, elementsTo};
 ghost use Rattle.meaning.proofs.PaddingLaws.{Aligns};
+ghost use Rattle.leaves.specs.Standing.{numberAt};
 ghost use Rattle.leaves.specs.Opening.{depthsOf};
 ghost use Rattle.leaves.specs.Tables.{tableIn};
 ghost use Rattle.reader.specs.Answers.{Done};
@@ -54,6 +56,26 @@ fn counted(left: usize, width: usize, n: usize) -> Answer
     }
 }
 
+// Bytes from j to the part's end, as a run of numbers.
+fn byte_run(part: &[u8], j: usize, place: usize, code: u8, out: &mut [u64], n: usize) -> Answer
+    requires { ⌜ (place + length (now part) ≤ 65536) × (j ≤ length (now part)) ⌝ }
+    ensures { λ r. ⌜ ((big : Bool) → Done (numbersFrom big code 1 place (now (part .entry)) j) (length (now (part .entry)) - j) (length (now (part .entry)) - j) n (now (out .entry)) (now (out .exit)) r) ⌝ }
+{
+    let len = part.len();
+    let kind = wide(code);
+    let answer = counted(len - j, 1, n);
+    let mut at = j;
+    let mut count = n;
+    while count < out.len() / 3 {
+        if len <= at {
+            return answer;
+        }
+        count = emit(out, count, kind, place + at, wide(part[at]));
+        at = at + 1;
+    }
+    answer
+}
+
 // Numbers that need no padding, from j to the part's end: all are counted, and those read whose events have room.
 fn run(
     part: &[u8],
@@ -68,6 +90,9 @@ fn run(
     requires { ⌜ (place + length (now part) ≤ 65536) × (j ≤ length (now part)) × Aligns width ⌝ }
     ensures { λ r. ⌜ Done (numbersFrom big code width place (now (part .entry)) j) (length (now (part .entry)) - j) (length (now (part .entry)) - j) n (now (out .entry)) (now (out .exit)) r ⌝ }
 {
+    if width == 1 {
+        return byte_run(part, j, place, code, out, n);
+    }
     let len = part.len();
     let kind = wide(code);
     let answer = counted(len - j, width, n);
@@ -129,6 +154,16 @@ pub(crate) fn numbers(
     }
 }
 
+// The number of a reading. The wall's readings have two bytes.
+fn reading_number(part: &[u8], place: usize, big: bool, width: usize) -> leaves::utils::Answer
+    ensures { λ r. ⌜ (Aligns width → r ≡ numberAt width big (now (part .entry)) place) ⌝ }
+{
+    if width == 2 {
+        return two_at(part, place, big);
+    }
+    number_at(part, place, big, width)
+}
+
 // A reading. Where it is present, one more container is open.
 fn reading(
     part: &[u8],
@@ -172,7 +207,7 @@ fn reading(
         };
     }
     let m = emit(out, n, 109, place + lead, 0);
-    let found = number_at(part, lead, big, width);
+    let found = reading_number(part, lead, big, width);
     let short = found.refusal;
     if short != 0 {
         return Answer {

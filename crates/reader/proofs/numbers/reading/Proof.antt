@@ -12,7 +12,6 @@ use Rattle.reader.proofs.numbers.reading.Lts as lts
 use Rattle.leaves.proofs.container_depths.ContainerDepths.inc_maybe.Reads as inc-maybe-reads
 use Rattle.leaves.proofs.de.parse_padding.Reads as parse-padding-reads
 use Rattle.reader.proofs.emit.Reads as emit-reads
-use Rattle.reader.proofs.number_at.Reads as number-at-reads
 use Rattle.reader.proofs.wide.Reads as wide-reads
 
 add-parse-padding : tie.Need-add-parse-padding
@@ -52,15 +51,15 @@ add-emit-2 c = search needs
 emit-requires-2 : tie.Need-emit-requires-2
 emit-requires-2 c κs = search needs
 
-number-at-requires : tie.Need-number-at-requires
-number-at-requires c κs = search needs
+reading-number-requires : tie.Need-reading-number-requires
+reading-number-requires c κs = search needs
 
 same-length-2 : tie.Need-same-length-2
 same-length-2 c = search needs
 
 returns-4 : tie.Need-returns-4
 returns-4 c =
-    let s = c .before .before .before .before .before .before .before .before .before .before .before .before .before .pre in let p = pads-first (c .before .before .before .before .before .before .before .before .before .before .before .before .before .args .position) (c .before .before .before .before .before .before .before .before .before .before .before .before .before .args .place) (c .before .before .before .before .before .before .before .before .before .before .before .before .before .args .width) (c .before .before .before .before .before .before .before .before .before .before .before .before .before .args .part .now) (c .before .before .before .before .before .before .before .before .before .before .parse-padding .result) (s .2) (omega arith) (c .before .before .before .before .before .before .before .before .before .before .parse-padding .ensures) in reading-short _ _ _ _ (s .2) _ _ _ _ _ _ p (c .before .before .before .before .before .before .before .before .before .if1 .left) (c .before .before .before .before .before .before .before .before .if2 .left) (sym (c .before .before .before .before .before .before .before .inc-maybe .ensures .refusal) ∙ c .before .before .before .before .before .before .if3 .left) _ _ (c .before .before .before .before .emit2 .ensures .0) (c .before .before .before .before .emit2 .ensures .1) _ (c .before .number-at .ensures (s .2)) (c .if4 .taken)
+    let s = c .before .before .before .before .before .before .before .before .before .before .before .before .before .pre in let p = pads-first (c .before .before .before .before .before .before .before .before .before .before .before .before .before .args .position) (c .before .before .before .before .before .before .before .before .before .before .before .before .before .args .place) (c .before .before .before .before .before .before .before .before .before .before .before .before .before .args .width) (c .before .before .before .before .before .before .before .before .before .before .before .before .before .args .part .now) (c .before .before .before .before .before .before .before .before .before .before .parse-padding .result) (s .2) (omega arith) (c .before .before .before .before .before .before .before .before .before .before .parse-padding .ensures) in reading-short _ _ _ _ (s .2) _ _ _ _ _ _ p (c .before .before .before .before .before .before .before .before .before .if1 .left) (c .before .before .before .before .before .before .before .before .if2 .left) (sym (c .before .before .before .before .before .before .before .inc-maybe .ensures .refusal) ∙ c .before .before .before .before .before .before .if3 .left) _ _ (c .before .before .before .before .emit2 .ensures .0) (c .before .before .before .before .emit2 .ensures .1) _ (c .before .reading-number .ensures (s .2)) (c .if4 .taken)
 
 wide-requires : tie.Need-wide-requires
 wide-requires c κs = search needs
@@ -80,7 +79,7 @@ same-length-3 c = search needs
 
 returns-5 : tie.Need-returns-5
 returns-5 c =
-    let s = c .before .before .before .before .before .before .before .before .before .before .before .before .before .before .before .before .before .before .pre in let p = pads-first (c .before .before .before .before .before .before .before .before .before .before .before .before .before .before .before .before .before .before .args .position) (c .before .before .before .before .before .before .before .before .before .before .before .before .before .before .before .before .before .before .args .place) (c .before .before .before .before .before .before .before .before .before .before .before .before .before .before .before .before .before .before .args .width) (c .before .before .before .before .before .before .before .before .before .before .before .before .before .before .before .before .before .before .args .part .now) (c .before .before .before .before .before .before .before .before .before .before .before .before .before .before .before .parse-padding .result) (s .2) (omega arith) (c .before .before .before .before .before .before .before .before .before .before .before .before .before .before .before .parse-padding .ensures) in reading-there _ _ _ _ (s .2) _ _ _ _ _ _ p (c .before .before .before .before .before .before .before .before .before .before .before .before .before .before .if1 .left) (c .before .before .before .before .before .before .before .before .before .before .before .before .before .if2 .left) (sym (c .before .before .before .before .before .before .before .before .before .before .before .before .inc-maybe .ensures .refusal) ∙ c .before .before .before .before .before .before .before .before .before .before .before .if3 .left) _ _ (c .before .before .before .before .before .before .before .before .before .emit2 .ensures .0) (c .before .before .before .before .before .before .before .before .before .emit2 .ensures .1) _ _ _ (c .before .before .before .before .before .before .number-at .ensures (s .2)) (c .before .before .before .before .before .if4 .left) (c .before .before .emit3 .ensures .0) (c .before .before .emit3 .ensures .1 ∙ rw (c .before .before .before .wide .ensures))
+    let s = c .before .before .before .before .before .before .before .before .before .before .before .before .before .before .before .before .before .before .pre in let p = pads-first (c .before .before .before .before .before .before .before .before .before .before .before .before .before .before .before .before .before .before .args .position) (c .before .before .before .before .before .before .before .before .before .before .before .before .before .before .before .before .before .before .args .place) (c .before .before .before .before .before .before .before .before .before .before .before .before .before .before .before .before .before .before .args .width) (c .before .before .before .before .before .before .before .before .before .before .before .before .before .before .before .before .before .before .args .part .now) (c .before .before .before .before .before .before .before .before .before .before .before .before .before .before .before .parse-padding .result) (s .2) (omega arith) (c .before .before .before .before .before .before .before .before .before .before .before .before .before .before .before .parse-padding .ensures) in reading-there _ _ _ _ (s .2) _ _ _ _ _ _ p (c .before .before .before .before .before .before .before .before .before .before .before .before .before .before .if1 .left) (c .before .before .before .before .before .before .before .before .before .before .before .before .before .if2 .left) (sym (c .before .before .before .before .before .before .before .before .before .before .before .before .inc-maybe .ensures .refusal) ∙ c .before .before .before .before .before .before .before .before .before .before .before .if3 .left) _ _ (c .before .before .before .before .before .before .before .before .before .emit2 .ensures .0) (c .before .before .before .before .before .before .before .before .before .emit2 .ensures .1) _ _ _ (c .before .before .before .before .before .before .reading-number .ensures (s .2)) (c .before .before .before .before .before .if4 .left) (c .before .before .emit3 .ensures .0) (c .before .before .emit3 .ensures .1 ∙ rw (c .before .before .before .wide .ensures))
 
 pub reading-spec : {M : Type 1} → statement M
 reading-spec =
@@ -97,7 +96,7 @@ reading-spec =
     returns-3
     add-emit-2
     emit-requires-2
-    number-at-requires
+    reading-number-requires
     same-length-2
     returns-4
     wide-requires

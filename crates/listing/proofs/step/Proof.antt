@@ -1,0 +1,57 @@
+-- `listing::step` meets its contract: a law for each way out. Assumes nothing.
+use Rattle.listing.proofs.Steps.{step-end, step-letter, step-spoilt, step-first, step-second}
+use Rattle.listing.specs.States.{spoiled, halved}
+use borrow.Author.Needs.{needs}
+use Rattle.listing.proofs.step.Statement.{statement}
+use Rattle.listing.proofs.step.Tie as tie
+
+next-number-requires : tie.Need-next-number-requires
+next-number-requires c κs = search needs
+
+returns : tie.Need-returns
+returns c = step-end _ _ _ (c .before .if1 .taken) (c .next-number .ensures)
+
+keep-letter-requires : tie.Need-keep-letter-requires
+keep-letter-requires c κs = search needs
+
+returns-2 : tie.Need-returns-2
+returns-2 c = step-letter _ _ _ _ (c .before .before .before .before .if1 .left) (c .before .before .if2 .taken) (c .keep-letter .ensures .0) (c .keep-letter .ensures .1)
+
+digit-requires : tie.Need-digit-requires
+digit-requires c κs = search needs
+
+returns-3 : tie.Need-returns-3
+unfolding spoiled
+returns-3 c = step-spoilt _ _ _ (c .before .before .before .before .if1 .left) (c .before .before .if2 .left) (c .before .digit .ensures .0) (c .if3 .taken)
+
+returns-4 : tie.Need-returns-4
+unfolding halved
+returns-4 c = step-first _ _ _ (c .before .before .before .before .before .before .if1 .left) (c .before .before .before .before .if2 .left) (c .before .before .before .digit .ensures .0) (c .before .before .if3 .left) (c .if4 .taken)
+
+mul-keep-byte : tie.Need-mul-keep-byte
+mul-keep-byte c = search needs
+
+add-keep-byte : tie.Need-add-keep-byte
+add-keep-byte c = search needs
+
+keep-byte-requires : tie.Need-keep-byte-requires
+keep-byte-requires c κs = search needs
+
+returns-5 : tie.Need-returns-5
+returns-5 c = step-second _ _ _ _ _ (c .before .before .before .before .before .before .before .before .before .if1 .left) (c .before .before .before .before .before .before .before .if2 .left) (c .before .before .before .before .before .before .digit .ensures .0) (c .before .before .before .before .before .if3 .left) (c .before .before .before .if4 .left) (c .keep-byte .ensures .0) (c .keep-byte .ensures .1)
+
+pub step-spec : {M : Type 1} → statement M
+step-spec =
+    tie.close
+    (tie.spec
+    next-number-requires
+    returns
+    keep-letter-requires
+    returns-2
+    digit-requires
+    returns-3
+    returns-4
+    mul-keep-byte
+    add-keep-byte
+    keep-byte-requires
+    returns-5)

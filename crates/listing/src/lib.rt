@@ -1,0 +1,287 @@
+// The frame lister's work: input comes in blocks, and the text to print goes out through a lent slice. The first line is the type,
+// each other line a frame in hexadecimal. Memory is fixed, and a byte costs the same in a line of any length.
+use reader::Answer;
+use reader::size;
+use signature::judge;
+ghost use mathlib.Core.Path.{_≡_};
+ghost use Prim.Native.Nat.{_+_, _≤_, _<_};
+ghost use lib.ListN.{length, take};
+ghost use Rattle.meaning.specs.Calls.{counts};
+ghost use Rattle.reader.specs.Answers.{countsOf};
+ghost use Rattle.listing.specs.Listing.{digit as digitOf, digits as digitsOf, numeral, printed, nextNumber};
+ghost use Rattle.listing.specs.States.{machine, freshState, more, stored, step as stepOf, answerOf, lineText, output, begun as hasByte, Lists, Finishes, Puts};
+
+// Where the input stands. Line 0 is the type; a frame's line has its number, which stays at the largest. `letters` counts the type's
+// bytes, to 257, and `kept` the frame's, to 16,385: one above what the memories hold. `half` is the value of a pair's first digit, 16
+// where none waits. A line is spoilt where a byte of it is no digit.
+pub struct State {
+    pub line: u64,
+    pub letters: usize,
+    pub kept: usize,
+    pub half: u8,
+    pub spoilt: bool,
+}
+
+// What `list` did: the state behind it, how many bytes of the block it passed, and how many of the slice it wrote.
+pub struct Progress {
+    pub state: State,
+    pub passed: usize,
+    pub written: usize,
+}
+
+// The state before the first byte.
+pub fn fresh() -> State
+    ensures { λ r. ⌜ r ≡ freshState ⌝ }
+{
+    State {
+        line: 0,
+        letters: 0,
+        kept: 0,
+        half: 16,
+        spoilt: false,
+    }
+}
+
+// Lists a block of the input, or as much of it as the lent slice has room for: 84 bytes are room for a line.
+pub fn list(
+    state: State,
+    text: &mut [u8; 256],
+    frame: &mut [u8; 16384],
+    block: &[u8],
+    out: &mut [u8],
+) -> Progress
+    ensures { λ r. ⌜ Lists (machine state (now (text .entry)) (now (frame .entry))) (machine (r .state) (now (text .exit)) (now (frame .exit))) (now (block .entry)) (now (out .entry)) (now (out .exit)) r ⌝ }
+{
+    let mut s = state;
+    let mut passed = 0;
+    let mut written = 0;
+    while passed < block.len() {
+        if out.len() - written < 84 {
+            return Progress {
+                state: s,
+                passed,
+                written,
+            };
+        }
+        let byte = block[passed];
+        written = put_output(s, text, frame, byte, out, written);
+        s = step(s, text, frame, byte);
+        passed += 1;
+    }
+    Progress {
+        state: s,
+        passed,
+        written,
+    }
+}
+
+// What the end of the input prints: the answer to a last line that has no line end. Says how many bytes of the slice it wrote.
+pub fn finish(state: State, text: &[u8; 256], frame: &[u8; 16384], out: &mut [u8]) -> usize
+    ensures { λ r. ⌜ Finishes (machine state (now (text .entry)) (now (frame .entry))) (now (out .entry)) (now (out .exit)) r ⌝ }
+{
+    if out.len() < 84 {
+        return 0;
+    }
+    if !begun(state) {
+        return 0;
+    }
+    put_line(state, text, frame, out, 0)
+}
+
+fn begun(s: State) -> bool
+    ensures { λ r. ⌜ r ≡ hasByte s ⌝ }
+{
+    if s.spoilt {
+        return true;
+    }
+    if s.half < 16 {
+        return true;
+    }
+    0 < s.kept
+}
+
+// What a byte leaves of the state and the memories.
+fn step(mut s: State, text: &mut [u8; 256], frame: &mut [u8; 16384], byte: u8) -> State
+    ensures { λ r. ⌜ machine r (now (text .exit)) (now (frame .exit)) ≡ stepOf (machine s (now (text .entry)) (now (frame .entry))) byte ⌝ }
+{
+    if byte == b'\n' {
+        s.line = next_number(s.line);
+        s.kept = 0;
+        s.half = 16;
+        s.spoilt = false;
+        return s;
+    }
+    if s.line == 0 {
+        s.letters = keep_letter(text, s.letters, byte);
+        return s;
+    }
+    let value = digit(byte);
+    if 16 <= value {
+        s.spoilt = true;
+        return s;
+    }
+    if 16 <= s.half {
+        s.half = value;
+        return s;
+    }
+    s.kept = keep_byte(frame, s.kept, 16 * s.half + value);
+    s.half = 16;
+    s
+}
+
+fn next_number(n: u64) -> u64
+    ensures { λ r. ⌜ r ≡ nextNumber n ⌝ }
+{
+    if n < u64::MAX { n + 1 } else { n }
+}
+
+fn keep_letter(text: &mut [u8; 256], letters: usize, byte: u8) -> usize
+    ensures { λ r. ⌜ (r ≡ more 256 letters) × (now (text .exit) ≡ stored 256 (now (text .entry)) letters byte) ⌝ }
+{
+    if 256 <= letters {
+        return 257;
+    }
+    text[letters] = byte;
+    letters + 1
+}
+
+fn keep_byte(frame: &mut [u8; 16384], kept: usize, byte: u8) -> usize
+    ensures { λ r. ⌜ (r ≡ more 16384 kept) × (now (frame .exit) ≡ stored 16384 (now (frame .entry)) kept byte) ⌝ }
+{
+    if 16384 <= kept {
+        return 16385;
+    }
+    frame[kept] = byte;
+    kept + 1
+}
+
+fn digit(byte: u8) -> u8
+    ensures { λ r. ⌜ (r ≡ digitOf byte) × (r ≤ 16) ⌝ }
+{
+    if byte < b'0' {
+        return 16;
+    }
+    if byte <= b'9' {
+        return byte - b'0';
+    }
+    if byte < b'A' {
+        return 16;
+    }
+    if byte <= b'F' {
+        return byte - 55;
+    }
+    if byte < b'a' {
+        return 16;
+    }
+    if byte <= b'f' {
+        return byte - 87;
+    }
+    16
+}
+
+// What a byte prints, from a place on. Says the place behind it.
+fn put_output(
+    s: State,
+    text: &[u8; 256],
+    frame: &[u8; 16384],
+    byte: u8,
+    out: &mut [u8],
+    at: usize,
+) -> usize
+    requires { ⌜ at + 84 ≤ length (now out) ⌝ }
+    ensures { λ r. ⌜ Puts (now (out .entry)) (now (out .exit)) at (output (machine s (now (text .entry)) (now (frame .entry))) byte) r ⌝ }
+{
+    if byte != b'\n' {
+        return at;
+    }
+    put_line(s, text, frame, out, at)
+}
+
+// The text of the line that ends here, from a place on; nothing for the type's. Says the place behind it.
+fn put_line(s: State, text: &[u8; 256], frame: &[u8; 16384], out: &mut [u8], at: usize) -> usize
+    requires { ⌜ at + 84 ≤ length (now out) ⌝ }
+    ensures { λ r. ⌜ Puts (now (out .entry)) (now (out .exit)) at (lineText (machine s (now (text .entry)) (now (frame .entry)))) r ⌝ }
+{
+    let line = s.line;
+    if line == 0 {
+        return at;
+    }
+    let a = answer(s, text, frame);
+    put_answer(line, a, out, at)
+}
+
+fn answer(s: State, text: &[u8; 256], frame: &[u8; 16384]) -> Answer
+    ensures { λ r. ⌜ countsOf r ≡ answerOf (machine s (now (text .entry)) (now (frame .entry))) ⌝ }
+{
+    let letters = s.letters;
+    let kept = s.kept;
+    let signature = front(text, letters);
+    if !judge(signature) {
+        return refused(1);
+    }
+    if s.spoilt {
+        return refused(18);
+    }
+    if s.half < 16 {
+        return refused(18);
+    }
+    if 16384 < kept {
+        return refused(2);
+    }
+    size(signature, false, 0, front(frame, kept))
+}
+
+fn refused(refusal: u8) -> Answer
+    ensures { λ r. ⌜ countsOf r ≡ counts refusal 0 0 ⌝ }
+{
+    Answer {
+        refusal,
+        used: 0,
+        count: 0,
+    }
+}
+
+fn front(bytes: &[u8], n: usize) -> &[u8]
+    ensures { λ r. ⌜ now r ≡ take n (now (bytes .entry)) ⌝ }
+{
+    if n < bytes.len() {
+        return &bytes[..n];
+    }
+    bytes
+}
+
+fn put_answer(line: u64, a: Answer, out: &mut [u8], at: usize) -> usize
+    requires { ⌜ at + 84 ≤ length (now out) ⌝ }
+    ensures { λ r. ⌜ Puts (now (out .entry)) (now (out .exit)) at (printed line (countsOf a)) r ⌝ }
+{
+    let second = put_number(line, b' ', out, at);
+    let third = put_number(a.refusal as u64, b' ', out, second);
+    let fourth = put_number(a.used as u64, b' ', out, third);
+    put_number(a.count as u64, b'\n', out, fourth)
+}
+
+// A number in decimal, and a byte behind it.
+fn put_number(n: u64, end: u8, out: &mut [u8], at: usize) -> usize
+    requires { ⌜ at + 21 ≤ length (now out) ⌝ }
+    ensures { λ r. ⌜ Puts (now (out .entry)) (now (out .exit)) at (numeral n end) r ⌝ }
+{
+    let next = put_digits(20, n, out, at);
+    out[next] = end;
+    next + 1
+}
+
+fn put_digits(places: usize, n: u64, out: &mut [u8], at: usize) -> usize
+    requires { ⌜ at + places ≤ length (now out) ⌝ }
+    ensures { λ r. ⌜ Puts (now (out .entry)) (now (out .exit)) at (digitsOf places n) r ⌝ }
+{
+    if places == 0 {
+        return at;
+    }
+    if n < 10 {
+        out[at] = 48 + n as u8;
+        return at + 1;
+    }
+    let last = put_digits(places - 1, n / 10, out, at);
+    out[last] = 48 + (n % 10) as u8;
+    last + 1
+}

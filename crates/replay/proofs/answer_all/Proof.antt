@@ -1,0 +1,105 @@
+-- `replay::answer_all` is safe and ends: the loop counts its turns down, and no more of a line is kept than there is room for. Assumes
+-- nothing.
+use mathlib.Core.Path.{_≡_}
+use Prim.Native.Nat.{_≤_}
+use native.Mathlib.Omega.{arith}
+use lib.ListN.{length}
+use Rattle.replay.proofs.answer_all.Statement.{statement}
+use Rattle.replay.proofs.answer_all.Tie as tie
+
+abbrev Inv-loop : tie.InvT-loop
+Inv-loop line₀ frame₀ room₀ progress₀ turns₀ line frame room progress turns = (length line ≡ 262144) × (length frame ≡ 131072) × (progress .kept ≤ 262144)
+
+abbrev μ-loop : tie.MeasureT-loop
+μ-loop line₀ frame₀ room₀ progress₀ turns₀ line frame room progress turns = turns
+
+loop-holds : tie.Need-loop-holds Inv-loop μ-loop
+loop-holds c = omega arith
+
+large-buffer-requires : tie.Need-large-buffer-requires Inv-loop μ-loop
+large-buffer-requires c κs = omega arith
+
+slice-aggregate-read : tie.Need-slice-aggregate-read Inv-loop μ-loop
+slice-aggregate-read c = omega arith
+
+read-requires : tie.Need-read-requires Inv-loop μ-loop
+read-requires c κs = omega arith
+
+slice-aggregate-count : tie.Need-slice-aggregate-count Inv-loop μ-loop
+slice-aggregate-count c = omega arith
+
+count-requires : tie.Need-count-requires Inv-loop μ-loop
+count-requires c κs = omega arith
+
+answer-rest-requires : tie.Need-answer-rest-requires Inv-loop μ-loop
+answer-rest-requires c κs = omega arith
+
+same-length : tie.Need-same-length Inv-loop μ-loop
+same-length c = omega arith
+
+same-length-2 : tie.Need-same-length-2 Inv-loop μ-loop
+same-length-2 c = omega arith
+
+returns : tie.Need-returns Inv-loop μ-loop
+returns c = omega arith
+
+answer-block-requires : tie.Need-answer-block-requires Inv-loop μ-loop
+answer-block-requires c κs = omega arith
+
+complain-requires : tie.Need-complain-requires Inv-loop μ-loop
+complain-requires c κs = omega arith
+
+same-length-3 : tie.Need-same-length-3 Inv-loop μ-loop
+same-length-3 c = omega arith
+
+same-length-4 : tie.Need-same-length-4 Inv-loop μ-loop
+same-length-4 c = omega arith
+
+returns-2 : tie.Need-returns-2 Inv-loop μ-loop
+returns-2 c = omega arith
+
+sub-turns : tie.Need-sub-turns Inv-loop μ-loop
+sub-turns c = omega arith
+
+loop-less : tie.Need-loop-less Inv-loop μ-loop
+loop-less c = omega arith
+
+loop-again : tie.Need-loop-again Inv-loop μ-loop
+loop-again c = omega arith
+
+same-length-5 : tie.Need-same-length-5 Inv-loop μ-loop
+same-length-5 c = omega arith
+
+same-length-6 : tie.Need-same-length-6 Inv-loop μ-loop
+same-length-6 c = omega arith
+
+returns-3 : tie.Need-returns-3 Inv-loop μ-loop
+returns-3 c = omega arith
+
+pub answer-all-spec : {M : Type 1} → statement M
+answer-all-spec =
+    tie.close
+    (tie.spec
+    Inv-loop
+    μ-loop
+    loop-holds
+    large-buffer-requires
+    slice-aggregate-read
+    read-requires
+    slice-aggregate-count
+    count-requires
+    answer-rest-requires
+    same-length
+    same-length-2
+    returns
+    answer-block-requires
+    complain-requires
+    same-length-3
+    same-length-4
+    returns-2
+    sub-turns
+    loop-less
+    loop-again
+    same-length-5
+    same-length-6
+    returns-3)

@@ -1,0 +1,99 @@
+#!/usr/bin/env python3
+"""Picks the questions and the oracle's answers that the program `replay` is checked on.
+
+Usage: oracle/sample.py [QUESTIONS ANSWERS]     crates/replay/stdin and crates/replay/stdout of the project, if none are named
+
+Of each mode of gen.py, frames of one seed are generated and answered by target/oracle/oracle. A mode's lines are classed by refusal, and
+the classes take turns: each gives its first line that is short enough and whose type and byte order it has not given yet, until the mode's
+share of bytes is used up. A class whose lines are all too long gives its shortest. Of the mode `wide`, whose lines have 131,000 characters,
+one is taken: a frame of 65,536 bytes that is read. A frame where the oracle says PANIC is left out. No answer is our own.
+
+A table of the lines taken, by mode and refusal, is printed. The same oracle gives the same sample.
+"""
+import collections
+import pathlib
+import subprocess
+import sys
+
+HERE = pathlib.Path(__file__).resolve().parent
+TOP = HERE.parent
+SEED = 1
+# For each mode: how many frames are generated, the longest question and answer in all, and the mode's share, both in bytes.
+MODES = {"valid": (20_000, 160, 12_000), "fixed": (40_000, 120, 16_000), "boundary": (20_000, 700, 21_000), "damaged": (40_000, 140, 16_000),
+         "lead": (40_000, 120, 16_000), "order": (40_000, 100, 14_000), "depth": (40_000, 300, 24_000), "sig": (40_000, 300, 20_000),
+         "tiny": (40_000, 100, 14_000), "positions": (40_000, 120, 10_000)}
+WIDE = 60
+WIDE_BYTES = 65_536
+
+
+def answered(mode, count):
+    """Pairs of a question and the oracle's answer, without line ends."""
+    made = subprocess.run([HERE / "gen.py", str(SEED), str(count), mode], stdout=subprocess.PIPE, check=True).stdout
+    said = subprocess.run([TOP / "target" / "oracle" / "oracle"], input=made, stdout=subprocess.PIPE, check=True).stdout
+    pairs = list(zip(made.split(b"\n")[:-1], said.split(b"\n")[:-1], strict=True))
+    return [(question, answer) for question, answer in pairs if answer != b"PANIC"]
+
+
+def size(pair):
+    return len(pair[0]) + len(pair[1])
+
+
+def turns(lines, longest):
+    """The lines of one class in the order in which it gives them."""
+    given = set()
+    for question, answer in [line for line in lines if size(line) <= longest] or [min(lines, key=size)]:
+        shape = tuple(question.split(b" ")[:2])
+        if shape not in given:
+            given.add(shape)
+            yield question, answer
+
+
+def picked(mode, count, longest, share):
+    classes = collections.defaultdict(list)
+    for question, answer in answered(mode, count):
+        classes[int(answer.split(b" ")[0])].append((question, answer))
+    waiting = {refusal: turns(classes[refusal], longest) for refusal in sorted(classes)}
+    while waiting:
+        for refusal in list(waiting):
+            line = next(waiting[refusal], None)
+            if line is None or share < size(line):
+                del waiting[refusal]
+                continue
+            share -= size(line)
+            yield line
+
+
+def picked_wide():
+    for question, answer in answered("wide", WIDE):
+        data = question.split(b" ")[3]
+        if answer.startswith(b"0 ") and len(data) == 2 * WIDE_BYTES and len(answer) < 200:
+            return [(question, answer)]
+    sys.exit("no wide frame is read")
+
+
+def print_table(sample):
+    refusals = sorted({refusal for counts in sample.values() for refusal in counts})
+    print(f"{'mode':10}" + "".join(f"{refusal:6}" for refusal in refusals) + "   all")
+    for mode, counts in sample.items():
+        print(f"{mode:10}" + "".join(f"{counts[refusal]:6}" for refusal in refusals) + f"{sum(counts.values()):6}")
+    whole = sum(sample.values(), collections.Counter())
+    print(f"{'all':10}" + "".join(f"{whole[refusal]:6}" for refusal in refusals) + f"{sum(whole.values()):6}")
+
+
+def main(words):
+    if len(words) not in (0, 2):
+        sys.exit(__doc__)
+    folder = TOP / "crates" / "replay"
+    questions, answers = map(pathlib.Path, words) if words else (folder / "stdin", folder / "stdout")
+    lines, sample = [], {}
+    for mode in [*MODES, "wide"]:
+        chosen = list(picked(mode, *MODES[mode])) if mode in MODES else picked_wide()
+        sample[mode] = collections.Counter(int(answer.split(b" ")[0]) for _, answer in chosen)
+        lines += chosen
+    questions.write_bytes(b"".join(question + b"\n" for question, _ in lines))
+    answers.write_bytes(b"".join(answer + b"\n" for _, answer in lines))
+    print_table(sample)
+
+
+if __name__ == "__main__":
+    main(sys.argv[1:])

@@ -74,6 +74,11 @@ abbrev upTo : ℕ → ℕ → List ℕ
 upTo a zero = []
 upTo a (suc k) = a ∷ upTo (a + 1) k
 
+-- so many maybes that are present, at place 0
+abbrev presents : ℕ → List ℕ → List ℕ
+presents zero es = es
+presents (suc k) es = 109 ∷ 0 ∷ 0 ∷ presents k es
+
 -- A type, a position, a frame, and the answer: refusal, bytes used, number of events, place of the refusal; and the events.
 -- Or a type, a value, and its bytes.
 pub data Row : Type 0 where
@@ -129,6 +134,8 @@ table =
     reads (array (maybe byteType)) 0 (0x05 ∷ 0x06 ∷ 0x07 ∷ 0x02 ∷ 0x03 ∷ []) (0 ∷ 4 ∷ 6 ∷ 0 ∷ []) (97 ∷ 0 ∷ 0 ∷ 109 ∷ 0 ∷ 0 ∷ 121 ∷ 0 ∷ 5 ∷ 109 ∷ 1 ∷ 0 ∷ 121 ∷ 1 ∷ 6 ∷ 41 ∷ 4 ∷ 0 ∷ []) ∷
     -- an entry's padding is judged over the dictionary's whole part
     reads (dictionary (number uint16) (basic (text signature))) 0 (0x00 ∷ 0x00 ∷ 0x00 ∷ 0x03 ∷ 0x00 ∷ 0x03 ∷ []) (4 ∷ 0 ∷ 0 ∷ 3 ∷ []) [] ∷
+    -- a key's width is of the entry's length as its padding leaves it: 255 bytes behind 1
+    reads (dictionary (text string) int16Type) 0 ((0x00 ∷ 0x00 ∷ 0x03 ∷ 0x00 ∷ 0x01 ∷ 0x00 ∷ []) ++ (replicate 251 0x6b ++ (0x00 ∷ 0x05 ∷ 0x00 ∷ 0xfc ∷ 0x05 ∷ 0x00 ∷ 0x05 ∷ 0x01 ∷ []))) (0 ∷ 265 ∷ 6 ∷ 0 ∷ []) (123 ∷ 0 ∷ 0 ∷ 115 ∷ 0 ∷ 0 ∷ 110 ∷ 2 ∷ 3 ∷ 115 ∷ 6 ∷ 251 ∷ 110 ∷ 258 ∷ 5 ∷ 41 ∷ 265 ∷ 0 ∷ []) ∷
     -- a maybe's closing byte is the one where the child stopped; a fixed child may leave bytes
     reads (maybe strings) 0 (0x01 ∷ 0x00 ∷ []) (7 ∷ 0 ∷ 0 ∷ 0 ∷ []) [] ∷
     reads (maybe byteType) 0 (0x05 ∷ 0x06 ∷ []) (0 ∷ 1 ∷ 2 ∷ 0 ∷ []) (109 ∷ 0 ∷ 0 ∷ 121 ∷ 0 ∷ 5 ∷ []) ∷
@@ -140,6 +147,8 @@ table =
     reads variant 0 (0x05 ∷ 0x00 ∷ 0x79 ∷ 0x00 ∷ []) (9 ∷ 0 ∷ 0 ∷ 2 ∷ []) [] ∷
     -- depth is found when it is reached
     reads (nested array 33 byteType) 0 [] (0 ∷ 0 ∷ 2 ∷ 0 ∷ []) (97 ∷ 0 ∷ 0 ∷ 41 ∷ 0 ∷ 0 ∷ []) ∷
+    -- a nothing opens nothing, also inside 64 open containers
+    reads (nested maybe 65 byteType) 0 (replicate 64 0) (0 ∷ 64 ∷ 65 ∷ 0 ∷ []) (presents 64 (78 ∷ 0 ∷ 0 ∷ [])) ∷
     -- a number that is cut is no number
     reads int16Type 0 (0x05 ∷ []) (3 ∷ 0 ∷ 0 ∷ 0 ∷ []) [] ∷
     reads (structure (next byteType (last int16Type))) 0 (0x01 ∷ 0x00 ∷ 0x05 ∷ []) (3 ∷ 0 ∷ 0 ∷ 2 ∷ []) [] ∷

@@ -1,14 +1,14 @@
 -- Rounding up by a mask, in numbers of 64 bits. Assumes nothing.
 use mathlib.Core.Path.{_≡_, refl, sym, ap, _∙_}
-use mathlib.Core.Bool.{Bool, true, false, _||_}
+use mathlib.Core.Bool.{true, false}
 use Prim.Native.Nat.{ℕ, _+_, _-_, _*_, _/_, _%_, _^_, _≤_, _<_}
 use native.Mathlib.Omega.{arith}
 use lib.Bits.{bitAnd, and-high}
 use lib.Dec.{eqb}
-use borrow.Author.Tests.{eqb-true, ne-eqb}
-use Rattle.meaning.specs.Padding.{padding}
-use Rattle.meaning.proofs.PaddingLaws.{Aligns, by1, by2, by4, by8}
-use Rattle.leaves.specs.Paddings.{isAlignment, paddingFor}
+use borrow.Author.Tests.{ne-eqb}
+use Rattle.meaning.specs.Padding.{isAlignment, Aligns, padding}
+use Rattle.meaning.proofs.PaddingLaws.{by-alignment}
+use Rattle.leaves.specs.Paddings.{paddingFor}
 use Rattle.leaves.specs.Answers.{done, refused}
 
 -- a sum that wraps once at most
@@ -24,33 +24,29 @@ wraps s x hs h = record { times = s / 18446744073709551616; once = omega arith; 
 led : {a : ℕ} → Aligns a → (value last r : ℕ) → value < 2 ^ 64 → last < 2 ^ 64 → r < 2 ^ 64
     → Wraps (value + a) (last + 1) → Wraps (r + value) (last / a * a) → r ≡ padding value a
 unfolding padding
-led by1 value last r v l f p q = omega arith
-led by2 value last r v l f p q = omega arith
-led by4 value last r v l f p q = omega arith
-led by8 value last r v l f p q = omega arith
+led al value last r v l f p q =
+    by-alignment (λ a. Wraps (value + a) (last + 1) → Wraps (r + value) (last / a * a) → r ≡ padding value a)
+    (λ p q. omega arith) (λ p q. omega arith) (λ p q. omega arith) (λ p q. omega arith) al p q
 
 -- the mask of an alignment's multiples
 masked : {a : ℕ} → Aligns a → (last low : ℕ) → last < 2 ^ 64 → low < 2 ^ 64 → (low + 1) % 2 ^ 64 ≡ a
     → bitAnd last (2 ^ 64 - 1 - low) ≡ last / a * a
-masked by1 last low l f h =
-    let e : 18446744073709551615 - low ≡ 18446744073709551615 = omega arith in
-    rw e (omega (arith, and-high last 64 0))
-masked by2 last low l f h =
-    let e : 18446744073709551615 - low ≡ 18446744073709551614 = omega arith in
-    rw e (omega (arith, and-high last 63 1))
-masked by4 last low l f h =
-    let e : 18446744073709551615 - low ≡ 18446744073709551612 = omega arith in
-    rw e (omega (arith, and-high last 62 2))
-masked by8 last low l f h =
-    let e : 18446744073709551615 - low ≡ 18446744073709551608 = omega arith in
-    rw e (omega (arith, and-high last 61 3))
+masked al last low l f h =
+    by-alignment (λ a. (low + 1) % 2 ^ 64 ≡ a → bitAnd last (2 ^ 64 - 1 - low) ≡ last / a * a)
+    (λ h. let e : 18446744073709551615 - low ≡ 18446744073709551615 = omega arith in rw e (omega (arith, and-high last 64 0)))
+    (λ h. let e : 18446744073709551615 - low ≡ 18446744073709551614 = omega arith in rw e (omega (arith, and-high last 63 1)))
+    (λ h. let e : 18446744073709551615 - low ≡ 18446744073709551612 = omega arith in rw e (omega (arith, and-high last 62 2)))
+    (λ h. let e : 18446744073709551615 - low ≡ 18446744073709551608 = omega arith in rw e (omega (arith, and-high last 61 3)))
+    al h
 
 reached : {a : ℕ} → Aligns a → (value last : ℕ) → value < 2 ^ 64 → last < 2 ^ 64
     → (last + 1) % 2 ^ 64 ≡ (value + a) % 2 ^ 64 → Wraps (value + a) (last + 1)
-reached by1 value last v l h = record { times = (value + 1 - 1) / 18446744073709551616; once = omega arith; sum = omega arith }
-reached by2 value last v l h = record { times = (value + 2 - 1) / 18446744073709551616; once = omega arith; sum = omega arith }
-reached by4 value last v l h = record { times = (value + 4 - 1) / 18446744073709551616; once = omega arith; sum = omega arith }
-reached by8 value last v l h = record { times = (value + 8 - 1) / 18446744073709551616; once = omega arith; sum = omega arith }
+reached {a} al value last v l h = record {
+  times = (value + a - 1) / 18446744073709551616;
+  once = by-alignment (λ a. (value + a - 1) / 18446744073709551616 ≤ 1) (omega arith) (omega arith) (omega arith) (omega arith) al;
+  sum = by-alignment (λ a. (last + 1) % 2 ^ 64 ≡ (value + a) % 2 ^ 64 → value + a ≡ last + 1 + (value + a - 1) / 18446744073709551616 * 18446744073709551616)
+      (λ h. omega arith) (λ h. omega arith) (λ h. omega arith) (λ h. omega arith) al h;
+}
 
 -- what wrapping sums and a mask lead to is the padding
 pub rounded-up : {a : ℕ} → Aligns a → (value last low r : ℕ) → value < 2 ^ 64 → last < 2 ^ 64 → low < 2 ^ 64 → r < 2 ^ 64
@@ -62,26 +58,15 @@ rounded-up {a} p value last low r v l w f hl hw hr =
     (wraps (r + value) (last / a * a) (omega arith) (hr ∙ masked p last low l w hw))
 
 pub isAlignment-aligns : (a : ℕ) → isAlignment a ≡ true → Aligns a
-unfolding isAlignment
-isAlignment-aligns a h = go (eqb a 1) (eqb a 2) (eqb a 4) (eqb a 8) refl refl refl refl h
-  where
-    go : (w x y z : Bool) → eqb a 1 ≡ w → eqb a 2 ≡ x → eqb a 4 ≡ y → eqb a 8 ≡ z → (w || (x || (y || z))) ≡ true → Aligns a
-    go true x y z p q r s h = rw (eqb-true a 1 p) by1
-    go false true y z p q r s h = rw (eqb-true a 2 q) by2
-    go false false true z p q r s h = rw (eqb-true a 4 r) by4
-    go false false false true p q r s h = rw (eqb-true a 8 s) by8
-    go false false false false p q r s h = absurd (let z : _≡_ {A = ℕ} 0 1 = cc in omega arith)
+isAlignment-aligns a h = record { listed = h }
 
 pub paddingFor-not : (value a : ℕ) → isAlignment a ≡ false → refused 17 ≡ paddingFor value a
 unfolding paddingFor
 paddingFor-not value a h = rw h
 
 pub paddingFor-is : {a : ℕ} → Aligns a → (value : ℕ) {r : ℕ} → r ≡ padding value a → done r ≡ paddingFor value a
-unfolding paddingFor isAlignment
-paddingFor-is by1 value h = rw h
-paddingFor-is by2 value h = rw h
-paddingFor-is by4 value h = rw h
-paddingFor-is by8 value h = rw h
+unfolding paddingFor
+paddingFor-is al value h = rw (al .listed, h)
 
 pub alignment-last : (a : ℕ) → (a ≡ 1 → ⊥) → (a ≡ 2 → ⊥) → (a ≡ 4 → ⊥) → eqb a 8 ≡ isAlignment a
 unfolding isAlignment

@@ -1,18 +1,13 @@
 -- What the padding leaves answer. Assumes nothing: these are definitions.
 use mathlib.Core.List.{List}
-use mathlib.Core.Bool.{Bool, _||_}
 use Prim.Native.Nat.{ℕ, _+_}
 use lib.Dec.{leb, ltb, eqb}
 use lib.ListN.{drop}
 use Rattle.meaning.specs.Choice.{pick}
-use Rattle.meaning.specs.Padding.{padding, leadingZeros}
+use Rattle.meaning.specs.Padding.{isAlignment, padding, leadingZeros}
 use Rattle.leaves.specs.declared.utils.Answer.{Answer}
 use Rattle.leaves.specs.Answers.{done, refused}
 use Rattle.leaves.specs.Standing.{holds}
-
--- an alignment is 1, 2, 4 or 8
-unfoldable pub isAlignment : ℕ → Bool
-isAlignment a = eqb a 1 || (eqb a 2 || (eqb a 4 || eqb a 8))
 
 -- any other alignment is 17
 unfoldable pub paddingFor : ℕ → ℕ → Answer

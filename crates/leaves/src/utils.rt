@@ -3,7 +3,8 @@ use std::num::wrapping_add_usize;
 use std::num::wrapping_sub_usize;
 ghost use mathlib.Core.Path.{_≡_};
 ghost use Rattle.leaves.specs.Answers.{done, refused};
-ghost use Rattle.leaves.specs.Paddings.{isAlignment, paddingFor};
+ghost use Rattle.meaning.specs.Padding.{isAlignment};
+ghost use Rattle.leaves.specs.Paddings.{paddingFor};
 
 // A refusal's number, 0 where there is none, and a value, 0 where it is refused.
 pub struct Answer {

@@ -51,5 +51,5 @@ abbrev pub want : Row → List ℕ
 want (lists input text) = text
 
 pub listings-hold : map got table ≡ map want table
-unfolding linesFrom lastLine lines digit before bytesOf bytesBehind frameAnswer answer digits numeral printed nextNumber listedFrom listedLines listing Numbers.bytes Numbers.value Padding.padding Padding.leadingZeros Offsets.firstWidth Offsets.encodedWidth Offsets.bareWidth Offsets.backTable Offsets.entries Offsets.noneAbove Offsets.tableFrom Offsets.tableOf Offsets.endsOf Offsets.tableStands Texts.withoutFinalNul Texts.noNul Texts.following Texts.afterByte Texts.utf8From Texts.utf8 Texts.textRefusal Depths.depthRefusal Types.alignment Types.fixed Types.fixedSize TypeText.basicAmong TypeText.made TypeText.endedBy TypeText.basicTree TypeText.entryBy TypeText.entryIn TypeText.arrayIn TypeText.typeIn TypeText.fieldsIn TypeText.typeWithin TypeText.firstType TypeText.nothingBehind TypeText.typeOf Outcome.chain Outcome.unused Outcome.enclosed Reading.child Reading.within Reading.paddingOf Reading.textAs Reading.readText Reading.readBool Reading.numberIn Reading.endByte Reading.presentIn Reading.maybeIn Reading.elements Reading.elementsTo Reading.tabled Reading.arrayBody Reading.arrayIn Reading.childStep Reading.offsetStands Reading.fieldOffset Reading.padded Reading.lastNul Reading.variantValue Reading.variantType Reading.variantTyped Reading.variantBody Reading.variantIn Reading.pad Reading.readNumber Reading.readBasic Reading.readMaybe Reading.readArray Reading.endPadding Reading.fieldsIn Reading.structureBody Reading.structureIn Reading.readStructure Reading.valueFrom Reading.fixedKey Reading.valueBefore Reading.keyTo Reading.textKey Reading.entryFrom Reading.readEntry Reading.entryStep Reading.readVariant Reading.readTree Reading.reading Calls.frameOf Calls.frameReading Calls.sized Calls.size
+unfolding linesFrom lastLine lines digit before bytesOf bytesBehind frameAnswer answer digits numeral printed nextNumber listedFrom listedLines listing Numbers.bytes Numbers.value Padding.padding Padding.leadingZeros Offsets.firstWidth Offsets.encodedWidth Offsets.bareWidth Offsets.backTable Offsets.entries Offsets.noneAbove Offsets.tableFrom Offsets.tableOf Offsets.endsOf Offsets.tableStands Texts.withoutFinalNul Texts.noNul Texts.following Texts.afterByte Texts.utf8From Texts.utf8 Texts.textRefusal Depths.depthRefusal Types.alignment Types.fixed Types.fixedSize TypeText.basicAmong TypeText.made TypeText.endedBy TypeText.basicTree TypeText.entryBy TypeText.entryBegun TypeText.arrayBegun TypeText.typeBegun TypeText.fieldsBegun TypeText.typeWithin TypeText.firstType TypeText.nothingBehind TypeText.typeOf Outcome.chain Outcome.unused Outcome.enclosed Reading.child Reading.within Reading.paddingOf Reading.textAs Reading.readText Reading.readBool Reading.numberIn Reading.endByte Reading.presentIn Reading.maybeIn Reading.elements Reading.elementsTo Reading.tabled Reading.arrayBody Reading.arrayIn Reading.childStep Reading.offsetStands Reading.fieldOffset Reading.padded Reading.lastNul Reading.variantValue Reading.variantType Reading.variantTyped Reading.variantBody Reading.variantIn Reading.pad Reading.readNumber Reading.readBasic Reading.readMaybe Reading.readArray Reading.endPadding Reading.fieldsIn Reading.structureBody Reading.structureIn Reading.readStructure Reading.valueFrom Reading.fixedKey Reading.valueBefore Reading.keyTo Reading.textKey Reading.entryFrom Reading.readEntry Reading.entryStep Reading.readVariant Reading.readTree Reading.reading Calls.frameOf Calls.frameReading Calls.sized Calls.size
 listings-hold = refl

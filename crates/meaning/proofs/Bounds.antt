@@ -18,12 +18,14 @@ use Rattle.meaning.specs.Texts.{withoutFinalNul, textRefusal}
 use Rattle.meaning.specs.Depths as Depth
 use Rattle.meaning.specs.Depths.{Depths, Opened, total, depthRefusal, opened, noneOpen}
 use Rattle.meaning.specs.Types.{Basic, bool, number, text, Tree, Fields, basic, variant, maybe, array, dictionary, structure, last, next, numberWidth, basicAlignment, basicFixed, alignment, largestAlignment, fixed, allFixed}
-use Rattle.meaning.specs.TypeText.{numberLetter, textLetter, typeOf}
+use Rattle.meaning.specs.Letters.{numberLetter, textLetter}
+use Rattle.meaning.specs.TypeText.{typeOf}
 use Rattle.meaning.specs.Events.{Event, event, textEvent, present, nothing}
 use Rattle.meaning.specs.Outcome.{Outcome, outcome, done, refused, after, chain, unused, passing, enclosed}
 use Rattle.meaning.specs.Reading
 use Rattle.meaning.specs.Reading.{Reader, child, within, paddingOf, textAs, readText, readBool, numberIn, endByte, presentIn, maybeIn, further, elements, elementsTo, Step, tabled, arrayBody, arrayIn, childStep, Field, offsetStands, fieldOffset, padded, lastNul, separator, remaining, variantValue, variantType, variantTyped, variantBody, variantIn, pad, readNumber, readBasic, readMaybe, readArray, endPadding, fieldsIn, structureBody, structureIn, readStructure, valueFrom, fixedKey, valueBefore, keyTo, textKey, entryFrom, readEntry, entryStep, readVariant, readTree, readers, reading}
-use Rattle.meaning.specs.Calls.{limit, mostVariants, frameOf, frameReading}
+use Rattle.meaning.specs.Limits.{largestFrame, mostVariants}
+use Rattle.meaning.specs.Calls.{frameOf, frameReading}
 use Rattle.meaning.proofs.Tests.{both-left, both-right, holds}
 use Rattle.meaning.proofs.DepthLaws.{limits}
 use Rattle.meaning.proofs.OffsetLaws.{encodedWidth-positive}
@@ -579,7 +581,7 @@ frame-used type big position frame = go (typeOf type)
 
     go : (t : Option Tree) → frameOf big position frame t .used ≤ length frame
     go none = unfold frameOf in omega arith
-    go (some t) = unfold frameOf in pick-used (leb (length frame) limit && leb position limit) _ (used-most position big mostVariants t noneOpen 0 frame)
+    go (some t) = unfold frameOf in pick-used (leb (length frame) largestFrame && leb position largestFrame) _ (used-most position big mostVariants t noneOpen 0 frame)
 
 -- at most 129 events for each byte and 129 besides: no more than 8,454,273, so every count is inside 64 bits
 pub frame-events : (type : List ℕ) (big : Bool) (position : ℕ) (frame : List ℕ) → frameReading type big position frame .refusal ≡ 0
@@ -587,7 +589,7 @@ pub frame-events : (type : List ℕ) (big : Bool) (position : ℕ) (frame : List
 unfolding frameReading
 frame-events type big position frame z = go (typeOf type) z
   where
-    few : (t : Tree) → length frame ≤ limit → reading position big mostVariants t noneOpen 0 frame .refusal ≡ 0 → length (reading position big mostVariants t noneOpen 0 frame .events) ≤ 8454273
+    few : (t : Tree) → length frame ≤ largestFrame → reading position big mostVariants t noneOpen 0 frame .refusal ≡ 0 → length (reading position big mostVariants t noneOpen 0 frame .events) ≤ 8454273
     few t h z = unfold cost in omega (arith, events-most position big mostVariants t noneOpen 0 frame z, used-most position big mostVariants t noneOpen 0 frame)
 
     picked : (x : Bool) (o : Outcome) → (T x → o .refusal ≡ 0 → length (o .events) ≤ 8454273) → pick x o (refused 2 0) .refusal ≡ 0 → length (pick x o (refused 2 0) .events) ≤ 8454273
@@ -596,4 +598,4 @@ frame-events type big position frame z = go (typeOf type) z
 
     go : (t : Option Tree) → frameOf big position frame t .refusal ≡ 0 → length (frameOf big position frame t .events) ≤ 8454273
     go none = unfold frameOf in λ z. absurd (omega arith)
-    go (some t) = unfold frameOf in picked (leb (length frame) limit && leb position limit) _ (λ h z. few t (leb→le (length frame) limit (both-left (leb (length frame) limit) (leb position limit) h)) z)
+    go (some t) = unfold frameOf in picked (leb (length frame) largestFrame && leb position largestFrame) _ (λ h z. few t (leb→le (length frame) largestFrame (both-left (leb (length frame) largestFrame) (leb position largestFrame) h)) z)

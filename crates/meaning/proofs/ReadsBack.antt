@@ -12,20 +12,20 @@ use lib.Seq.{take-at, drop-at, getD-at}
 use borrow.Author.Tests.{le-leb, lt-leb, eq-eqb, ne-eqb}
 use Rattle.meaning.specs.Choice.{pick}
 use Rattle.meaning.specs.Numbers.{bytes, value, ordered}
-use Rattle.meaning.specs.Padding.{padding, zeros}
+use Rattle.meaning.specs.Padding.{padding, zeros, Aligns}
 use Rattle.meaning.specs.Offsets.{writtenWidth, table, tableOf, endsOf, tableStands}
 use Rattle.meaning.specs.Texts.{withoutFinalNul, textRefusal}
 use Rattle.meaning.specs.Depths as Depth
 use Rattle.meaning.specs.Depths.{Depths, depthRefusal, opened}
 use Rattle.meaning.specs.Types.{Number, Text, bool, number, text, numberWidth}
-use Rattle.meaning.specs.TypeText.{numberLetter, textLetter}
+use Rattle.meaning.specs.Letters.{numberLetter, textLetter}
 use Rattle.meaning.specs.Events.{Event, event, textEvent, present, nothing}
 use Rattle.meaning.specs.Written.{Piece, stop, layout, eventsFrom, ends, allFit, deeper, bit, basicPiece, maybePiece, enclosing, arrayBytes, arrayPiece}
 use Rattle.meaning.specs.Outcome.{Outcome, done, after, chain, unused, passing, enclosed}
 use Rattle.meaning.specs.Reading.{Reader, child, within, textAs, readText, readBool, numberIn, readNumber, readBasic, endByte, presentIn, maybeIn, readMaybe, further, elements, elementsTo, Step, tabled, arrayBody, arrayIn, readArray, childStep}
 use Rattle.meaning.proofs.Tests.{both-left, both-right, holds}
 use Rattle.meaning.proofs.NumberLaws.{length-bytes, value-bytes, ordered-twice, length-ordered}
-use Rattle.meaning.proofs.PaddingLaws.{Aligns, padding-shift, padding-aligned, padding-none}
+use Rattle.meaning.proofs.PaddingLaws.{padding-shift, padding-aligned, padding-none}
 use Rattle.meaning.proofs.OffsetLaws.{Fits, Chosen, writtenWidth-chosen}
 use Rattle.meaning.proofs.OutcomeLaws.{chain-done, enclosed-done, within-done, behind-padding, child-between, child-last}
 use Rattle.meaning.proofs.LayoutLaws.{All, nil, cons, layout-split, layout-shift, placed, length-placed, stop-placed, length-layout, length-table, length-ends, table-found, ends-found, table-stands}

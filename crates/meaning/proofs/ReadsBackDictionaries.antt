@@ -11,7 +11,7 @@ use lib.Seq.{drop-at, take-at}
 use borrow.Author.Tests.{le-leb}
 use Rattle.meaning.specs.Choice.{pick}
 use Rattle.meaning.specs.Numbers.{bytes, value}
-use Rattle.meaning.specs.Padding.{padding, zeros}
+use Rattle.meaning.specs.Padding.{padding, zeros, Aligns}
 use Rattle.meaning.specs.Offsets.{encodedWidth, writtenWidth, lastOffset, backTable}
 use Rattle.meaning.specs.Depths.{Depths}
 use Rattle.meaning.specs.Events.{Event}
@@ -20,7 +20,7 @@ use Rattle.meaning.specs.Outcome.{Outcome, done, chain, passing}
 use Rattle.meaning.specs.Reading.{Reader, child, further, pad, endPadding, valueFrom, fixedKey, valueBefore, keyTo, textKey, entryFrom, readEntry, entryStep, readArray}
 use Rattle.meaning.proofs.Tests.{both-left, both-right}
 use Rattle.meaning.proofs.NumberLaws.{length-bytes, value-bytes}
-use Rattle.meaning.proofs.PaddingLaws.{Aligns, padding-shift, padding-aligned, Divides}
+use Rattle.meaning.proofs.PaddingLaws.{padding-shift, padding-aligned, Divides}
 use Rattle.meaning.proofs.OffsetLaws.{Fits, encodedWidth-fits, fits-below, Chosen, writtenWidth-chosen}
 use Rattle.meaning.proofs.OutcomeLaws.{chain-done, behind-padding}
 use Rattle.meaning.proofs.LayoutLaws.{All, nil, cons, layout-cons, layout-one, events-cons, events-one, fieldEnds-one, fieldEnds-fixed, fieldEnds-other, placed, length-placed, stop-placed, length-layout, lastOffset-at}

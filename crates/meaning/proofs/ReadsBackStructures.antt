@@ -11,7 +11,7 @@ use lib.Seq.{take-at, drop-at}
 use borrow.Author.Tests.{le-leb, ne-eqb}
 use Rattle.meaning.specs.Choice.{pick}
 use Rattle.meaning.specs.Numbers.{bytes, value}
-use Rattle.meaning.specs.Padding.{padding, zeros}
+use Rattle.meaning.specs.Padding.{padding, zeros, Aligns}
 use Rattle.meaning.specs.Offsets.{encodedWidth, writtenWidth, backTable}
 use Rattle.meaning.specs.Depths as Depth
 use Rattle.meaning.specs.Depths.{Depths, depthRefusal, opened}
@@ -21,7 +21,7 @@ use Rattle.meaning.specs.Outcome.{Outcome, done, chain, passing, enclose
 use Rattle.meaning.specs.Reading.{Reader, child, further, Field, offsetStands, fieldOffset, padded, pad, endPadding, fieldsIn, structureBody, structureIn, readStructure}
 use Rattle.meaning.proofs.Tests.{both-left, both-right}
 use Rattle.meaning.proofs.NumberLaws.{length-bytes, value-bytes}
-use Rattle.meaning.proofs.PaddingLaws.{Aligns, padding-shift, padding-aligned, Divides}
+use Rattle.meaning.proofs.PaddingLaws.{padding-shift, padding-aligned, Divides}
 use Rattle.meaning.proofs.OffsetLaws.{Fits, encodedWidth-fits, encodedWidth-positive, fits-below, Chosen, writtenWidth-chosen}
 use Rattle.meaning.proofs.OutcomeLaws.{chain-done, enclosed-done, within-done, pad-done, behind-padding}
 use Rattle.meaning.proofs.LayoutLaws.{All, nil, cons, layout-cons, layout-one, events-cons, events-one, fieldEnds-one, fieldEnds-fixed, fieldEnds-other, backTable-cons, backTable-one, layout-split, layout-shift, placed, length-placed, stop-placed, length-layout, length-backTable}

@@ -11,7 +11,7 @@ use lib.Dec.{T, leb, eqb, leb→le}
 use lib.ListN.{length, drop, getD, length-append, length-replicate}
 use lib.Seq.{drop-at, getD-append-add, getD-append-seam}
 use borrow.Author.Tests.{eq-eqb, ne-eqb}
-use Rattle.meaning.specs.Padding.{padding, zeros}
+use Rattle.meaning.specs.Padding.{padding, zeros, Aligns}
 use Rattle.meaning.specs.Texts.{textRefusal}
 use Rattle.meaning.specs.Depths as Depth
 use Rattle.meaning.specs.Depths.{Depths, depthRefusal, opened}
@@ -22,7 +22,7 @@ use Rattle.meaning.specs.Written.{Piece, deeper, enclosing, variantPiece
 use Rattle.meaning.specs.Outcome.{Outcome, done, chain, enclosed}
 use Rattle.meaning.specs.Reading.{Reader, child, textAs, lastNul, separator, remaining, variantValue, variantType, variantTyped, variantBody, variantIn, readVariant}
 use Rattle.meaning.proofs.Tests.{both-left, both-right}
-use Rattle.meaning.proofs.PaddingLaws.{Aligns, by8, divides-eight}
+use Rattle.meaning.proofs.PaddingLaws.{by8, divides-eight}
 use Rattle.meaning.proofs.OutcomeLaws.{chain-done, enclosed-done, within-done, behind-padding, child-between}
 use Rattle.meaning.proofs.TypeTextLaws.{plain, plain-at, plain-typeText, typeText-positive, typeText-noNul, typeText-utf8, typeText-withoutFinalNul, typeOf-typeText}
 use Rattle.meaning.proofs.ReadsBack.{behind-aligned, Reads, Good, reads-here}

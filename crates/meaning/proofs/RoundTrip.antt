@@ -17,10 +17,12 @@ use Rattle.meaning.specs.Values.{BasicValue, ValueOver, FieldsOver, Valu
 use Rattle.meaning.specs.Written.{Piece, layout, basicPiece, maybePiece, arrayPiece, structureBytes, structurePiece, entryPiece, variantPiece, pieceOver, piecesOver, piece, written}
 use Rattle.meaning.specs.Outcome.{Outcome, done, refused}
 use Rattle.meaning.specs.Reading.{Reader, Field, readBasic, readMaybe, readArray, childStep, entryStep, readStructure, readVariant, readTree, readers, reading}
-use Rattle.meaning.specs.Calls.{limit, mostVariants, frameOf, frameReading}
+use Rattle.meaning.specs.Limits.{largestFrame, mostVariants}
+use Rattle.meaning.specs.Calls.{frameOf, frameReading}
+use Rattle.meaning.specs.Padding.{Aligns}
 use Rattle.meaning.proofs.Tests.{both-left, both-right, holds}
 use Rattle.meaning.proofs.NumberLaws.{length-bytes, length-ordered}
-use Rattle.meaning.proofs.PaddingLaws.{Aligns, aligns-max, aligns-positive, Divides, divides-eight, divides-left, divides-right}
+use Rattle.meaning.proofs.PaddingLaws.{aligns-max, aligns-positive, Divides, divides-eight, divides-left, divides-right}
 use Rattle.meaning.proofs.TypeLaws.{number-aligned, basic-aligned, aligned, fields-aligned}
 use Rattle.meaning.proofs.TypeTextLaws.{typeOf-typeText}
 use Rattle.meaning.proofs.LayoutLaws.{All, nil, cons, layout-cons}
@@ -141,7 +143,7 @@ module _ (position : ℕ) (big : Bool) where
       (λ x. variant-good position (λ u. reading position big n u) (x .0) (piece big n (x .0) (x .1)) (aligned (x .0)) (all-good n (x .0) (x .1))) t v
 
 -- by the type, from any depth
-pub round-trip : (position : ℕ) (big : Bool) (n : ℕ) (t : Tree) (v : Value n t) (d : Depths) → position % 8 ≡ 0 → T (piece big n t v .fits d) → length (written big n t v) ≤ limit
+pub round-trip : (position : ℕ) (big : Bool) (n : ℕ) (t : Tree) (v : Value n t) (d : Depths) → position % 8 ≡ 0 → T (piece big n t v .fits d) → length (written big n t v) ≤ largestFrame
     → reading position big n t d 0 (written big n t v) ≡ done (length (written big n t v)) (piece big n t v .events 0)
 unfolding written
 round-trip position big n t v d h f s =
@@ -149,9 +151,9 @@ round-trip position big n t v d h f s =
     reads-here position (aligned t) (all-good position big n t v) d 0 f s (divides-eight (aligned t) (position + 0) z)
 
 -- by the type's text, from the start, as the public calls read
-pub round-trip-frame : (position : ℕ) (big : Bool) (t : Tree) (v : Value mostVariants t) → position % 8 ≡ 0 → position ≤ limit → length (typeText t) ≤ 255
-    → T (piece big mostVariants t v .fits noneOpen) → length (written big mostVariants t v) ≤ limit
+pub round-trip-frame : (position : ℕ) (big : Bool) (t : Tree) (v : Value mostVariants t) → position % 8 ≡ 0 → position ≤ largestFrame → length (typeText t) ≤ 255
+    → T (piece big mostVariants t v .fits noneOpen) → length (written big mostVariants t v) ≤ largestFrame
     → frameReading (typeText t) big position (written big mostVariants t v) ≡ done (length (written big mostVariants t v)) (piece big mostVariants t v .events 0)
 unfolding frameReading frameOf
 round-trip-frame position big t v z p h f s =
-    rw (typeOf-typeText t h, le-leb (length (written big mostVariants t v)) limit s, le-leb position limit p) (round-trip position big mostVariants t v noneOpen z f s)
+    rw (typeOf-typeText t h, le-leb (length (written big mostVariants t v)) largestFrame s, le-leb position largestFrame p) (round-trip position big mostVariants t v noneOpen z f s)

@@ -4,13 +4,11 @@ use mathlib.Core.Bool.{Bool, true, false, _&&_}
 use Prim.Native.Nat.{ℕ, _+_, _≤_, _<_}
 use native.Mathlib.Omega.{arith}
 use Rattle.meaning.specs.Types.{Number, byte, int16, uint16, int32, uint32, int64, uint64, double, Basic, bool, number, text, Tree, Fields, basic, variant, maybe, array, dictionary, structure, last, next, numberWidth, basicAlignment, alignment, largestAlignment, fixed, allFixed, rounded, fixedSize, fieldsEnd}
-use Rattle.meaning.proofs.PaddingLaws.{Aligns, by1, by2, by4, by8, aligns-max, aligns-positive}
+use Rattle.meaning.specs.Padding.{Aligns}
+use Rattle.meaning.proofs.PaddingLaws.{by1, by2, by4, by8, by-alignment, aligns-max, aligns-positive}
 
 pub aligns-most : {a : ℕ} → Aligns a → a ≤ 8
-aligns-most by1 = omega arith
-aligns-most by2 = omega arith
-aligns-most by4 = omega arith
-aligns-most by8 = omega arith
+aligns-most al = by-alignment (λ a. a ≤ 8) (omega arith) (omega arith) (omega arith) (omega arith) al
 
 pub number-aligned : (n : Number) → Aligns (numberWidth n)
 number-aligned byte = by1

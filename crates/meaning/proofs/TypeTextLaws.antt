@@ -12,7 +12,8 @@ use Rattle.meaning.proofs.Tests.{both, both-left, both-right, holds}
 use Rattle.meaning.specs.Choice.{pick}
 use Rattle.meaning.specs.Texts.{withoutFinalNul, noNul, following, afterByte, utf8From, utf8}
 use Rattle.meaning.specs.Types.{byte, int16, uint16, int32, uint32, int64, uint64, double, string, objectPath, signature, Basic, bool, number, text, Tree, Fields, basic, variant, maybe, array, dictionary, structure, last, next, alignment, largestAlignment, allFixed, rounded, fixedSize, fieldsEnd}
-use Rattle.meaning.specs.TypeText.{basicLetter, typeText, fieldsText, Begun, Found, found, basics, basicAmong, basicOf, made, endedBy, basicTree, entryBy, entryIn, arrayIn, typeIn, fieldsIn, typeWithin, fieldsWithin, firstType, nothingBehind, typeOf}
+use Rattle.meaning.specs.Letters.{basicLetter}
+use Rattle.meaning.specs.TypeText.{typeText, fieldsText, Begun, Found, found, basics, basicAmong, basicOf, made, endedBy, basicTree, entryBy, entryBegun, arrayBegun, typeBegun, fieldsBegun, typeWithin, fieldsWithin, firstType, nothingBehind, typeOf, firstFields}
 use Rattle.meaning.proofs.PaddingLaws.{padding-below}
 use Rattle.meaning.proofs.TypeLaws.{aligns-most, number-aligned, aligned, fields-aligned}
 
@@ -83,16 +84,16 @@ unfolding typeText
 fields-head (last t) r = rw append-assoc (head t ((41 ∷ []) ++ r))
 fields-head (next t ts) r = rw append-assoc (head t (fieldsText ts ++ r))
 
-basic-in : (one : List ℕ → Found Tree) (row : List ℕ → Found Fields) (b : Basic) (r : List ℕ) → typeIn one row (basicLetter b ∷ r) ≡ found (basic b) r
-unfolding typeIn basicTree
+basic-in : (one : List ℕ → Found Tree) (row : List ℕ → Found Fields) (b : Basic) (r : List ℕ) → typeBegun one row (basicLetter b ∷ r) ≡ found (basic b) r
+unfolding typeBegun basicTree
 basic-in one row b r = let k = basic-letter b in rw (k .no-variant, k .no-maybe, k .no-array, k .no-open) (rw (k .known))
 
-array-in : (one : List ℕ → Found Tree) (l : List ℕ) → Head l → arrayIn one l ≡ made array (one l)
-unfolding arrayIn
-array-in one l h = rw (h .is) (rw (h .no-entry, arrayIn))
+array-in : (one : List ℕ → Found Tree) (l : List ℕ) → Head l → arrayBegun one l ≡ made array (one l)
+unfolding arrayBegun
+array-in one l h = rw (h .is) (rw (h .no-entry, arrayBegun))
 
-next-in : (rest : List ℕ → Found Fields) (t : Tree) (l : List ℕ) → Head l → fieldsIn rest (found t l) ≡ made (next t) (rest l)
-unfolding fieldsIn
+next-in : (rest : List ℕ → Found Fields) (t : Tree) (l : List ℕ) → Head l → fieldsBegun rest (found t l) ≡ made (next t) (rest l)
+unfolding fieldsBegun
 next-in rest t l h = rw (h .is) (rw (h .no-close) (rw (h .is)))
 
 pub made-some : {A B : Type 0} (f : A → B) (x : Found A) (a : A) (l : List ℕ) → x ≡ found a l → made f x ≡ found (f a) l
@@ -103,12 +104,12 @@ pub ended-some : {A : Type 0} (c : ℕ) (x : Found A) (a : A) (l : List ℕ) →
 unfolding endedBy
 ended-some c x a l h = rw h (rw (eq-eqb c c refl, endedBy))
 
-entry-in : (one : List ℕ → Found Tree) (b : Basic) (t : Tree) (l r : List ℕ) → one l ≡ found t (125 ∷ r) → entryIn one (basicLetter b ∷ l) ≡ found (dictionary b t) r
-unfolding entryIn entryBy
+entry-in : (one : List ℕ → Found Tree) (b : Basic) (t : Tree) (l r : List ℕ) → one l ≡ found t (125 ∷ r) → entryBegun one (basicLetter b ∷ l) ≡ found (dictionary b t) r
+unfolding entryBegun entryBy
 entry-in one b t l r h = rw (basic-letter b .known) (made-some (dictionary b) (endedBy 125 (one l)) t r (ended-some 125 (one l) t r h))
 
-last-in : (rest : List ℕ → Found Fields) (x : Found Tree) (t : Tree) (l : List ℕ) → x ≡ found t (41 ∷ l) → fieldsIn rest x ≡ found (last t) l
-unfolding fieldsIn
+last-in : (rest : List ℕ → Found Fields) (x : Found Tree) (t : Tree) (l : List ℕ) → x ≡ found t (41 ∷ l) → fieldsBegun rest x ≡ found (last t) l
+unfolding fieldsBegun
 last-in rest x t l h = rw h
 
 pub typeText-positive : (t : Tree) → 0 < length (typeText t)
@@ -126,7 +127,7 @@ fieldsText-positive (last t) = omega (arith, typeText-positive t, length-append 
 fieldsText-positive (next t ts) = omega (arith, typeText-positive t, fieldsText-positive ts, length-append (typeText t) (fieldsText ts))
 
 mutual
-  unfolding typeText typeWithin typeIn arrayIn
+  unfolding typeText typeWithin typeBegun arrayBegun
 
   pub typeWithin-typeText : (t : Tree) (f : ℕ) (r : List ℕ) → 2 * length (typeText t) ≤ f + 1 → typeWithin f (typeText t ++ r) ≡ found t r
   typeWithin-typeText (basic b) zero r h = absurd (omega arith)
@@ -216,8 +217,8 @@ structure-sound : (row : List ℕ → Found Fields) → FieldsSound row → (l :
 unfolding typeText
 structure-sound row s l t r h = let m = made-of structure (row l) t r h in rw (← m .gives) (ap (λ (x : List ℕ). 40 ∷ x) (s l (m .from) r (m .is)))
 
-entry-sound : (one : List ℕ → Found Tree) → TypeSound one → (l : List ℕ) (t : Tree) (r : List ℕ) → entryIn one l ≡ found t r → 97 ∷ 123 ∷ l ≡ typeText t ++ r
-unfolding entryIn entryBy typeText
+entry-sound : (one : List ℕ → Found Tree) → TypeSound one → (l : List ℕ) (t : Tree) (r : List ℕ) → entryBegun one l ≡ found t r → 97 ∷ 123 ∷ l ≡ typeText t ++ r
+unfolding entryBegun entryBy typeText
 entry-sound one s [] t r h = none-found h
 entry-sound one s (c ∷ l) t r h = go (basicOf c) refl h
   where
@@ -227,12 +228,12 @@ entry-sound one s (c ∷ l) t r h = go (basicOf c) refl h
         let m = made-of (dictionary b) (endedBy 125 (one l)) t r e in
         rw (← m .gives, basic-of c b p, append-assoc) (ap (λ (x : List ℕ). 97 ∷ 123 ∷ basicLetter b ∷ x) (s l (m .from) (125 ∷ r) (ended-of 125 (one l) (m .from) r (m .is))))
 
-array-sound : (one : List ℕ → Found Tree) → TypeSound one → (l : List ℕ) (t : Tree) (r : List ℕ) → arrayIn one l ≡ found t r → 97 ∷ l ≡ typeText t ++ r
-unfolding arrayIn typeText
+array-sound : (one : List ℕ → Found Tree) → TypeSound one → (l : List ℕ) (t : Tree) (r : List ℕ) → arrayBegun one l ≡ found t r → 97 ∷ l ≡ typeText t ++ r
+unfolding arrayBegun typeText
 array-sound one s [] t r h = none-found h
 array-sound one s (c ∷ l) t r h = go (eqb c 123) refl h
   where
-    go : (q : Bool) → eqb c 123 ≡ q → pick q (entryIn one l) (made array (one (c ∷ l))) ≡ found t r → 97 ∷ c ∷ l ≡ typeText t ++ r
+    go : (q : Bool) → eqb c 123 ≡ q → pick q (entryBegun one l) (made array (one (c ∷ l))) ≡ found t r → 97 ∷ c ∷ l ≡ typeText t ++ r
     go true p e = rw (eqb-true c 123 p) (entry-sound one s l t r e)
     go false p e = let m = made-of array (one (c ∷ l)) t r e in rw (← m .gives) (ap (λ (x : List ℕ). 97 ∷ x) (s (c ∷ l) (m .from) r (m .is)))
 
@@ -241,13 +242,13 @@ unfolding basicTree typeText
 basic-sound c l none p t r h = none-found h
 basic-sound c l (some b) p t r h = rw (← found-it h, basic-of c b p, found-behind h)
 
-type-sound : (one : List ℕ → Found Tree) (row : List ℕ → Found Fields) → TypeSound one → FieldsSound row → TypeSound (λ l. typeIn one row l)
-unfolding typeIn typeText
+type-sound : (one : List ℕ → Found Tree) (row : List ℕ → Found Fields) → TypeSound one → FieldsSound row → TypeSound (λ l. typeBegun one row l)
+unfolding typeBegun typeText
 type-sound one row s u [] t r h = none-found h
 type-sound one row s u (c ∷ l) t r h = go (eqb c 118) (eqb c 109) (eqb c 97) (eqb c 40) refl refl refl refl h
   where
     go : (v m a o : Bool) → eqb c 118 ≡ v → eqb c 109 ≡ m → eqb c 97 ≡ a → eqb c 40 ≡ o
-        → pick v (found variant l) (pick m (made maybe (one l)) (pick a (arrayIn one l) (pick o (made structure (row l)) (basicTree l (basicOf c))))) ≡ found t r → c ∷ l ≡ typeText t ++ r
+        → pick v (found variant l) (pick m (made maybe (one l)) (pick a (arrayBegun one l) (pick o (made structure (row l)) (basicTree l (basicOf c))))) ≡ found t r → c ∷ l ≡ typeText t ++ r
     go true m a o p q w z e = rw (← found-it e, eqb-true c 118 p, found-behind e)
     go false true a o p q w z e = rw (eqb-true c 109 q) (maybe-sound one s l t r e)
     go false false true o p q w z e = rw (eqb-true c 97 w) (array-sound one s l t r e)
@@ -255,8 +256,8 @@ type-sound one row s u (c ∷ l) t r h = go (eqb c 118) (eqb c 109) (eqb c 97) (
     go false false false false p q w z e = basic-sound c l (basicOf c) refl t r e
 
 row-sound : (row : List ℕ → Found Fields) → FieldsSound row → (l : List ℕ) (t : Tree) (k : List ℕ) → l ≡ typeText t ++ k
-    → (ts : Fields) (r : List ℕ) → fieldsIn row (found t k) ≡ found ts r → l ≡ fieldsText ts ++ r
-unfolding fieldsIn typeText
+    → (ts : Fields) (r : List ℕ) → fieldsBegun row (found t k) ≡ found ts r → l ≡ fieldsText ts ++ r
+unfolding fieldsBegun typeText
 row-sound row u l t [] i ts r h = none-found h
 row-sound row u l t (c ∷ k) i ts r h = go (eqb c 41) refl h
   where
@@ -267,8 +268,8 @@ row-sound row u l t (c ∷ k) i ts r h = go (eqb c 41) refl h
         i ∙ rw (← m .gives, append-assoc) (ap (λ (x : List ℕ). typeText t ++ x) (u (c ∷ k) (m .from) r (m .is)))
 
 fields-sound : (row : List ℕ → Found Fields) → FieldsSound row → (l : List ℕ) (x : Found Tree) → ((t : Tree) (r : List ℕ) → x ≡ found t r → l ≡ typeText t ++ r)
-    → (ts : Fields) (r : List ℕ) → fieldsIn row x ≡ found ts r → l ≡ fieldsText ts ++ r
-unfolding fieldsIn
+    → (ts : Fields) (r : List ℕ) → fieldsBegun row x ≡ found ts r → l ≡ fieldsText ts ++ r
+unfolding fieldsBegun
 fields-sound row u l none s ts r h = none-found h
 fields-sound row u l (some g) s ts r h = row-sound row u l (g .it) (g .behind) (s (g .it) (g .behind) refl) ts r h
 
@@ -340,10 +341,6 @@ typeWithin-enough f g l m n = same-found (typeWithin f l) (typeWithin g l) (λ t
 pub fieldsWithin-enough : (f g : ℕ) (l : List ℕ) → 2 * length l ≤ f → 2 * length l ≤ g → fieldsWithin f l ≡ fieldsWithin g l
 fieldsWithin-enough f g l m n = same-found (fieldsWithin f l) (fieldsWithin g l) (λ ts r h. fields-more f g l ts r h n) (λ ts r h. fields-more g f l ts r h m)
 
--- the fields that a text begins with, up to their `)`
-unfoldable pub firstFields : List ℕ → Found Fields
-firstFields l = fieldsWithin (2 * length l + 1) l
-
 pub firstFields-fieldsText : (ts : Fields) (r : List ℕ) → firstFields (fieldsText ts ++ r) ≡ found ts r
 unfolding firstFields
 firstFields-fieldsText ts r = fieldsWithin-fieldsText ts (2 * length (fieldsText ts ++ r) + 1) r (omega (arith, length-append (fieldsText ts) r))
@@ -359,41 +356,41 @@ firstFields-shorter l ts r h = omega (arith, ap length (firstFields-sound l ts r
 abbrev Agree : (List ℕ → Found Tree) → (List ℕ → Found Tree) → ℕ → Type 0
 Agree one two n = (k : List ℕ) → length k ≤ n → one k ≡ two k
 
-entry-same : (one two : List ℕ → Found Tree) (l : List ℕ) → Agree one two (length l) → entryIn one l ≡ entryIn two l
-unfolding entryIn
+entry-same : (one two : List ℕ → Found Tree) (l : List ℕ) → Agree one two (length l) → entryBegun one l ≡ entryBegun two l
+unfolding entryBegun
 entry-same one two [] h = refl
 entry-same one two (c ∷ l) h = rw (h l (omega arith))
 
-array-same : (one two : List ℕ → Found Tree) (l : List ℕ) → Agree one two (length l) → arrayIn one l ≡ arrayIn two l
-unfolding arrayIn
+array-same : (one two : List ℕ → Found Tree) (l : List ℕ) → Agree one two (length l) → arrayBegun one l ≡ arrayBegun two l
+unfolding arrayBegun
 array-same one two [] h = refl
 array-same one two (c ∷ l) h = rw (h (c ∷ l) (omega arith), entry-same one two l (λ k n. h k (omega arith)))
 
-type-same : (one two : List ℕ → Found Tree) (row line : List ℕ → Found Fields) (c : ℕ) (l : List ℕ) → Agree one two (length l) → row l ≡ line l → typeIn one row (c ∷ l) ≡ typeIn two line (c ∷ l)
-unfolding typeIn
+type-same : (one two : List ℕ → Found Tree) (row line : List ℕ → Found Fields) (c : ℕ) (l : List ℕ) → Agree one two (length l) → row l ≡ line l → typeBegun one row (c ∷ l) ≡ typeBegun two line (c ∷ l)
+unfolding typeBegun
 type-same one two row line c l h e = rw (e, h l (omega arith), array-same one two l h)
 
 pub firstType-none : firstType [] ≡ none
 unfolding firstType typeWithin
 firstType-none = refl
 
-pub firstType-cons : (c : ℕ) (l : List ℕ) → firstType (c ∷ l) ≡ typeIn (λ k. firstType k) (λ k. firstFields k) (c ∷ l)
+pub firstType-cons : (c : ℕ) (l : List ℕ) → firstType (c ∷ l) ≡ typeBegun (λ k. firstType k) (λ k. firstFields k) (c ∷ l)
 unfolding firstType firstFields typeWithin
 firstType-cons c l =
     typeWithin-enough (2 * length (c ∷ l)) (suc (2 * length l + 1)) (c ∷ l) (omega arith) (omega arith)
     ∙ type-same (λ k. typeWithin (2 * length l + 1) k) (λ k. firstType k) (λ k. fieldsWithin (2 * length l + 1) k) (λ k. firstFields k) c l
     (λ k n. typeWithin-enough (2 * length l + 1) (2 * length k) k (omega arith) (omega arith)) refl
 
-fields-same : (row line : List ℕ → Found Fields) (x : Found Tree) → ((t : Tree) (r : List ℕ) → x ≡ found t r → row r ≡ line r) → fieldsIn row x ≡ fieldsIn line x
-unfolding fieldsIn
+fields-same : (row line : List ℕ → Found Fields) (x : Found Tree) → ((t : Tree) (r : List ℕ) → x ≡ found t r → row r ≡ line r) → fieldsBegun row x ≡ fieldsBegun line x
+unfolding fieldsBegun
 fields-same row line none h = refl
 fields-same row line (some g) h = go (g .it) (g .behind) (h (g .it) (g .behind) refl)
   where
-    go : (t : Tree) (r : List ℕ) → row r ≡ line r → fieldsIn row (found t r) ≡ fieldsIn line (found t r)
+    go : (t : Tree) (r : List ℕ) → row r ≡ line r → fieldsBegun row (found t r) ≡ fieldsBegun line (found t r)
     go t [] e = refl
     go t (c ∷ k) e = rw e
 
-pub firstFields-is : (l : List ℕ) → firstFields l ≡ fieldsIn (λ k. firstFields k) (firstType l)
+pub firstFields-is : (l : List ℕ) → firstFields l ≡ fieldsBegun (λ k. firstFields k) (firstType l)
 unfolding firstType firstFields typeWithin
 firstFields-is l =
     fieldsWithin-enough (2 * length l + 1) (suc (2 * length l)) l (omega arith) (omega arith)

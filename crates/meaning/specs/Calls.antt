@@ -6,6 +6,8 @@ use Prim.Native.Nat.{ℕ, _+_, _*_}
 use lib.Dec.{leb, eqb}
 use lib.ListN.{length, drop}
 use Rattle.meaning.specs.Choice.{pick}
+use Rattle.meaning.specs.Limits.{largestFrame, mostVariants}
+use Rattle.meaning.specs.Refusals.{typeRefused, overLimit, roomTooSmall}
 use Rattle.meaning.specs.Depths.{noneOpen}
 use Rattle.meaning.specs.Types.{Tree}
 use Rattle.meaning.specs.TypeText.{typeOf}
@@ -13,18 +15,10 @@ use Rattle.meaning.specs.Events.{Event, triples}
 use Rattle.meaning.specs.Outcome.{Outcome, refused}
 use Rattle.meaning.specs.Reading.{reading}
 
--- a frame has at most 65,536 bytes and a position of 0 to 65,536
-abbrev pub limit : ℕ
-limit = 65536
-
--- variants that reading may look at one inside another: 64 are read, and the next is judged up to its depth
-abbrev pub mostVariants : ℕ
-mostVariants = 65
-
 unfoldable pub frameOf : Bool → ℕ → List ℕ → Option Tree → Outcome
-frameOf big position frame none = refused 1 0
+frameOf big position frame none = refused typeRefused 0
 frameOf big position frame (some t) =
-    pick (leb (length frame) limit && leb position limit) (reading position big mostVariants t noneOpen 0 frame) (refused 2 0)
+    pick (leb (length frame) largestFrame && leb position largestFrame) (reading position big mostVariants t noneOpen 0 frame) (refused overLimit 0)
 
 -- the order: 1, 2, then 3 to 12 where reading first meets them
 unfoldable pub frameReading : List ℕ → Bool → ℕ → List ℕ → Outcome
@@ -44,7 +38,7 @@ sized o = pick (eqb (o .refusal) 0) (counts 0 (o .used) (length (o .events))) (c
 
 -- then 13, where the events have no room
 unfoldable pub fitted : ℕ → Counts → Counts
-fitted room c = pick (leb (3 * c .count) room) c (counts 13 0 0)
+fitted room c = pick (leb (3 * c .count) room) c (counts roomTooSmall 0 0)
 
 -- the events at the front, if the call is done; what is left of the slice is unchanged
 unfoldable pub filled : List ℕ → Counts → List Event → List ℕ

@@ -2,6 +2,8 @@
 use Prim.Native.Nat.{ℕ, suc, _+_, _-_}
 use lib.Dec.{ltb}
 use Rattle.meaning.specs.Choice.{pick}
+use Rattle.meaning.specs.Limits.{mostStructures, mostArrays, mostContainers}
+use Rattle.meaning.specs.Refusals.{structuresTooDeep, arraysTooDeep, containersTooDeep}
 
 -- how many containers of each kind are open; dictionaries count as arrays
 pub record Depths : Type 0 where
@@ -24,7 +26,11 @@ total d = d .structure + d .array + d .variant + d .maybe
 
 -- structure 32, array 32, total 64: one more is refused, in that order
 unfoldable pub depthRefusal : Depths → ℕ
-depthRefusal d = pick (ltb 32 (d .structure)) 10 (pick (ltb 32 (d .array)) 11 (pick (ltb 64 (total d)) 12 0))
+depthRefusal d =
+    pick (ltb mostStructures (d .structure)) structuresTooDeep
+    (pick (ltb mostArrays (d .array)) arraysTooDeep
+    (pick (ltb mostContainers (total d)) containersTooDeep
+    0))
 
 -- one more container is open, or one less; lowering a 0 leaves 0
 abbrev pub opened : Opened → Depths → Depths

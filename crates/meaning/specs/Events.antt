@@ -2,6 +2,7 @@
 use mathlib.Core.List.{List, [], _∷_, _++_}
 use Prim.Native.Nat.{ℕ}
 use lib.ListN.{length}
+use Rattle.meaning.specs.Letters.{containerEnd, maybeLetter, nothingLetter}
 
 -- A text's event also has the text itself here; the slice holds its length, and the text is part of the frame.
 pub record Event : Type 0 where
@@ -21,13 +22,13 @@ abbrev pub opening : ℕ → ℕ → Event
 opening k p = event k p 0
 
 abbrev pub closing : ℕ → Event
-closing p = event 41 p 0
+closing p = event containerEnd p 0
 
 abbrev pub present : ℕ → Event
-present p = event 109 p 0
+present p = event maybeLetter p 0
 
 abbrev pub nothing : ℕ → Event
-nothing p = event 78 p 0
+nothing p = event nothingLetter p 0
 
 -- the events as they stand in the slice
 unfoldable pub triples : List Event → List ℕ

@@ -1,10 +1,13 @@
 pub mod Choice
+pub mod Limits
+pub mod Refusals
 pub mod Numbers
 pub mod Padding
 pub mod Offsets
 pub mod Texts
 pub mod Depths
 pub mod Types
+pub mod Letters
 pub mod TypeText
 pub mod Events
 pub mod Values

@@ -6,14 +6,16 @@ use Prim.Native.Nat.{ℕ, zero, suc, _+_, _-_, max}
 use lib.Dec.{leb, ltb, eqb}
 use lib.ListN.{length, take, drop, getD}
 use Rattle.meaning.specs.Choice.{pick}
+use Rattle.meaning.specs.Refusals.{outOfBounds, paddingNotZero, maybeEndNotZero, noSeparator, variantTypeRefused, containersTooDeep}
 use Rattle.meaning.specs.Numbers.{spelled}
 use Rattle.meaning.specs.Padding.{padding, leadingZeros}
 use Rattle.meaning.specs.Offsets.{Table, encodedWidth, offsetBefore, lastOffset, tableOf, endsOf, tableStands}
 use Rattle.meaning.specs.Texts.{withoutFinalNul, textRefusal}
 use Rattle.meaning.specs.Depths as Depth
 use Rattle.meaning.specs.Depths.{Depths, depthRefusal, opened}
-use Rattle.meaning.specs.Types.{Text, Basic, bool, number, text, Tree, Fields, basic, variant, maybe, array, dictionary, structure, last, next, numberWidth, basicAlignment, basicFixed, alignment, largestAlignment, fixed, allFixed}
-use Rattle.meaning.specs.TypeText.{numberLetter, textLetter, typeOf}
+use Rattle.meaning.specs.Types.{Text, Basic, bool, number, text, Tree, Fields, basic, variant, maybe, array, dictionary, structure, last, next, numberWidth, basicFixed, alignment, largestAlignment, fixed, allFixed, entryAlignment, entryFixed}
+use Rattle.meaning.specs.Letters.{boolLetter, numberLetter, textLetter, signatureLetter, variantLetter, arrayLetter, dictionaryLetter, structureLetter}
+use Rattle.meaning.specs.TypeText.{typeOf}
 use Rattle.meaning.specs.Events.{Event, event, textEvent, present, nothing}
 use Rattle.meaning.specs.Outcome.{Outcome, outcome, done, refused, after, chain, unused, passing, enclosed}
 
@@ -23,7 +25,7 @@ Reader = Depths → ℕ → List ℕ → Outcome
 
 -- A child is read from the part that begins at the present place j and runs to its end e. An end past the part or before the place is 3.
 unfoldable pub child : (ℕ → List ℕ → Outcome) → ℕ → List ℕ → ℕ → ℕ → Outcome
-child read k l j e = pick (leb j e && leb e (length l)) (read (k + j) (take (e - j) (drop j l))) (refused 3 (k + j))
+child read k l j e = pick (leb j e && leb e (length l)) (read (k + j) (take (e - j) (drop j l))) (refused outOfBounds (k + j))
 
 -- one more container is open; the place is its first byte after padding
 unfoldable pub within : Depths → ℕ → (Depths → Outcome) → Outcome
@@ -32,8 +34,8 @@ within d p inside = pick (eqb (depthRefusal d) 0) (inside d) (refused (depthRefu
 -- n bytes of padding in front of l, which begins at the place k: first too short (3), then not 0 (4)
 unfoldable pub paddingOf : ℕ → ℕ → List ℕ → Outcome
 paddingOf n k l =
-    pick (ltb (length l) n) (refused 3 (k + length l))
-    (pick (ltb (leadingZeros l) n) (refused 4 (k + leadingZeros l))
+    pick (ltb (length l) n) (refused outOfBounds (k + length l))
+    (pick (ltb (leadingZeros l) n) (refused paddingNotZero (k + leadingZeros l))
     (done n []))
 
 -- texts take their whole part; 5 comes before 6
@@ -45,16 +47,16 @@ readText kind d k l = after (length l) [] (textAs kind k (withoutFinalNul l))
 
 -- bool takes no padding, and any byte but 0 is true
 unfoldable pub readBool : Reader
-readBool d k l = pick (eqb (length l) 0) (refused 3 k) (done 1 (event 98 k (pick (eqb (getD l 0 0) 0) 0 1) ∷ []))
+readBool d k l = pick (eqb (length l) 0) (refused outOfBounds k) (done 1 (event boolLetter k (pick (eqb (getD l 0 0) 0) 0 1) ∷ []))
 
 -- a number of a kind and a width, behind n bytes of padding
 unfoldable pub numberIn : Bool → ℕ → ℕ → ℕ → List ℕ → ℕ → Outcome
 numberIn big kind w k l n =
-    pick (leb (n + w) (length l)) (done w (event kind (k + n) (spelled big w n l) ∷ [])) (refused 3 (k + n))
+    pick (leb (n + w) (length l)) (done w (event kind (k + n) (spelled big w n l) ∷ [])) (refused outOfBounds (k + n))
 
 -- the byte where a maybe's child stopped must be 0
 unfoldable pub endByte : ℕ → List ℕ → ℕ → ℕ → Outcome
-endByte k l n u = pick (eqb (getD l (n + u) 1) 0) (done 1 []) (refused 7 (k + (n + u)))
+endByte k l n u = pick (eqb (getD l (n + u) 1) 0) (done 1 []) (refused maybeEndNotZero (k + (n + u)))
 
 -- a maybe's child behind n bytes of padding; one that is not fixed has the part less one byte
 unfoldable pub presentIn : Bool → Reader → ℕ → List ℕ → ℕ → Depths → Outcome
@@ -93,7 +95,7 @@ tabled kind step k l n d t =
     pick (tableStands t (drop n l))
     (enclosed kind (k + n)
     (chain (elementsTo (step d k l (n + t .start)) n (endsOf t (drop n l)) n) (passing (length l - (n + t .start)))))
-    (refused 3 (k + n))
+    (refused outOfBounds (k + n))
 
 unfoldable pub arrayBody : ℕ → Bool → Step → ℕ → List ℕ → ℕ → Depths → Outcome
 arrayBody kind true step k l n d = enclosed kind (k + n) (elements (length l) (step d k l (length l)) (length l) n)
@@ -142,7 +144,7 @@ module _ (read : Tree → Reader) (d : Depths) (k : ℕ) (l : List ℕ) (n s : �
   variantValue t d′ = chain (child (read t d′) k l n (n + (s - 1))) (remaining (length l - n))
 
   unfoldable pub variantType : Option Tree → Outcome
-  variantType none = refused 9 (k + (n + s))
+  variantType none = refused variantTypeRefused (k + (n + s))
   variantType (some t) = within (opened Depth.variant d) (k + n) (variantValue t)
 
   -- the type is judged on all bytes after the separator
@@ -150,11 +152,11 @@ module _ (read : Tree → Reader) (d : Depths) (k : ℕ) (l : List ℕ) (n s : �
   variantTyped u = variantType (typeOf (drop (n + s) l))
 
   unfoldable pub variantBody : Outcome
-  variantBody = enclosed 118 (k + n) (chain (textAs 103 (k + (n + s)) (withoutFinalNul (drop (n + s) l))) variantTyped)
+  variantBody = enclosed variantLetter (k + n) (chain (textAs signatureLetter (k + (n + s)) (withoutFinalNul (drop (n + s) l))) variantTyped)
 
 unfoldable pub variantIn : (Tree → Reader) → Depths → ℕ → List ℕ → ℕ → Outcome
 variantIn read d k l n =
-    pick (eqb (separator (drop n l)) 0) (refused 8 (k + n)) (variantBody read d k l n (separator (drop n l)))
+    pick (eqb (separator (drop n l)) 0) (refused noSeparator (k + n)) (variantBody read d k l n (separator (drop n l)))
 
 -- from the position on
 module _ (position : ℕ) where
@@ -174,7 +176,7 @@ module _ (position : ℕ) where
   unfoldable pub readMaybe : ℕ → Bool → Reader → Reader
   readMaybe a fx read d k l = chain (pad a k l) (maybeIn fx read d k l)
 
-  -- kind: 97 for an array, 123 for a dictionary
+  -- kind: an array's or a dictionary's
   unfoldable pub readArray : ℕ → ℕ → Bool → Step → Reader
   readArray kind a fx step d k l = chain (pad a k l) (arrayIn kind fx step d k l)
 
@@ -191,11 +193,11 @@ module _ (position : ℕ) where
         pick (f .fixed) (chain (child (f .reader d) k l j e) (further (fieldsIn (g ∷ fs) e) j))
         (pick (offsetStands n w e)
         (chain (child (f .reader d) k l j (n + fieldOffset n w e l)) (further (fieldsIn (g ∷ fs) (e - w)) j))
-        (refused 3 (k + n)))
+        (refused outOfBounds (k + n)))
 
   unfoldable pub structureBody : ℕ → Bool → List Field → ℕ → List ℕ → ℕ → Depths → Outcome
   structureBody a fx fs k l n d =
-      enclosed 40 (k + n) (fieldsIn fx a k l n (encodedWidth (length l - n)) d fs (length l) n)
+      enclosed structureLetter (k + n) (fieldsIn fx a k l n (encodedWidth (length l - n)) d fs (length l) n)
 
   unfoldable pub structureIn : ℕ → Bool → List Field → Depths → ℕ → List ℕ → ℕ → Outcome
   structureIn a fx fs d k l n = within (opened Depth.structure d) (k + n) (structureBody a fx fs k l n)
@@ -214,18 +216,18 @@ module _ (position : ℕ) where
 
     -- a text: the value ends before the key's offset, whose width is then added to the place
     unfoldable pub valueBefore : ℕ → ℕ → ℕ → Outcome
-    valueBefore e w j = pick (leb (j + w) e) (chain (child (value d) k l j (e - w)) (passing w)) (refused 3 (k + j))
+    valueBefore e w j = pick (leb (j + w) e) (chain (child (value d) k l j (e - w)) (passing w)) (refused outOfBounds (k + j))
 
     -- a key that ends at o, past the array's body, is 3 before its text is judged
     unfoldable pub keyTo : ℕ → ℕ → ℕ → ℕ → Outcome
-    keyTo j e w o = pick (leb o b) (chain (child (key d) k l j o) (further (valueBefore e w) j)) (refused 3 (k + j))
+    keyTo j e w o = pick (leb o b) (chain (child (key d) k l j o) (further (valueBefore e w) j)) (refused outOfBounds (k + j))
 
     -- the key's end counts from the entry, and its offset has the width of the entry's length
     unfoldable pub textKey : ℕ → ℕ → Outcome
     textKey j e =
         pick (leb j e)
         (keyTo j e (encodedWidth (e - j)) (j + lastOffset (encodedWidth (e - j)) (take (e - j) (drop j l))))
-        (refused 3 (k + j))
+        (refused outOfBounds (k + j))
 
     unfoldable pub entryFrom : Bool → ℕ → ℕ → Outcome
     entryFrom fk e j = pick fk (fixedKey j e) (textKey j e)
@@ -247,10 +249,10 @@ module _ (position : ℕ) where
       readTree (basic b) = readBasic big b
       readTree variant = variants
       readTree (maybe t) = readMaybe (alignment t) (fixed t) (readTree t)
-      readTree (array t) = readArray 97 (alignment t) (fixed t) (childStep (readTree t))
+      readTree (array t) = readArray arrayLetter (alignment t) (fixed t) (childStep (readTree t))
       readTree (dictionary b t) =
-          readArray 123 (max (basicAlignment b) (alignment t)) (basicFixed b && fixed t)
-          (entryStep (max (basicAlignment b) (alignment t)) (basicFixed b) (basicFixed b && fixed t) (readBasic big b) (readTree t))
+          readArray dictionaryLetter (entryAlignment b t) (entryFixed b t)
+          (entryStep (entryAlignment b t) (basicFixed b) (entryFixed b t) (readBasic big b) (readTree t))
       readTree (structure ts) = readStructure (largestAlignment ts) (allFixed ts) (readers ts)
 
       pub readers : Fields → List Field
@@ -259,5 +261,5 @@ module _ (position : ℕ) where
 
   -- THE READING of a value of a type, with at most so many variants one inside another; where there are more, the depth is refused
   unfoldable pub reading : Bool → ℕ → Tree → Reader
-  reading big zero t = readTree big (λ d k l. refused 12 k) t
+  reading big zero t = readTree big (λ d k l. refused containersTooDeep k) t
   reading big (suc n) t = readTree big (readVariant (λ u. reading big n u)) t

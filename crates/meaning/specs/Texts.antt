@@ -5,6 +5,7 @@ use Prim.Native.Nat.{ℕ, suc, _-_}
 use lib.Dec.{leb, eqb}
 use lib.ListN.{length, take, getD}
 use Rattle.meaning.specs.Choice.{pick}
+use Rattle.meaning.specs.Refusals.{nulInText, notUtf8}
 
 -- a text takes its whole part; one final nul is dropped, a missing one is accepted
 unfoldable pub withoutFinalNul : List ℕ → List ℕ
@@ -61,4 +62,4 @@ utf8 l = utf8From letter l
 
 -- the refusal of a text: 5 comes before 6
 unfoldable pub textRefusal : List ℕ → ℕ
-textRefusal l = pick (noNul l) (pick (utf8 l) 0 6) 5
+textRefusal l = pick (noNul l) (pick (utf8 l) 0 notUtf8) nulInText

@@ -2,45 +2,26 @@
 use mathlib.Core.List.{List, [], _∷_, _++_}
 use mathlib.Core.Option.{Option, none, some}
 use mathlib.Core.Bool.{Bool, true, false, _&&_}
-use Prim.Native.Nat.{ℕ, zero, suc, _*_}
+use Prim.Native.Nat.{ℕ, zero, suc, _+_, _*_}
 use lib.Dec.{leb, eqb}
 use lib.ListN.{length}
 use Rattle.meaning.specs.Choice.{pick}
-use Rattle.meaning.specs.Types.{Number, byte, int16, uint16, int32, uint32, int64, uint64, double, Text, string, objectPath, signature, Basic, bool, number, text, Tree, Fields, basic, variant, maybe, array, dictionary, structure, last, next}
-
--- the letters b y n q i u x t d s o g
-abbrev pub numberLetter : Number → ℕ
-numberLetter byte = 121
-numberLetter int16 = 110
-numberLetter uint16 = 113
-numberLetter int32 = 105
-numberLetter uint32 = 117
-numberLetter int64 = 120
-numberLetter uint64 = 116
-numberLetter double = 100
-
-abbrev pub textLetter : Text → ℕ
-textLetter string = 115
-textLetter objectPath = 111
-textLetter signature = 103
-
-abbrev pub basicLetter : Basic → ℕ
-basicLetter bool = 98
-basicLetter (number n) = numberLetter n
-basicLetter (text c) = textLetter c
+use Rattle.meaning.specs.Limits.{longestType}
+use Rattle.meaning.specs.Types.{byte, int16, uint16, int32, uint32, int64, uint64, double, string, objectPath, signature, Basic, bool, number, text, Tree, Fields, basic, variant, maybe, array, dictionary, structure, last, next}
+use Rattle.meaning.specs.Letters.{basicLetter, variantLetter, maybeLetter, arrayLetter, dictionaryLetter, entryEnd, structureLetter, containerEnd}
 
 -- the grammar: a basic letter; v; m or a and a type; a{ with a key, a type and }; ( with one or more types and )
 unfoldable mutual
   pub typeText : Tree → List ℕ
   typeText (basic b) = basicLetter b ∷ []
-  typeText variant = 118 ∷ []
-  typeText (maybe t) = 109 ∷ typeText t
-  typeText (array t) = 97 ∷ typeText t
-  typeText (dictionary b t) = 97 ∷ 123 ∷ basicLetter b ∷ (typeText t ++ (125 ∷ []))
-  typeText (structure ts) = 40 ∷ fieldsText ts
+  typeText variant = variantLetter ∷ []
+  typeText (maybe t) = maybeLetter ∷ typeText t
+  typeText (array t) = arrayLetter ∷ typeText t
+  typeText (dictionary b t) = arrayLetter ∷ dictionaryLetter ∷ basicLetter b ∷ (typeText t ++ (entryEnd ∷ []))
+  typeText (structure ts) = structureLetter ∷ fieldsText ts
 
   pub fieldsText : Fields → List ℕ
-  fieldsText (last t) = typeText t ++ (41 ∷ [])
+  fieldsText (last t) = typeText t ++ (containerEnd ∷ [])
   fieldsText (next t ts) = typeText t ++ fieldsText ts
 
 -- what a text begins with, and what is left behind it
@@ -93,47 +74,51 @@ basicTree l (some b) = found (basic b) l
 -- behind `a{`: a basic key, a type and `}`
 unfoldable pub entryBy : Found Tree → Option Basic → Found Tree
 entryBy value none = none
-entryBy value (some b) = made (dictionary b) (endedBy 125 value)
+entryBy value (some b) = made (dictionary b) (endedBy entryEnd value)
 
 -- the type that a text begins with, by the readers of a type and of fields
-unfoldable pub entryIn : (List ℕ → Found Tree) → List ℕ → Found Tree
-entryIn aType [] = none
-entryIn aType (c ∷ l) = entryBy (aType l) (basicOf c)
+unfoldable pub entryBegun : (List ℕ → Found Tree) → List ℕ → Found Tree
+entryBegun aType [] = none
+entryBegun aType (c ∷ l) = entryBy (aType l) (basicOf c)
 
-unfoldable pub arrayIn : (List ℕ → Found Tree) → List ℕ → Found Tree
-arrayIn aType [] = none
-arrayIn aType (c ∷ l) = pick (eqb c 123) (entryIn aType l) (made array (aType (c ∷ l)))
+unfoldable pub arrayBegun : (List ℕ → Found Tree) → List ℕ → Found Tree
+arrayBegun aType [] = none
+arrayBegun aType (c ∷ l) = pick (eqb c dictionaryLetter) (entryBegun aType l) (made array (aType (c ∷ l)))
 
-unfoldable pub typeIn : (List ℕ → Found Tree) → (List ℕ → Found Fields) → List ℕ → Found Tree
-typeIn aType someFields [] = none
-typeIn aType someFields (c ∷ l) =
-    pick (eqb c 118) (found variant l)
-    (pick (eqb c 109) (made maybe (aType l))
-    (pick (eqb c 97) (arrayIn aType l)
-    (pick (eqb c 40) (made structure (someFields l))
+unfoldable pub typeBegun : (List ℕ → Found Tree) → (List ℕ → Found Fields) → List ℕ → Found Tree
+typeBegun aType someFields [] = none
+typeBegun aType someFields (c ∷ l) =
+    pick (eqb c variantLetter) (found variant l)
+    (pick (eqb c maybeLetter) (made maybe (aType l))
+    (pick (eqb c arrayLetter) (arrayBegun aType l)
+    (pick (eqb c structureLetter) (made structure (someFields l))
     (basicTree l (basicOf c)))))
 
 -- one or more types and `)`, of which the first is given
-unfoldable pub fieldsIn : (List ℕ → Found Fields) → Found Tree → Found Fields
-fieldsIn someFields none = none
-fieldsIn someFields (some g) = elim (g .behind) [
+unfoldable pub fieldsBegun : (List ℕ → Found Fields) → Found Tree → Found Fields
+fieldsBegun someFields none = none
+fieldsBegun someFields (some g) = elim (g .behind) [
   | [] ↦ none
-  | c ∷ l ↦ pick (eqb c 41) (found (last (g .it)) l) (made (next (g .it)) (someFields (g .behind)))
+  | c ∷ l ↦ pick (eqb c containerEnd) (found (last (g .it)) l) (made (next (g .it)) (someFields (g .behind)))
 ]
 
 -- the number falls with each step: twice the text's length is enough, since the step from fields to the first of them takes no character
 unfoldable mutual
   pub typeWithin : ℕ → List ℕ → Found Tree
   typeWithin zero l = none
-  typeWithin (suc f) l = typeIn (λ r. typeWithin f r) (λ r. fieldsWithin f r) l
+  typeWithin (suc f) l = typeBegun (λ r. typeWithin f r) (λ r. fieldsWithin f r) l
 
   pub fieldsWithin : ℕ → List ℕ → Found Fields
   fieldsWithin zero l = none
-  fieldsWithin (suc f) l = fieldsIn (λ r. fieldsWithin f r) (typeWithin f l)
+  fieldsWithin (suc f) l = fieldsBegun (λ r. fieldsWithin f r) (typeWithin f l)
 
 -- the type that a text begins with
 unfoldable pub firstType : List ℕ → Found Tree
 firstType l = typeWithin (2 * length l) l
+
+-- the fields that a text begins with
+unfoldable pub firstFields : List ℕ → Found Fields
+firstFields l = fieldsWithin (2 * length l + 1) l
 
 unfoldable pub nothingBehind : Found Tree → Option Tree
 nothingBehind none = none
@@ -141,4 +126,4 @@ nothingBehind (some g) = elim (g .behind) [ [] ↦ some (g .it) | x ∷ l ↦ no
 
 -- one complete type, of 1 to 255 characters
 unfoldable pub typeOf : List ℕ → Option Tree
-typeOf l = pick (leb (length l) 255) (nothingBehind (firstType l)) none
+typeOf l = pick (leb (length l) longestType) (nothingBehind (firstType l)) none

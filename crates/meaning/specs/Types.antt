@@ -80,6 +80,13 @@ unfoldable mutual
   allFixed (last t) = fixed t
   allFixed (next t ts) = fixed t && allFixed ts
 
+-- a dictionary's entry
+abbrev pub entryAlignment : Basic → Tree → ℕ
+entryAlignment b t = max (basicAlignment b) (alignment t)
+
+abbrev pub entryFixed : Basic → Tree → Bool
+entryFixed b t = basicFixed b && fixed t
+
 -- the size of a type that is fixed, 0 for others: fields at their alignment, and padding at the end to the structure's own
 abbrev pub rounded : ℕ → ℕ → ℕ
 rounded n a = n + padding n a

@@ -7,14 +7,16 @@ use Prim.Native.Nat.{ℕ, zero, suc, _+_, _^_, max}
 use lib.Dec.{leb, ltb, eqb}
 use lib.ListN.{length}
 use Rattle.meaning.specs.Choice.{pick}
+use Rattle.meaning.specs.Limits.{longestType}
 use Rattle.meaning.specs.Numbers.{bytes, ordered}
 use Rattle.meaning.specs.Padding.{padding, zeros}
 use Rattle.meaning.specs.Offsets.{writtenWidth, table, backTable}
 use Rattle.meaning.specs.Texts.{textRefusal}
 use Rattle.meaning.specs.Depths as Depth
 use Rattle.meaning.specs.Depths.{Depths, depthRefusal, opened}
-use Rattle.meaning.specs.Types.{Basic, bool, number, text, Tree, Fields, basic, variant, maybe, array, dictionary, structure, last, next, numberWidth, basicAlignment, basicFixed, alignment, largestAlignment, fixed, allFixed}
-use Rattle.meaning.specs.TypeText.{numberLetter, textLetter, typeText}
+use Rattle.meaning.specs.Types.{Basic, bool, number, text, Tree, Fields, basic, variant, maybe, array, dictionary, structure, last, next, numberWidth, alignment, largestAlignment, fixed, allFixed, entryAlignment, entryFixed}
+use Rattle.meaning.specs.Letters.{boolLetter, numberLetter, textLetter, signatureLetter, variantLetter, arrayLetter, dictionaryLetter, structureLetter}
+use Rattle.meaning.specs.TypeText.{typeText}
 use Rattle.meaning.specs.Values.{BasicValue, ValueOver, FieldsOver, Value}
 use Rattle.meaning.specs.Events.{Event, event, textEvent, opening, closing, present, nothing}
 
@@ -68,7 +70,7 @@ bit false = 0
 
 -- basic values: a bool is 0 or 1, a number stands in its width and byte order, a text is its bytes and one nul
 unfoldable pub basicPiece : Bool → (b : Basic) → BasicValue b → Piece
-basicPiece big bool v = record { alignment = 1; fixed = true; bytes = bit v ∷ []; events = λ k. event 98 k (bit v) ∷ []; fits = λ d. true }
+basicPiece big bool v = record { alignment = 1; fixed = true; bytes = bit v ∷ []; events = λ k. event boolLetter k (bit v) ∷ []; fits = λ d. true }
 basicPiece big (number n) v = record {
   alignment = numberWidth n;
   fixed = true;
@@ -104,7 +106,7 @@ unfoldable pub arrayBytes : Bool → List Piece → List ℕ
 arrayBytes true cs = layout 0 cs
 arrayBytes false cs = layout 0 cs ++ table (writtenWidth (length (layout 0 cs)) (length cs)) (ends 0 cs)
 
--- kind: 97 for an array, 123 for a dictionary
+-- kind: an array's or a dictionary's
 unfoldable pub arrayPiece : ℕ → ℕ → Bool → List Piece → Piece
 arrayPiece kind a fx cs = record {
   alignment = a;
@@ -125,7 +127,7 @@ structurePiece a fx cs = record {
   alignment = a;
   fixed = fx;
   bytes = structureBytes a fx cs;
-  events = λ k. enclosing 40 k (length (structureBytes a fx cs)) (eventsFrom k 0 cs);
+  events = λ k. enclosing structureLetter k (length (structureBytes a fx cs)) (eventsFrom k 0 cs);
   fits = λ d. deeper (opened Depth.structure d) (allFit cs);
 }
 
@@ -140,9 +142,9 @@ variantPiece t c = record {
   fixed = false;
   bytes = c .bytes ++ (0 ∷ typeText t);
   events = λ k.
-      enclosing 118 k (length (c .bytes ++ (0 ∷ typeText t)))
-      (textEvent 103 (k + (length (c .bytes) + 1)) (typeText t) ∷ c .events k);
-  fits = λ d. leb (length (typeText t)) 255 && deeper (opened Depth.variant d) (c .fits);
+      enclosing variantLetter k (length (c .bytes ++ (0 ∷ typeText t)))
+      (textEvent signatureLetter (k + (length (c .bytes) + 1)) (typeText t) ∷ c .events k);
+  fits = λ d. leb (length (typeText t)) longestType && deeper (opened Depth.variant d) (c .fits);
 }
 
 module _ (big : Bool) {Held : Type 0} (held : Held → Piece) where
@@ -151,9 +153,9 @@ module _ (big : Bool) {Held : Type 0} (held : Held → Piece) where
     pieceOver (basic b) v = basicPiece big b v
     pieceOver variant v = held v
     pieceOver (maybe t) v = maybePiece (alignment t) (fixed t) (λ x. pieceOver t x) v
-    pieceOver (array t) v = arrayPiece 97 (alignment t) (fixed t) (map (λ x. pieceOver t x) v)
-    pieceOver (dictionary b t) v = arrayPiece 123 (max (basicAlignment b) (alignment t)) (basicFixed b && fixed t)
-        (map (λ x. entryPiece (max (basicAlignment b) (alignment t)) (basicFixed b && fixed t) (basicPiece big b (x .0) ∷ pieceOver t (x .1) ∷ [])) v)
+    pieceOver (array t) v = arrayPiece arrayLetter (alignment t) (fixed t) (map (λ x. pieceOver t x) v)
+    pieceOver (dictionary b t) v = arrayPiece dictionaryLetter (entryAlignment b t) (entryFixed b t)
+        (map (λ x. entryPiece (entryAlignment b t) (entryFixed b t) (basicPiece big b (x .0) ∷ pieceOver t (x .1) ∷ [])) v)
     pieceOver (structure ts) v = structurePiece (largestAlignment ts) (allFixed ts) (piecesOver ts v)
 
     pub piecesOver : (ts : Fields) → FieldsOver Held ts → List Piece

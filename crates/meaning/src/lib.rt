@@ -1,5 +1,5 @@
-// The meaning of GVariant as this project reads and writes it stands in specs/, its laws and theorems in proofs/. There is no code
-// here but this function, since a crate has one.
-pub fn largest_frame() -> usize {
-    65536
-}
+// The meaning of GVariant as this project reads and writes it stands in specs/, its laws and theorems in proofs/. What code needs of
+// it are the numbers that have names there, under the same names.
+pub mod letters;
+pub mod limits;
+pub mod refusals;

@@ -15,7 +15,7 @@ use Rattle.meaning.specs.Depths.{Depths}
 use Rattle.meaning.specs.Offsets.{encodedWidth, lastOffset}
 use Rattle.meaning.specs.Outcome.{Outcome, refused, after, chain, passing}
 use Rattle.meaning.specs.Reading.{Reader, Step, child, further, pad, endPadding, valueFrom, fixedKey, valueBefore, keyTo, textKey, entryFrom, readEntry, entryStep, childStep}
-use Rattle.meaning.proofs.PaddingLaws.{Aligns}
+use Rattle.meaning.specs.Padding.{Aligns}
 use Rattle.meaning.proofs.OffsetSteps.{own-width}
 use Rattle.leaves.specs.Paddings.{paddingAt}
 use Rattle.leaves.specs.Widths.{lastOffsetIn}

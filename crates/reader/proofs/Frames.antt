@@ -12,7 +12,8 @@ use Rattle.meaning.specs.Choice.{pick}
 use Rattle.meaning.specs.Depths.{Depths, noneOpen, depthRefusal}
 use Rattle.meaning.specs.Events.{Event, triples}
 use Rattle.meaning.specs.Outcome.{Outcome}
-use Rattle.meaning.specs.Calls.{limit, frameOf, frameReading, Counts, counts, sized, fitted, filled, size, read, readSlice}
+use Rattle.meaning.specs.Limits.{largestFrame}
+use Rattle.meaning.specs.Calls.{frameOf, frameReading, Counts, counts, sized, fitted, filled, size, read, readSlice}
 use Rattle.meaning.proofs.Bounds.{frame-events}
 use Rattle.leaves.specs.Opening.{depthsOf}
 use Rattle.leaves.specs.declared.container_depths.ContainerDepths.{ContainerDepths}
@@ -38,7 +39,7 @@ module _ (type : List ℕ) (big : Bool) (position : ℕ) (frame l : List ℕ) wh
   whole-type h = rw (refused-type type h) (refusing 1 0 (length frame) (length frame) 0 l (λ w. omega arith))
 
   module _ (j : Judged type) where
-    whole-past : (leb (length frame) limit && leb position limit) ≡ false → reads l (answer 2 0 0)
+    whole-past : (leb (length frame) largestFrame && leb position largestFrame) ≡ false → reads l (answer 2 0 0)
     unfolding frameReading frameOf
     whole-past h = rw (j .type, h) (refusing 2 0 (length frame) (length frame) 0 l (λ w. omega arith))
 

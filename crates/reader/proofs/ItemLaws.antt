@@ -7,7 +7,8 @@ use native.Mathlib.Omega.{arith}
 use Prim.Native.Nat.{ℕ, zero, suc, _+_, _-_, _≤_, _<_, max}
 use lib.ListN.{length, drop}
 use Rattle.meaning.specs.Types.{Number as NumberType, numberWidth, Basic, bool, number, text, Tree, basic, maybe, array, dictionary, basicAlignment, basicFixed, alignment, fixed}
-use Rattle.meaning.specs.TypeText.{numberLetter, found, firstType}
+use Rattle.meaning.specs.Letters.{numberLetter}
+use Rattle.meaning.specs.TypeText.{found, firstType}
 use Rattle.meaning.specs.Depths.{Depths}
 use Rattle.meaning.specs.Outcome.{chain, passing}
 use Rattle.meaning.specs.Reading.{Reader, Step, readBasic, readNumber, readMaybe, readTree, elements, elementsTo, childStep, entryStep, reading}

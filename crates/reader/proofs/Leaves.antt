@@ -12,7 +12,7 @@ use lib.ListN.{length, take, drop, getD, length-take, length-drop}
 use lib.Seq.{take-nil, take-take, drop-drop, drop-cons}
 use borrow.Author.Tests.{eq-eqb, ne-eqb, lt-ltb, le-ltb, le-leb, lt-leb, leb-true, leb-false, eqb-true, eqb-false}
 use Rattle.meaning.specs.Choice.{pick}
-use Rattle.meaning.specs.Padding.{padding, leadingZeros}
+use Rattle.meaning.specs.Padding.{padding, leadingZeros, Aligns}
 use Rattle.meaning.specs.Numbers.{value, ordered}
 use Rattle.meaning.specs.Offsets.{offsetBefore}
 use Rattle.meaning.specs.Texts.{withoutFinalNul, textRefusal}
@@ -20,9 +20,9 @@ use Rattle.meaning.specs.Depths.{Depths}
 use Rattle.meaning.specs.Events.{event, textEvent}
 use Rattle.meaning.specs.Outcome.{Outcome, done, refused, chain, unused, closingAt}
 use Rattle.meaning.specs.Reading.{child, paddingOf, pad, readBool, numberIn, readNumber, textAs, readText, padded, endPadding, offsetStands, fieldOffset, lastNul}
-use Rattle.meaning.proofs.PaddingLaws.{Aligns, by1, by2, by4, by8}
+use Rattle.meaning.proofs.PaddingLaws.{by-alignment}
 use Rattle.leaves.specs.Answers as leaf
-use Rattle.leaves.specs.Paddings.{isAlignment, paddingFor, paddingIn, paddingAt}
+use Rattle.leaves.specs.Paddings.{paddingFor, paddingIn, paddingAt}
 use Rattle.leaves.specs.declared.utils.Answer as leafs
 use Rattle.leaves.specs.Standing.{numberAt, boolAt}
 use Rattle.leaves.specs.Widths.{lastOffsetIn}
@@ -74,11 +74,8 @@ module _ (p j k : ℕ) (l : List ℕ) (h : j ≤ length l) where
           (record { place = k + length (drop j l); there = λ q. absurd (omega arith); missing = λ q. refl; none-used = λ q. refl; fits = omega arith })
 
 padding-for : (n : ℕ) {a : ℕ} → Aligns a → paddingFor n a ≡ leaf.done (padding n a)
-unfolding paddingFor isAlignment
-padding-for n by1 = refl
-padding-for n by2 = refl
-padding-for n by4 = refl
-padding-for n by8 = refl
+unfolding paddingFor
+padding-for n al = rw (al .listed)
 
 -- the padding at the place j of a part that begins at a place
 pub pads-at : (position place j a : ℕ) (l : List ℕ) (r : leafs.Answer) → Aligns a → position + place + j ≤ 18446744073709551615 → j ≤ length l
@@ -178,10 +175,9 @@ byte-number big l place =
 
 -- the last width is 8
 pub eight-left : {w : ℕ} → Aligns w → (w ≡ 1 → ⊥) → (w ≡ 2 → ⊥) → (w ≡ 4 → ⊥) → w ≡ 8
-eight-left by1 a b c = absurd (a refl)
-eight-left by2 a b c = absurd (b refl)
-eight-left by4 a b c = absurd (c refl)
-eight-left by8 a b c = refl
+eight-left al a b c =
+    by-alignment (λ w. (w ≡ 1 → ⊥) → (w ≡ 2 → ⊥) → (w ≡ 4 → ⊥) → w ≡ 8)
+    (λ a b c. absurd (a refl)) (λ a b c. absurd (b refl)) (λ a b c. absurd (c refl)) (λ a b c. refl) al a b c
 
 module _ (position : ℕ) (big : Bool) (kind w : ℕ) (d : Depths) (k n : ℕ) (l out : List ℕ) (r : leafs.Answer) (p : Pads (pad position w k l) (length l) r) where
   pub number-unpadded : (r .refusal ≡ 0 → ⊥) → Done (readNumber position big kind w d k l) (length l) (length l) n out out (answer (r .refusal) 0 n)

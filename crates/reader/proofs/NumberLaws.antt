@@ -9,14 +9,14 @@ use lib.Dec.{leb, ltb, eqb}
 use lib.ListN.{length, take, drop, length-drop}
 use borrow.Author.Tests.{eq-eqb, ne-eqb, lt-ltb, le-ltb, le-leb, lt-leb, eqb-true, eqb-false, leb-true, leb-false}
 use Rattle.meaning.specs.Choice.{pick}
-use Rattle.meaning.specs.Padding.{padding, leadingZeros}
+use Rattle.meaning.specs.Padding.{padding, leadingZeros, Aligns}
 use Rattle.meaning.specs.Numbers.{spelled}
 use Rattle.meaning.specs.Depths as Depth
 use Rattle.meaning.specs.Depths.{Depths, depthRefusal, opened}
 use Rattle.meaning.specs.Events.{Event, event, present, nothing}
 use Rattle.meaning.specs.Outcome.{Outcome, outcome, done, refused, after, chain, unused}
 use Rattle.meaning.specs.Reading.{child, childStep, within, paddingOf, pad, numberIn, readNumber, presentIn, maybeIn, readMaybe, further, elements}
-use Rattle.meaning.proofs.PaddingLaws.{Aligns, by1, by2, by4, by8, aligns-positive, padding-aligned, padding-none}
+use Rattle.meaning.proofs.PaddingLaws.{by-alignment, aligns-positive, padding-aligned, padding-none}
 use Rattle.leaves.specs.declared.utils.Answer as leafs
 use Rattle.leaves.specs.Standing.{numberAt}
 use Rattle.reader.specs.Answers.{next, put, putAll, advance, Done}
@@ -35,16 +35,10 @@ pub counted-all : (left w n count : ℕ) → left % w ≡ 0 → count ≡ min (n
 counted-all left w n count z e = let q : left - 0 ≡ left = omega arith in rw (z, e, q)
 
 pub rest-below : {w : ℕ} → Aligns w → (left : ℕ) → left % w < w
-rest-below by1 left = omega arith
-rest-below by2 left = omega arith
-rest-below by4 left = omega arith
-rest-below by8 left = omega arith
+rest-below al left = by-alignment (λ w. left % w < w) (omega arith) (omega arith) (omega arith) (omega arith) al
 
 whole-and-rest : {w : ℕ} → Aligns w → (left : ℕ) → left ≡ left / w * w + left % w
-whole-and-rest by1 left = omega arith
-whole-and-rest by2 left = omega arith
-whole-and-rest by4 left = omega arith
-whole-and-rest by8 left = omega arith
+whole-and-rest al left = by-alignment (λ w. left ≡ left / w * w + left % w) (omega arith) (omega arith) (omega arith) (omega arith) al
 
 length-numbers : (big : Bool) (kind w k : ℕ) (l : List ℕ) (m j : ℕ) → length (numberEvents big kind w k l m j) ≡ m
 unfolding numberEvents
@@ -134,10 +128,8 @@ found-there big w at part f e b h = ap (λ x. x .value) e ∙ rw (le-leb (at + w
 -- a width further none is needed either
 pub padding-on : {w : ℕ} → Aligns w → (p : ℕ) → padding p w ≡ 0 → padding (p + w) w ≡ 0
 unfolding padding
-padding-on by1 p h = omega arith
-padding-on by2 p h = omega arith
-padding-on by4 p h = omega arith
-padding-on by8 p h = omega arith
+padding-on al p h =
+    by-alignment (λ w. padding p w ≡ 0 → padding (p + w) w ≡ 0) (λ h. omega arith) (λ h. omega arith) (λ h. omega arith) (λ h. omega arith) al h
 
 padding-behind : {w : ℕ} → Aligns w → (p : ℕ) → padding (p + padding p w) w ≡ 0
 padding-behind {w = w} s p = padding-none s (p + padding p w) (padding-aligned s p)

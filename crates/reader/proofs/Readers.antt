@@ -15,12 +15,13 @@ use Rattle.meaning.specs.Choice.{pick}
 use Rattle.meaning.specs.Depths as Depth
 use Rattle.meaning.specs.Depths.{Depths, Opened, total, depthRefusal, opened}
 use Rattle.meaning.specs.Types.{Number as NumberType, Text as TextType, numberWidth, Basic, bool, number, text, Tree, Fields, basic, variant, maybe, array, dictionary, structure, alignment, largestAlignment, fixed, allFixed}
-use Rattle.meaning.specs.TypeText.{numberLetter, textLetter, Found, found, firstType}
+use Rattle.meaning.specs.Letters.{numberLetter, textLetter}
+use Rattle.meaning.specs.TypeText.{Found, found, firstType}
 use Rattle.meaning.specs.Events.{Event, event, present, nothing, opening}
 use Rattle.meaning.specs.Offsets.{encodedWidth}
 use Rattle.meaning.specs.Outcome.{Outcome, done, refused, after, chain, closingAt, enclosed}
 use Rattle.meaning.specs.Reading.{arrayIn, fieldsIn, structureBody, structureIn, Reader, child, within, readBool, readNumber, readText, readBasic, endByte, presentIn, maybeIn, pad, readMaybe, readTree, readVariant, readArray, readStructure, reading}
-use Rattle.meaning.proofs.PaddingLaws.{Aligns}
+use Rattle.meaning.specs.Padding.{Aligns}
 use Rattle.meaning.proofs.TypeLaws.{aligned}
 use Rattle.meaning.proofs.TypeLaws.{number-aligned as aligned-number}
 use Rattle.leaves.specs.Opening.{depthsOf, Raises}

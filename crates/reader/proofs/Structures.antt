@@ -14,11 +14,10 @@ use Rattle.meaning.specs.Depths.{Depths, total, depthRefusal}
 use Rattle.meaning.specs.Numbers.{value}
 use Rattle.meaning.specs.Offsets.{encodedWidth}
 use Rattle.meaning.specs.Types.{Tree, Fields, last, next, fixed, allFixed}
-use Rattle.meaning.specs.TypeText.{found, firstType}
+use Rattle.meaning.specs.TypeText.{found, firstType, firstFields}
 use Rattle.meaning.specs.Events.{Event}
 use Rattle.meaning.specs.Outcome.{Outcome, done, refused, after, chain, passing}
 use Rattle.meaning.specs.Reading.{child, further, endPadding, offsetStands, fieldOffset, fieldsIn, readTree, readVariant, reading}
-use Rattle.meaning.proofs.TypeTextLaws.{firstFields}
 use Rattle.meaning.proofs.OffsetLaws.{encodedWidth-1, encodedWidth-2, encodedWidth-4}
 use Rattle.leaves.specs.Opening.{depthsOf}
 use Rattle.leaves.specs.Answers as leaf

@@ -10,13 +10,12 @@ use lib.ListN.{length, drop}
 use Rattle.meaning.specs.Choice.{pick}
 use Rattle.meaning.specs.Depths.{Depths, depthRefusal}
 use Rattle.meaning.specs.Types.{bool, Tree, Fields, basic, variant, maybe, array, dictionary, structure, last, alignment, largestAlignment, fixed, allFixed, basicAlignment, basicFixed}
-use Rattle.meaning.specs.TypeText.{Found, found, firstType}
-use Rattle.meaning.proofs.TypeTextLaws.{firstFields}
+use Rattle.meaning.specs.TypeText.{Found, found, firstType, firstFields}
 use Rattle.meaning.specs.Offsets.{Table, noneAbove, endsOf}
 use Rattle.meaning.specs.Outcome as outcome
 use Rattle.meaning.specs.Outcome.{Outcome}
-use Rattle.meaning.proofs.PaddingLaws.{Aligns}
 use Rattle.meaning.specs.Reading.{Reader, Step, Field, readBool, readNumber, readText, readBasic, readMaybe, maybeIn, arrayIn, childStep, entryStep, structureIn, variantIn, offsetStands, fieldOffset, readers, readVariant, reading}
+use Rattle.meaning.specs.Padding.{Aligns}
 use Rattle.leaves.specs.Answers.{done, refused}
 use Rattle.leaves.specs.declared.utils.Answer.{Answer}
 use Rattle.leaves.specs.Opening.{depthsOf}

@@ -35,7 +35,7 @@ ghost use Rattle.meaning.specs.Events.{event};
 ghost use Rattle.meaning.specs.Outcome.{Outcome, chain, closingAt, passing};
 ghost use Rattle.meaning.specs.Reading.{child, readBool, readNumber, readText, maybeIn, arrayIn, elements as elementsIn, elementsTo, offsetStands, fieldOffset, endPadding, fieldsIn, structureIn, fixedKey, textKey, readEntry, separator as separatorOf, variantIn};
 ghost use Rattle.meaning.specs.Calls.{frameReading, size as sizeOf, read as readOf, readSlice};
-ghost use Rattle.meaning.proofs.PaddingLaws.{Aligns};
+ghost use Rattle.meaning.specs.Padding.{Aligns};
 ghost use Rattle.leaves.specs.Answers.{done, refused};
 ghost use Rattle.leaves.specs.Standing.{numberAt, partAt};
 ghost use Rattle.leaves.specs.Opening.{depthsOf};

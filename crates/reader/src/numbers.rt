@@ -17,7 +17,7 @@ ghost use Rattle.meaning.specs.Depths.{Depths};
 ghost use Rattle.meaning.specs.Offsets.{endsOf};
 ghost use Rattle.meaning.specs.Outcome.{chain, passing};
 ghost use Rattle.meaning.specs.Reading.{child, childStep, readNumber, readMaybe, elements as elementsIn, elementsTo};
-ghost use Rattle.meaning.proofs.PaddingLaws.{Aligns};
+ghost use Rattle.meaning.specs.Padding.{Aligns};
 ghost use Rattle.leaves.specs.Standing.{numberAt};
 ghost use Rattle.leaves.specs.Opening.{depthsOf};
 ghost use Rattle.leaves.specs.Tables.{tableIn};

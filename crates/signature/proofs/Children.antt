@@ -11,10 +11,11 @@ use lib.ListN.{length, drop, length-drop, length-append}
 use lib.Seq.{drop-drop, drop-at}
 use Rattle.meaning.specs.Choice.{pick}
 use Rattle.meaning.specs.Types.{Basic, bool, number, text, Tree, Fields, maybe, array, dictionary, structure, last, next, basicAlignment, basicFixed, alignment, largestAlignment, fixed, allFixed, rounded, fixedSize, fieldsEnd}
-use Rattle.meaning.specs.TypeText.{typeText, Found, found, made, endedBy, basicAmong, basicOf, entryBy as byKey, entryIn, arrayIn, typeIn, fieldsIn, firstType}
-use Rattle.meaning.proofs.PaddingLaws.{Aligns, aligns-positive, padding-below}
+use Rattle.meaning.specs.TypeText.{typeText, Found, found, made, endedBy, basicAmong, basicOf, entryBy as byKey, entryBegun, arrayBegun, typeBegun, fieldsBegun, firstType, firstFields}
+use Rattle.meaning.specs.Padding.{Aligns}
+use Rattle.meaning.proofs.PaddingLaws.{aligns-positive, padding-below}
 use Rattle.meaning.proofs.TypeLaws.{aligned, fields-aligned, aligns-most}
-use Rattle.meaning.proofs.TypeTextLaws.{typeText-positive, firstType-none, firstType-cons, firstType-sound, firstFields, firstFields-is, fixedSize-most, basic-letter, made-some, ended-some}
+use Rattle.meaning.proofs.TypeTextLaws.{typeText-positive, firstType-none, firstType-cons, firstType-sound, firstFields-is, fixedSize-most, basic-letter, made-some, ended-some}
 use Rattle.signature.specs.Places.{basicKind, letterOf, letterBy, letterIn, letterAt, typeAt, child, noChild, childBy, childAt, noEntry, entryOf, entryBy, entryAt}
 use Rattle.signature.specs.Steps.{structureBy, keyAlignment, keyFixed}
 use Rattle.signature.specs.declared.Child.{Child}
@@ -59,15 +60,15 @@ held f h k j len none = refl
 held f h k j len (some g) = rw (h .aligns (g .it), h .loose (g .it), h .empty (g .it))
 
 first-maybe : (l : List ℕ) → firstType (109 ∷ l) ≡ made maybe (firstType l)
-unfolding typeIn
+unfolding typeBegun
 first-maybe l = firstType-cons 109 l
 
 first-structure : (l : List ℕ) → firstType (40 ∷ l) ≡ made structure (firstFields l)
-unfolding typeIn
+unfolding typeBegun
 first-structure l = firstType-cons 40 l
 
-first-array : (l : List ℕ) → firstType (97 ∷ l) ≡ arrayIn (λ k. firstType k) l
-unfolding typeIn
+first-array : (l : List ℕ) → firstType (97 ∷ l) ≡ arrayBegun (λ k. firstType k) l
+unfolding typeBegun
 first-array l = firstType-cons 97 l
 
 pub child-maybe : (l : List ℕ) (at : ℕ) → length l ≤ 255 → letterAt l at ≡ Maybe → heldBy Maybe (childAt l (at + 1)) ≡ childAt l at
@@ -75,12 +76,12 @@ child-maybe l at n h =
     let c = cut l at Maybe 109 h refl in
     sym (child-by l at n ∙ rw (h, c .is, first-maybe) (held maybe holds-maybe Maybe (letterAt l (at + 1)) (length l) (firstType (drop (at + 1) l)) ∙ ap (heldBy Maybe) (sym (child-by l (at + 1) n))))
 
-array-elements : (l : List ℕ) → (letterIn l ≡ OpenEntry → ⊥) → arrayIn (λ k. firstType k) l ≡ made array (firstType l)
-unfolding arrayIn made letterIn letterBy basicAmong
+array-elements : (l : List ℕ) → (letterIn l ≡ OpenEntry → ⊥) → arrayBegun (λ k. firstType k) l ≡ made array (firstType l)
+unfolding arrayBegun made letterIn letterBy basicAmong
 array-elements [] h = rw firstType-none
 array-elements (c ∷ l) h = go (eqb c 123) refl
   where
-    go : (q : Bool) → eqb c 123 ≡ q → pick q (entryIn (λ k. firstType k) l) (made array (firstType (c ∷ l))) ≡ made array (firstType (c ∷ l))
+    go : (q : Bool) → eqb c 123 ≡ q → pick q (entryBegun (λ k. firstType k) l) (made array (firstType (c ∷ l))) ≡ made array (firstType (c ∷ l))
     go true p = absurd (h (ap letterOf (eqb-true c 123 p)))
     go false p = refl
 
@@ -199,8 +200,8 @@ unfolding childBy entryBy entryOf made alignment fixed fixedSize
 dictionary-made l at b none = refl
 dictionary-made l at b (some g) = refl
 
-dictionary-in : (l : List ℕ) (at : ℕ) (r : List ℕ) → dictionaryBy (entryBy l at (entryIn (λ k. firstType k) r)) ≡ childBy Array (length l) (entryIn (λ k. firstType k) r)
-unfolding childBy entryBy entryIn byKey
+dictionary-in : (l : List ℕ) (at : ℕ) (r : List ℕ) → dictionaryBy (entryBy l at (entryBegun (λ k. firstType k) r)) ≡ childBy Array (length l) (entryBegun (λ k. firstType k) r)
+unfolding childBy entryBy entryBegun byKey
 dictionary-in l at [] = refl
 dictionary-in l at (c ∷ r) = go (basicOf c)
   where
@@ -234,9 +235,9 @@ module _ (l : List ℕ) (at : ℕ) (n : length l ≤ 255) (a : letterAt l at ≡
   entry-place : drop (at + 1 + 1) l ≡ drop (at + 2) l
   entry-place = let e : at + 1 + 1 ≡ at + 2 = omega arith in rw e
 
-  first-entry : firstType (drop at l) ≡ entryIn (λ k. firstType k) (drop (at + 2) l)
-  unfolding arrayIn
-  first-entry = rw (cut l at Array 97 a refl .is, first-array, second .is) (ap (λ (x : List ℕ). entryIn (λ k. firstType k) x) entry-place)
+  first-entry : firstType (drop at l) ≡ entryBegun (λ k. firstType k) (drop (at + 2) l)
+  unfolding arrayBegun
+  first-entry = rw (cut l at Array 97 a refl .is, first-array, second .is) (ap (λ (x : List ℕ). entryBegun (λ k. firstType k) x) entry-place)
 
   -- behind `a{` a basic key stands
   module _ (k : Key l (at + 2)) where
@@ -244,7 +245,7 @@ module _ (l : List ℕ) (at : ℕ) (n : length l ≤ 255) (a : letterAt l at ≡
     key-place = let e : at + 2 + 1 ≡ at + 3 = omega arith in rw e
 
     first-value : firstType (drop at l) ≡ made (dictionary (k .it)) (endedBy 125 (firstType (drop (at + 3) l)))
-    unfolding entryIn byKey
+    unfolding entryBegun byKey
     first-value = first-entry ∙ rw (k .goes .is) (rw (basic-letter (k .it) .known) (ap (λ (x : List ℕ). made (dictionary (k .it)) (endedBy 125 (firstType x))) key-place))
 
     no-value : firstType (drop (at + 3) l) ≡ none → noEntry ≡ entryAt l at
@@ -322,8 +323,8 @@ unfolding laid alignment fixed fixedSize
 laid-last len a f end t r behind b g z h hb hg hz = rw (hb, hg, hz, ← h)
 
 -- a field that no `)` ends is followed by another
-pub more-fields : (t : Tree) (l : List ℕ) → (letterIn l ≡ CloseStructure → ⊥) → fieldsIn (λ k. firstFields k) (found t l) ≡ made (next t) (firstFields l)
-unfolding fieldsIn made letterIn letterBy basicAmong
+pub more-fields : (t : Tree) (l : List ℕ) → (letterIn l ≡ CloseStructure → ⊥) → fieldsBegun (λ k. firstFields k) (found t l) ≡ made (next t) (firstFields l)
+unfolding fieldsBegun made letterIn letterBy basicAmong
 more-fields t [] g = rw (firstFields-is, firstType-none)
 more-fields t (c ∷ l) g = go (eqb c 41) refl
   where
@@ -354,7 +355,7 @@ fields-begin l at n h =
 
 module _ (l : List ℕ) (at place a : ℕ) (f : Bool) (end : ℕ) (n : length l ≤ 255) (i : Fielding l at place a f end) where
   pub fields-missing : childAt l place .found ≡ false → noChild OpenStructure ≡ childAt l at
-  unfolding laid fieldsIn
+  unfolding laid fieldsBegun
   fields-missing h = let e = child-missing l place n h in rw (firstFields-is, e) at (i .rest)
 
   module _ (s : Stands l place (childAt l place)) where
@@ -370,7 +371,7 @@ module _ (l : List ℕ) (at place a : ℕ) (f : Bool) (end : ℕ) (n : length l 
     pub fields-next : (letterAt l (childAt l place .next) ≡ CloseStructure → ⊥) → Fielding l at (childAt l place .next) wide (f && childAt l place .fixed) far
     fields-next g =
         let v = childAt l place .next in
-        let e : firstFields (drop place l) ≡ made (next (s .it)) (firstFields (drop v l)) = firstFields-is (drop place l) ∙ ap (λ (x : Found Tree). fieldsIn (λ k. firstFields k) x) (s .type) ∙ more-fields (s .it) (drop v l) g in
+        let e : firstFields (drop place l) ≡ made (next (s .it)) (firstFields (drop v l)) = firstFields-is (drop place l) ∙ ap (λ (x : Found Tree). fieldsBegun (λ k. firstFields k) x) (s .type) ∙ more-fields (s .it) (drop v l) g in
         record {
           rest = laid-more (length l) a f end (s .it) (firstFields (drop v l)) (childAt l place .alignment) (childAt l place .fixed) (childAt l place .size) (s .same-alignment) (s .same-fixed) (s .same-size) ∙ ap (laid (length l) a f end) (sym e) ∙ i .rest;
           positive = omega (arith, i .positive);
@@ -381,13 +382,13 @@ module _ (l : List ℕ) (at place a : ℕ) (f : Bool) (end : ℕ) (n : length l 
         }
 
     pub fields-last : letterAt l (childAt l place .next) ≡ CloseStructure → structureBy (childAt l place .next + 1) wide (f && childAt l place .fixed) far ≡ childAt l at
-    unfolding fieldsIn
+    unfolding fieldsBegun
     fields-last g =
         let v = childAt l place .next in
         let c = cut l v CloseStructure 41 g refl in
         let m = length-drop (v + 1) l in
         let w : length l - length (drop (v + 1) l) ≡ v + 1 = omega (arith, c .within) in
-        let e : firstFields (drop place l) ≡ found (last (s .it)) (drop (v + 1) l) = firstFields-is (drop place l) ∙ ap (λ (x : Found Tree). fieldsIn (λ k. firstFields k) x) (s .type ∙ ap (λ (x : List ℕ). found (s .it) x) (c .is)) in
+        let e : firstFields (drop place l) ≡ found (last (s .it)) (drop (v + 1) l) = firstFields-is (drop place l) ∙ ap (λ (x : Found Tree). fieldsBegun (λ k. firstFields k) x) (s .type ∙ ap (λ (x : List ℕ). found (s .it) x) (c .is)) in
         laid-last (length l) a f end (s .it) (drop (v + 1) l) (v + 1) (childAt l place .alignment) (childAt l place .fixed) (childAt l place .size) w (s .same-alignment) (s .same-fixed) (s .same-size) ∙ ap (laid (length l) a f end) (sym e) ∙ i .rest
 
 -- ---- the same in the code's terms: `v` is the answer of a call

@@ -9,8 +9,9 @@ use lib.ListN.{length, drop}
 use lib.Seq.{drop-drop}
 use borrow.Author.Tests.{eqb-false}
 use Rattle.meaning.specs.Types.{Basic, bool, number, text, Tree, Fields, basic, variant, maybe, array, dictionary, structure, last, next, numberWidth, basicFixed, alignment, fixed, fixedSize, Number as NumberType, Text as TextType}
-use Rattle.meaning.specs.TypeText.{numberLetter, textLetter, basicLetter, typeText, fieldsText, basicAmong, found, firstType}
-use Rattle.meaning.proofs.TypeTextLaws.{basic-letter, typeText-positive, head, firstType-typeText, firstType-sound, firstFields, firstFields-fieldsText, firstFields-sound, fields-head}
+use Rattle.meaning.specs.Letters.{numberLetter, textLetter, basicLetter}
+use Rattle.meaning.specs.TypeText.{typeText, fieldsText, basicAmong, found, firstType, firstFields}
+use Rattle.meaning.proofs.TypeTextLaws.{basic-letter, typeText-positive, head, firstType-typeText, firstType-sound, firstFields-fieldsText, firstFields-sound, fields-head}
 use Rattle.signature.specs.Places.{basicKind, letterOf, letterBy, letterIn, letterAt, child, childAt, closedBy, fieldAt, entryOf, entryBy, entryAt}
 use Rattle.signature.specs.declared.Letter.{Letter}
 use Rattle.signature.specs.declared.Letter.the-variants.{End, Bad, Boolean, Number, Text, Variant, Maybe, Array, OpenStructure, CloseStructure, OpenEntry, CloseEntry}

@@ -15,7 +15,8 @@ use lib.ListN.{length, getD, drop, drop-of-length-le, length-drop}
 use lib.Seq.{drop-cons, drop-drop}
 use Rattle.meaning.specs.Choice.{pick}
 use Rattle.meaning.specs.Types.{Basic, bool, number, text, Tree, basic, basicAlignment, basicFixed, alignment, fixed, fixedSize}
-use Rattle.meaning.specs.TypeText.{basicLetter, typeText, basicAmong, basicOf, Found, basicTree, entryBy, entryIn, typeIn, firstType}
+use Rattle.meaning.specs.Letters.{basicLetter}
+use Rattle.meaning.specs.TypeText.{typeText, basicAmong, basicOf, Found, basicTree, entryBy, entryBegun, typeBegun, firstType}
 use Rattle.meaning.proofs.TypeLaws.{number-positive}
 use Rattle.meaning.proofs.TypeTextLaws.{basic-of, firstType-none, firstType-cons, firstType-typeText}
 use Rattle.signature.specs.Places.{basicKind, letterBy, letterOf, letterIn, letterAt, child, noChild, childBy, childAt, typeAt}
@@ -82,7 +83,7 @@ data Seen : List ℕ → Letter → Type 0 where
   at-bad : (c : ℕ) (l : List ℕ) → basicOf c ≡ none → firstType (c ∷ l) ≡ none → Seen (c ∷ l) Bad
 
 seen-other : (c : ℕ) (l : List ℕ) → basicOf c ≡ none → Seen (c ∷ l) (letterBy c none)
-unfolding letterBy typeIn basicTree
+unfolding letterBy typeBegun basicTree
 seen-other c l n = go (eqb c 118) (eqb c 109) (eqb c 97) (eqb c 40) (eqb c 41) (eqb c 123) (eqb c 125) refl refl refl refl refl refl refl
   where
     go : (v m a o z e f : Bool) → eqb c 118 ≡ v → eqb c 109 ≡ m → eqb c 97 ≡ a → eqb c 40 ≡ o → eqb c 41 ≡ z → eqb c 123 ≡ e → eqb c 125 ≡ f
@@ -197,11 +198,11 @@ key-at l at h = go (drop at l) (letterAt l at) refl refl (seen (drop at l)) h
     go r j e p (at-mark d i x q m) n = absurd (n (mark-zero j d q))
     go r j e p (at-bad d x m f) n = absurd (n refl)
 
-pub no-key-at : (l : List ℕ) (at : ℕ) → keyAlignment (letterAt l at) ≡ 0 → (one : List ℕ → Found Tree) → entryIn one (drop at l) ≡ none
-unfolding entryIn entryBy
+pub no-key-at : (l : List ℕ) (at : ℕ) → keyAlignment (letterAt l at) ≡ 0 → (one : List ℕ → Found Tree) → entryBegun one (drop at l) ≡ none
+unfolding entryBegun entryBy
 no-key-at l at h one = go (drop at l) (letterAt l at) (seen (drop at l)) h
   where
-    go : (r : List ℕ) (j : Letter) → Seen r j → keyAlignment j ≡ 0 → entryIn one r ≡ none
+    go : (r : List ℕ) (j : Letter) → Seen r j → keyAlignment j ≡ 0 → entryBegun one r ≡ none
     go r j at-end n = refl
     go r j (at-basic b x) n = absurd (key-zero b n)
     go r j (at-mark d i x q m) n = rw m
@@ -254,7 +255,7 @@ no-start n CloseEntry w = (refl, refl)
 
 -- a closing bracket or the brace of an entry begins no type
 pub first-mark : (k : Letter) (c : ℕ) (l : List ℕ) → mark k ≡ some c → alone k ≡ true → k ≢ Variant → firstType (c ∷ l) ≡ none
-unfolding typeIn basicTree basicAmong
+unfolding typeBegun basicTree basicAmong
 first-mark End c l h a v = absurd (never h)
 first-mark Bad c l h a v = absurd (never h)
 first-mark Boolean c l h a v = absurd (never h)
@@ -278,7 +279,7 @@ lone-basic (number x) n = refl
 lone-basic (text x) n = refl
 
 lone-mark : (k : Letter) (c next len : ℕ) (r : List ℕ) → mark k ≡ some c → alone k ≡ true → len - length r ≡ next → childBy k len (firstType (c ∷ r)) ≡ loneChild next k
-unfolding typeIn childBy alignment fixed fixedSize
+unfolding typeBegun childBy alignment fixed fixedSize
 lone-mark End c next len r h a e = absurd (never h)
 lone-mark Bad c next len r h a e = absurd (never h)
 lone-mark Boolean c next len r h a e = absurd (never h)

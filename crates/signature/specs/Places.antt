@@ -7,7 +7,8 @@ use lib.Dec.{leb, eqb}
 use lib.ListN.{length, drop}
 use Rattle.meaning.specs.Choice.{pick}
 use Rattle.meaning.specs.Types.{Basic, bool, number, text, Tree, basic, variant, maybe, array, dictionary, structure, numberWidth, basicAlignment, basicFixed, alignment, fixed, fixedSize}
-use Rattle.meaning.specs.TypeText.{numberLetter, textLetter, Found, basicOf, firstType, typeOf}
+use Rattle.meaning.specs.Letters.{numberLetter, textLetter}
+use Rattle.meaning.specs.TypeText.{Found, basicOf, firstType, typeOf}
 use Rattle.signature.specs.declared.Letter.{Letter}
 use Rattle.signature.specs.declared.Letter.the-variants.{End, Bad, Boolean, Number, Text, Variant, Maybe, Array, OpenStructure, CloseStructure, OpenEntry, CloseEntry}
 use Rattle.signature.specs.declared.Child.{Child}

@@ -1,6 +1,6 @@
 use Rattle.leaves.proofs.Masks.{alignment-last}
 use borrow.Author.Tests.{eq-eqb, ne-eqb}
-use Rattle.leaves.specs.Paddings.{isAlignment}
+use Rattle.meaning.specs.Padding.{isAlignment}
 use Rattle.leaves.proofs.utils.is_alignment.Statement.{statement}
 use Rattle.leaves.proofs.utils.is_alignment.Tie as tie
 use Rattle.leaves.proofs.utils.is_alignment.Reads as reads

@@ -173,5 +173,5 @@ want (reads t p l a es) = a ++ (es ++ drop (length es) room)
 want (writes t v l) = l
 
 pub frames-hold : map got table ≡ map want table
-unfolding Numbers.bytes Numbers.value Padding.padding Padding.leadingZeros Offsets.firstWidth Offsets.encodedWidth Offsets.writtenWidth Offsets.bareWidth Offsets.table Offsets.backTable Offsets.entries Offsets.noneAbove Offsets.tableFrom Offsets.tableOf Offsets.endsOf Offsets.tableStands Texts.withoutFinalNul Texts.noNul Texts.following Texts.afterByte Texts.utf8From Texts.utf8 Texts.textRefusal Depths.depthRefusal Types.alignment Types.fixed Types.fixedSize TypeText.typeText TypeText.basicAmong TypeText.made TypeText.endedBy TypeText.basicTree TypeText.entryBy TypeText.entryBegun TypeText.arrayBegun TypeText.typeBegun TypeText.fieldsBegun TypeText.typeWithin TypeText.firstType TypeText.nothingBehind TypeText.typeOf Events.triples Written.stop Written.layout Written.eventsFrom Written.ends Written.fieldEnds Written.allFit Written.basicPiece Written.maybePiece Written.arrayBytes Written.arrayPiece Written.structureBytes Written.structurePiece Written.entryPiece Written.variantPiece Written.pieceOver Written.piece Written.written Outcome.chain Outcome.unused Outcome.enclosed Reading.child Reading.within Reading.paddingOf Reading.textAs Reading.readText Reading.readBool Reading.numberIn Reading.endByte Reading.presentIn Reading.maybeIn Reading.elements Reading.elementsTo Reading.tabled Reading.arrayBody Reading.arrayIn Reading.childStep Reading.offsetStands Reading.fieldOffset Reading.padded Reading.lastNul Reading.variantValue Reading.variantType Reading.variantTyped Reading.variantBody Reading.variantIn Reading.pad Reading.readNumber Reading.readBasic Reading.readMaybe Reading.readArray Reading.endPadding Reading.fieldsIn Reading.structureBody Reading.structureIn Reading.readStructure Reading.valueFrom Reading.fixedKey Reading.valueBefore Reading.keyTo Reading.textKey Reading.entryFrom Reading.readEntry Reading.entryStep Reading.readVariant Reading.readTree Reading.reading Calls.frameOf Calls.frameReading Calls.sized Calls.fitted Calls.filled Calls.size Calls.read Calls.readSlice
+unfolding Numbers.bytes Numbers.value Padding.padding Padding.leadingZeros Offsets.firstWidth Offsets.encodedWidth Offsets.writtenWidth Offsets.bareWidth Offsets.table Offsets.backTable Offsets.entries Offsets.noneAbove Offsets.tableFrom Offsets.tableOf Offsets.endsOf Offsets.tableStands Texts.withoutFinalNul Texts.noNul Texts.following Texts.afterByte Texts.utf8From Texts.utf8 Texts.textRefusal Depths.depthRefusal Types.alignment Types.fixed Types.fixedSize TypeText.typeText TypeText.basicAmong TypeText.made TypeText.endedBy TypeText.basicTree TypeText.entryBy TypeText.entryBegun TypeText.arrayBegun TypeText.typeBegun TypeText.fieldsBegun TypeText.typeWithin TypeText.firstType TypeText.nothingBehind TypeText.typeOf Events.triples Written.stop Written.layout Written.eventsFrom Written.ends Written.fieldEnds Written.allValid Written.allShallow Written.basicPiece Written.maybePiece Written.arrayBytes Written.arrayPiece Written.structureBytes Written.structurePiece Written.entryPiece Written.variantPiece Written.pieceOver Written.piece Written.written Outcome.chain Outcome.unused Outcome.enclosed Reading.child Reading.within Reading.paddingOf Reading.textAs Reading.readText Reading.readBool Reading.numberIn Reading.endByte Reading.presentIn Reading.maybeIn Reading.elements Reading.elementsTo Reading.tabled Reading.arrayBody Reading.arrayIn Reading.childStep Reading.offsetStands Reading.fieldOffset Reading.padded Reading.lastNul Reading.variantValue Reading.variantType Reading.variantTyped Reading.variantBody Reading.variantIn Reading.pad Reading.readNumber Reading.readBasic Reading.readMaybe Reading.readArray Reading.endPadding Reading.fieldsIn Reading.structureBody Reading.structureIn Reading.readStructure Reading.valueFrom Reading.fixedKey Reading.valueBefore Reading.keyTo Reading.textKey Reading.entryFrom Reading.readEntry Reading.entryStep Reading.readVariant Reading.readTree Reading.reading Calls.frameOf Calls.frameReading Calls.sized Calls.fitted Calls.filled Calls.size Calls.read Calls.readSlice
 frames-hold = refl

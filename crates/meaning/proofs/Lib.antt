@@ -9,6 +9,7 @@ pub mod DepthLaws
 pub mod TypeLaws
 pub mod TypeTextLaws
 pub mod OutcomeLaws
+pub mod FitLaws
 pub mod LayoutLaws
 pub mod ReadsBack
 pub mod ReadsBackStructures

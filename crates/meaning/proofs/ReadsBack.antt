@@ -20,13 +20,14 @@ use Rattle.meaning.specs.Depths.{Depths, depthRefusal, opened}
 use Rattle.meaning.specs.Types.{Number, Text, bool, number, text, numberWidth}
 use Rattle.meaning.specs.Letters.{numberLetter, textLetter}
 use Rattle.meaning.specs.Events.{Event, event, textEvent, present, nothing}
-use Rattle.meaning.specs.Written.{Piece, stop, layout, eventsFrom, ends, allFit, deeper, bit, basicPiece, maybePiece, enclosing, arrayBytes, arrayPiece}
+use Rattle.meaning.specs.Written.{Piece, fits, stop, layout, eventsFrom, ends, deeper, bit, basicPiece, maybePiece, enclosing, arrayBytes, arrayPiece}
 use Rattle.meaning.specs.Outcome.{Outcome, done, after, chain, unused, passing, enclosed}
 use Rattle.meaning.specs.Reading.{Reader, child, within, textAs, readText, readBool, numberIn, readNumber, readBasic, endByte, presentIn, maybeIn, readMaybe, further, elements, elementsTo, Step, tabled, arrayBody, arrayIn, readArray, childStep}
 use Rattle.meaning.proofs.Tests.{both-left, both-right, holds}
 use Rattle.meaning.proofs.NumberLaws.{length-bytes, value-bytes, ordered-twice, length-ordered}
 use Rattle.meaning.proofs.PaddingLaws.{padding-shift, padding-aligned, padding-none}
 use Rattle.meaning.proofs.OffsetLaws.{Fits, Chosen, writtenWidth-chosen}
+use Rattle.meaning.proofs.FitLaws.{allFit, held-fits, children-fit}
 use Rattle.meaning.proofs.OutcomeLaws.{chain-done, enclosed-done, within-done, behind-padding, child-between, child-last}
 use Rattle.meaning.proofs.LayoutLaws.{All, nil, cons, layout-split, layout-shift, placed, length-placed, stop-placed, length-layout, length-table, length-ends, table-found, ends-found, table-stands}
 
@@ -56,7 +57,7 @@ behind-aligned position al k p hp = let m : position + (k + p) ≡ position + k 
 module _ (position : ℕ) where
   -- a reader reads a piece wherever it stands: behind the padding p that the place k asks for, and, if its size is fixed, before anything
   abbrev pub Reads : Reader → Piece → Type 0
-  Reads read c = (d : Depths) (k p u q : ℕ) (r : List ℕ) → T (c .fits d) → length (c .bytes) ≤ 65536 → Fills (c .fixed) r
+  Reads read c = (d : Depths) (k p u q : ℕ) (r : List ℕ) → T (fits c d) → length (c .bytes) ≤ 65536 → Fills (c .fixed) r
       → p ≡ padding (position + k) (c .alignment) → u ≡ p + length (c .bytes) → q ≡ k + p
       → read d k (zeros p ++ (c .bytes ++ r)) ≡ done u (c .events q)
 
@@ -68,7 +69,7 @@ module _ (position : ℕ) where
     pub solid : T fx → 0 < length (c .bytes)
 
   -- a piece at an aligned place that is its whole part
-  pub reads-here : {read : Reader} {a : ℕ} {fx : Bool} {c : Piece} → Aligns a → Good read a fx c → (d : Depths) (k : ℕ) → T (c .fits d) → length (c .bytes) ≤ 65536 → (position + k) % a ≡ 0
+  pub reads-here : {read : Reader} {a : ℕ} {fx : Bool} {c : Piece} → Aligns a → Good read a fx c → (d : Depths) (k : ℕ) → T (fits c d) → length (c .bytes) ≤ 65536 → (position + k) % a ≡ 0
       → read d k (c .bytes) ≡ done (length (c .bytes)) (c .events k)
   reads-here {read} {a} {fx} {c} al g d k f s z =
       let h = g .reads d k 0 (length (c .bytes)) k [] f s (fills-nil (c .fixed)) (sym (rw (g .alignment-is) (padding-none al (position + k) z))) (omega arith) (omega arith) in
@@ -89,7 +90,7 @@ module _ (position : ℕ) where
         drop-at (zeros p) (b ++ r) p (length-replicate p 0),
         take-at b r w n,
         ordered-twice,
-        value-bytes w v (ltb→lt v (256 ^ w) f),
+        value-bytes w v (ltb→lt v (256 ^ w) (both-left (ltb v (256 ^ w)) true f)),
         hq,
       ) in
       rw (behind-padding position w k p u w (b ++ r) (numberIn big (numberLetter c) w k (zeros p ++ (b ++ r))) (event (numberLetter c) q v ∷ []) hp e (omega arith))
@@ -108,7 +109,7 @@ module _ (position : ℕ) where
       let z : p ≡ 0 = omega arith in
       let m : length (v ++ (0 ∷ [])) + 0 ≡ u = omega arith in
       let n : q ≡ k = omega arith in
-      rw (z, t, append-nil, without-nul, holds (eqb (textRefusal v) 0) f, m, n)
+      rw (z, t, append-nil, without-nul, holds (eqb (textRefusal v) 0) (both-left (eqb (textRefusal v) 0) true f), m, n)
 
   -- ---- maybes: nothing; something of fixed size; something else, and a nul
 
@@ -120,7 +121,7 @@ module _ (position : ℕ) where
         behind-padding position a k p u 0 [] (maybeIn fx read d k (zeros p ++ [])) (nothing q ∷ []) hp (rw (le-leb (length (zeros p ++ [])) p n, hq)) (omega arith)
 
     -- what is known of a child that is there
-    module _ (c : Piece) (f : T (deeper (opened Depth.maybe d) (c .fits))) (s : length (c .bytes) ≤ 65536) where
+    module _ (c : Piece) (f : T (deeper (opened Depth.maybe d) (fits c))) (s : length (c .bytes) ≤ 65536) where
       maybe-present : (fx : Bool) (l y : List ℕ) (v : ℕ) → l ≡ zeros p ++ y → p < length l
           → presentIn fx read k l p (opened Depth.maybe d) ≡ done v (present q ∷ c .events q) → u ≡ p + v
           → readMaybe position a fx read d k l ≡ done u (present q ∷ c .events q)
@@ -128,10 +129,10 @@ module _ (position : ℕ) where
       maybe-present fx l y v hl h e hu =
           rw hl (behind-padding position a k p u v y (maybeIn fx read d k (zeros p ++ y)) (present q ∷ c .events q) hp
           (rw (← hl) (rw (lt-leb (length l) p h)
-          (within-done (opened Depth.maybe d) (k + p) (presentIn fx read k l p) (both-left (eqb (depthRefusal (opened Depth.maybe d)) 0) (c .fits (opened Depth.maybe d)) f) e))) hu)
+          (within-done (opened Depth.maybe d) (k + p) (presentIn fx read k l p) (both-left (eqb (depthRefusal (opened Depth.maybe d)) 0) (fits c (opened Depth.maybe d)) f) e))) hu)
 
-      child-fits : T (c .fits (opened Depth.maybe d))
-      child-fits = both-right (eqb (depthRefusal (opened Depth.maybe d)) 0) (c .fits (opened Depth.maybe d)) f
+      child-fits : T (fits c (opened Depth.maybe d))
+      child-fits = both-right (eqb (depthRefusal (opened Depth.maybe d)) 0) (fits c (opened Depth.maybe d)) f
 
       maybe-fixed : Good read a true c → u ≡ p + length (c .bytes) → readMaybe position a true read d k (zeros p ++ c .bytes) ≡ done u (present q ∷ c .events q)
       unfolding presentIn
@@ -167,14 +168,14 @@ module _ (position : ℕ) where
       → Reads (readMaybe position a fx read) (maybePiece a fx pc v)
   unfolding maybePiece
   maybe-reads read a al pc fx g none d k p u q r f s t hp hu hq = rw t (maybe-nothing read a al d k p u q hp hq fx (omega arith))
-  maybe-reads read a al pc true g (some v) d k p u q r f s t hp hu hq = rw (t, append-nil) (maybe-fixed read a al d k p u q hp hq (pc v) f s (g v) hu)
+  maybe-reads read a al pc true g (some v) d k p u q r f s t hp hu hq = rw (t, append-nil) (maybe-fixed read a al d k p u q hp hq (pc v) (held-fits (pc v) (opened Depth.maybe d) f) s (g v) hu)
   maybe-reads read a al pc false g (some v) d k p u q r f s t hp hu hq =
-      rw (t, append-nil) (maybe-other read a al d k p u q hp hq (pc v) f (omega (arith, simp length-append at s)) (g v) (omega (arith, simp length-append at hu)))
+      rw (t, append-nil) (maybe-other read a al d k p u q hp hq (pc v) (held-fits (pc v) (opened Depth.maybe d) f) (omega (arith, simp length-append at s)) (g v) (omega (arith, simp length-append at hu)))
 
   -- ---- arrays
 
   -- a child that fills its part from i to its end, in a container whose body begins at n of the part l
-  pub child-reads : (read : Reader) (d : Depths) (k n : ℕ) (l : List ℕ) (c : Piece) (j i : ℕ) (x y : List ℕ) → Reads read c → (position + (k + n)) % c .alignment ≡ 0 → T (c .fits d)
+  pub child-reads : (read : Reader) (d : Depths) (k n : ℕ) (l : List ℕ) (c : Piece) (j i : ℕ) (x y : List ℕ) → Reads read c → (position + (k + n)) % c .alignment ≡ 0 → T (fits c d)
       → length (c .bytes) ≤ 65536 → l ≡ x ++ (placed j c ++ y) → length x ≡ i → i ≡ n + j
       → child (read d) k l i (n + stop j c) ≡ done (length (placed j c)) (c .events (k + n + (j + padding j (c .alignment))))
   child-reads read d k n l c j i x y g z f s hl hx hi =
@@ -185,7 +186,7 @@ module _ (position : ℕ) where
       rw hl (child-between (read d) k x (placed j c) y i (n + stop j c) hx (omega arith)) ∙ (rw append-nil at h)
 
   -- a child of fixed size, in a part that goes on behind it
-  pub child-before : (read : Reader) (d : Depths) (k n : ℕ) (l : List ℕ) (c : Piece) (j i e : ℕ) (x y y′ : List ℕ) → Reads read c → c .fixed ≡ true → (position + (k + n)) % c .alignment ≡ 0 → T (c .fits d)
+  pub child-before : (read : Reader) (d : Depths) (k n : ℕ) (l : List ℕ) (c : Piece) (j i e : ℕ) (x y y′ : List ℕ) → Reads read c → c .fixed ≡ true → (position + (k + n)) % c .alignment ≡ 0 → T (fits c d)
       → length (c .bytes) ≤ 65536 → l ≡ x ++ ((zeros (padding j (c .alignment)) ++ (c .bytes ++ y)) ++ y′) → length x ≡ i → i ≡ n + j
       → i + length (zeros (padding j (c .alignment)) ++ (c .bytes ++ y)) ≡ e
       → child (read d) k l i e ≡ done (length (placed j c)) (c .events (k + n + (j + padding j (c .alignment))))
@@ -287,7 +288,7 @@ module _ (position : ℕ) where
       let l : List ℕ = zeros p ++ layout 0 cs in
       let here : (position + (k + p)) % a ≡ 0 = behind-aligned position al k p hp in
       rw (t, append-nil)
-      (readArray-done kind a true step (allFit cs) d k p u (length (layout 0 cs)) (layout 0 cs) _ f hp (λ f′.
+      (readArray-done kind a true step (allFit cs) d k p u (length (layout 0 cs)) (layout 0 cs) _ (children-fit cs (opened Depth.array d) f) hp (λ f′.
       array-fixed kind step cs (opened Depth.array d) k p q hq l refl
       (g (opened Depth.array d) k p (length l) l here (simp (length-append, length-replicate)) f′) s) hu)
   array-reads kind a al false step cs g d k p u q r f s t hp hu hq =
@@ -297,7 +298,7 @@ module _ (position : ℕ) where
       let n : length y ≡ b + length cs * w = simp (length-append, length-table, length-ends) in
       let here : (position + (k + p)) % a ≡ 0 = behind-aligned position al k p hp in
       rw (t, append-nil, n)
-      (readArray-done kind a false step (allFit cs) d k p u (b + length cs * w) y _ f hp (λ f′.
+      (readArray-done kind a false step (allFit cs) d k p u (b + length cs * w) y _ (children-fit cs (opened Depth.array d) f) hp (λ f′.
       array-other kind step cs (opened Depth.array d) k p q hq (zeros p ++ y) w refl
       (g (opened Depth.array d) k p (p + b) (zeros p ++ y) here refl f′) (writtenWidth-chosen b (length cs) (omega arith)) (omega arith)) (omega arith))
 
@@ -310,13 +311,13 @@ module _ (position : ℕ) where
       cons (
         g .solid tt,
         λ j i e x y s hl hx hi he.
-            child-before position read d k n l c j i e x y [] (g .reads) (g .fixed-is) (rw (g .alignment-is) z) (both-left (c .fits d) (allFit ds d) f) s (hl ∙ rw append-nil) hx hi
+            child-before position read d k n l c j i e x y [] (g .reads) (g .fixed-is) (rw (g .alignment-is) z) (both-left (fits c d) (allFit ds d) f) s (hl ∙ rw append-nil) hx hi
             (sym (ap length hl ∙ rw (length-append x, hx)) ∙ he),
       )
-      (child-steps read a true ds d k n b l z gs (both-right (c .fits d) (allFit ds d) f))
+      (child-steps read a true ds d k n b l z gs (both-right (fits c d) (allFit ds d) f))
   child-steps read a false cs d k n b l z (cons {c = c} {cs = ds} g gs) f =
-      cons (λ j i x y s hb hl hx hi. child-reads position read d k n l c j i x y (g .reads) (rw (g .alignment-is) z) (both-left (c .fits d) (allFit ds d) f) s hl hx hi)
-      (child-steps read a false ds d k n b l z gs (both-right (c .fits d) (allFit ds d) f))
+      cons (λ j i x y s hb hl hx hi. child-reads position read d k n l c j i x y (g .reads) (rw (g .alignment-is) z) (both-left (fits c d) (allFit ds d) f) s hl hx hi)
+      (child-steps read a false ds d k n b l z gs (both-right (fits c d) (allFit ds d) f))
 
   pub elements-read : (kind : ℕ) (read : Reader) (a : ℕ) (al : Aligns a) (fx : Bool) (cs : List Piece) → All (Good position read a fx) cs
       → Reads position (readArray position kind a fx (childStep read)) (arrayPiece kind a fx cs)

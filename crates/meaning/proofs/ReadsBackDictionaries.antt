@@ -15,13 +15,14 @@ use Rattle.meaning.specs.Padding.{padding, zeros, Aligns}
 use Rattle.meaning.specs.Offsets.{encodedWidth, writtenWidth, lastOffset, backTable}
 use Rattle.meaning.specs.Depths.{Depths}
 use Rattle.meaning.specs.Events.{Event}
-use Rattle.meaning.specs.Written.{Piece, stop, layout, eventsFrom, fieldEnds, allFit, structureBytes, entryPiece, arrayPiece}
+use Rattle.meaning.specs.Written.{Piece, fits, stop, layout, eventsFrom, fieldEnds, structureBytes, entryPiece, arrayPiece}
 use Rattle.meaning.specs.Outcome.{Outcome, done, chain, passing}
 use Rattle.meaning.specs.Reading.{Reader, child, further, pad, endPadding, valueFrom, fixedKey, valueBefore, keyTo, textKey, entryFrom, readEntry, entryStep, readArray}
 use Rattle.meaning.proofs.Tests.{both-left, both-right}
 use Rattle.meaning.proofs.NumberLaws.{length-bytes, value-bytes}
 use Rattle.meaning.proofs.PaddingLaws.{padding-shift, padding-aligned, Divides}
 use Rattle.meaning.proofs.OffsetLaws.{Fits, encodedWidth-fits, fits-below, Chosen, writtenWidth-chosen}
+use Rattle.meaning.proofs.FitLaws.{allFit, all-fit}
 use Rattle.meaning.proofs.OutcomeLaws.{chain-done, behind-padding}
 use Rattle.meaning.proofs.LayoutLaws.{All, nil, cons, layout-cons, layout-one, events-cons, events-one, fieldEnds-one, fieldEnds-fixed, fieldEnds-other, placed, length-placed, stop-placed, length-layout, lastOffset-at}
 use Rattle.meaning.proofs.ReadsBack.{Reads, Good, child-reads, child-before, Steps, array-reads}
@@ -59,13 +60,13 @@ module _ (position a : ℕ) (fx : Bool) (key value : Reader) (d : Depths) (k : �
   -- behind its padding, from the place n
   module _ (n : ℕ) (z : (position + (k + n)) % a ≡ 0) (ck cv : Piece) (gk : Reads position key ck) (gv : Reads position value cv) (dk : Divides (ck .alignment) a) (dv : Divides (cv .alignment) a)
       (f : T (allFit (pair ck cv) d)) (s : length (layout 0 (pair ck cv)) ≤ 65536) where
-    key-fits : T (ck .fits d)
+    key-fits : T (fits ck d)
     unfolding allFit
-    key-fits = both-left (ck .fits d) (cv .fits d && true) f
+    key-fits = both-left (fits ck d) (fits cv d && true) f
 
-    value-fits : T (cv .fits d)
+    value-fits : T (fits cv d)
     unfolding allFit
-    value-fits = both-left (cv .fits d) true (both-right (ck .fits d) (cv .fits d && true) f)
+    value-fits = both-left (fits cv d) true (both-right (fits ck d) (fits cv d && true) f)
 
     -- the events of the two
     joined : (es : List Event) → es ≡ cv .events (k + n + (stop 0 ck + padding (stop 0 ck) (cv .alignment)))
@@ -258,8 +259,8 @@ module _ {A : Type 0} (position a ak av : ℕ) (al : Aligns a) (fk fv : Bool) (k
     entry-steps : (xs : List A) → T (allFit (map entry xs) d) → All (Steps (fk && fv) (entryStep position a fk (fk && fv) key value d k l b) k n b l) (map entry xs)
     unfolding allFit entryPiece
     entry-steps [] f = nil
-    entry-steps (x ∷ xs) f = cons (entry-step fk fv x (gk x) (gv x) (both-left (allFit (pair (pk x) (pv x)) d) (allFit (map entry xs) d) f))
-        (entry-steps xs (both-right (allFit (pair (pk x) (pv x)) d) (allFit (map entry xs) d) f))
+    entry-steps (x ∷ xs) f = cons (entry-step fk fv x (gk x) (gv x) (all-fit (pair (pk x) (pv x)) d (both-left (fits (entry x) d) (allFit (map entry xs) d) f)))
+        (entry-steps xs (both-right (fits (entry x) d) (allFit (map entry xs) d) f))
 
   pub dictionary-reads : (xs : List A) → Reads position (readArray position 123 a (fk && fv) (entryStep position a fk (fk && fv) key value)) (arrayPiece 123 a (fk && fv) (map entry xs))
   dictionary-reads xs = array-reads position 123 a al (fk && fv) (entryStep position a fk (fk && fv) key value) (map entry xs) (λ d k n b l z h f. entry-steps d k n b l z xs f)

@@ -16,13 +16,14 @@ use Rattle.meaning.specs.Offsets.{encodedWidth, writtenWidth, backTable}
 use Rattle.meaning.specs.Depths as Depth
 use Rattle.meaning.specs.Depths.{Depths, depthRefusal, opened}
 use Rattle.meaning.specs.Events.{Event}
-use Rattle.meaning.specs.Written.{Piece, stop, layout, eventsFrom, fieldEnds, allFit, deeper, enclosing, structureBytes, structurePiece}
+use Rattle.meaning.specs.Written.{Piece, fits, stop, layout, eventsFrom, fieldEnds, deeper, enclosing, structureBytes, structurePiece}
 use Rattle.meaning.specs.Outcome.{Outcome, done, chain, passing, enclosed}
 use Rattle.meaning.specs.Reading.{Reader, child, further, Field, offsetStands, fieldOffset, padded, pad, endPadding, fieldsIn, structureBody, structureIn, readStructure}
 use Rattle.meaning.proofs.Tests.{both-left, both-right}
 use Rattle.meaning.proofs.NumberLaws.{length-bytes, value-bytes}
 use Rattle.meaning.proofs.PaddingLaws.{padding-shift, padding-aligned, Divides}
 use Rattle.meaning.proofs.OffsetLaws.{Fits, encodedWidth-fits, encodedWidth-positive, fits-below, Chosen, writtenWidth-chosen}
+use Rattle.meaning.proofs.FitLaws.{allFit, children-fit}
 use Rattle.meaning.proofs.OutcomeLaws.{chain-done, enclosed-done, within-done, pad-done, behind-padding}
 use Rattle.meaning.proofs.LayoutLaws.{All, nil, cons, layout-cons, layout-one, events-cons, events-one, fieldEnds-one, fieldEnds-fixed, fieldEnds-other, backTable-cons, backTable-one, layout-split, layout-shift, placed, length-placed, stop-placed, length-layout, length-backTable}
 use Rattle.meaning.proofs.ReadsBack.{behind-aligned, Reads, child-reads, child-before}
@@ -57,7 +58,7 @@ module _ (position : ℕ) where
   -- in a structure that begins at n of the part l, which stands at k
   module _ (a : ℕ) (d : Depths) (k n : ℕ) (l : List ℕ) (z : (position + (k + n)) % a ≡ 0) where
     -- a last child of fixed size, and the padding at the end
-    pub last-padded : (read : Reader) (c : Piece) (j i e p : ℕ) (x r : List ℕ) → Reads position read c → c .fixed ≡ true → Divides (c .alignment) a → T (c .fits d) → length (c .bytes) ≤ 65536
+    pub last-padded : (read : Reader) (c : Piece) (j i e p : ℕ) (x r : List ℕ) → Reads position read c → c .fixed ≡ true → Divides (c .alignment) a → T (fits c d) → length (c .bytes) ≤ 65536
         → l ≡ x ++ (placed j c ++ (zeros p ++ r)) → length x ≡ i → i ≡ n + j → length l ≡ e → p ≡ padding (j + length (placed j c)) a
         → endPadding position true a k l i (child (read d) k l i e) ≡ done (length (placed j c) + p) (c .events (k + n + (j + padding j (c .alignment))))
     unfolding endPadding padded
@@ -75,7 +76,7 @@ module _ (position : ℕ) where
     module _ (w : ℕ) (hw : 0 < w) where
       -- one field that is fixed and not last; what lies behind the fields is r, up to e
       fixed-step : (fx : Bool) (f g : Field) (fs : List Field) (c : Piece) (cs : List Piece) (j i e u u′ : ℕ) (x y r : List ℕ) → Reads position (f .reader) c → f .fixed ≡ true → c .fixed ≡ true
-          → Divides (c .alignment) a → T (c .fits d) → length (layout j (c ∷ cs)) ≤ 65536
+          → Divides (c .alignment) a → T (fits c d) → length (layout j (c ∷ cs)) ≤ 65536
           → l ≡ x ++ (layout j (c ∷ cs) ++ (r ++ y)) → length x ≡ i → i ≡ n + j → i + length (layout j (c ∷ cs)) + length r ≡ e
           → fieldsIn position fx a k l n w d (g ∷ fs) e (i + length (placed j c)) ≡ done u′ (eventsFrom (k + n) (stop j c) cs)
           → u ≡ length (placed j c) + u′
@@ -94,7 +95,7 @@ module _ (position : ℕ) where
           ih hu (events-cons (k + n) j c cs)
 
       -- one field that is neither fixed nor last, whose offset stands behind r
-      other-step : (f g : Field) (fs : List Field) (c : Piece) (cs : List Piece) (j i e u u′ : ℕ) (x y r : List ℕ) → Reads position (f .reader) c → f .fixed ≡ false → Divides (c .alignment) a → T (c .fits d)
+      other-step : (f g : Field) (fs : List Field) (c : Piece) (cs : List Piece) (j i e u u′ : ℕ) (x y r : List ℕ) → Reads position (f .reader) c → f .fixed ≡ false → Divides (c .alignment) a → T (fits c d)
           → length (layout j (c ∷ cs)) ≤ 65536 → j + length (layout j (c ∷ cs)) < 256 ^ w
           → l ≡ x ++ (layout j (c ∷ cs) ++ ((r ++ bytes w (stop j c)) ++ y)) → length x ≡ i → i ≡ n + j → i + length (layout j (c ∷ cs)) + length r + w ≡ e
           → fieldsIn position false a k l n w d (g ∷ fs) (e - w) (i + length (placed j c)) ≡ done u′ (eventsFrom (k + n) (stop j c) cs)
@@ -117,7 +118,7 @@ module _ (position : ℕ) where
           ih hu (events-cons (k + n) j c cs))
 
       -- the last field of a structure that is not fixed in size: the table is passed
-      last-step : (f : Field) (c : Piece) (j i e m : ℕ) (x y : List ℕ) → Reads position (f .reader) c → Divides (c .alignment) a → T (c .fits d) → length (c .bytes) ≤ 65536
+      last-step : (f : Field) (c : Piece) (j i e m : ℕ) (x y : List ℕ) → Reads position (f .reader) c → Divides (c .alignment) a → T (fits c d) → length (c .bytes) ≤ 65536
           → l ≡ x ++ (placed j c ++ y) → length x ≡ i → i ≡ n + j → i + length (placed j c) ≡ e → length l ≡ e + m
           → fieldsIn position false a k l n w d (f ∷ []) e i ≡ done (length (placed j c) + m) (eventsFrom (k + n) j (c ∷ []))
       unfolding fieldsIn endPadding
@@ -142,22 +143,22 @@ module _ (position : ℕ) where
           rw (y, events-one (k + n) j c)
           (chain-done (endPadding position true a k l i (child (f .reader d) k l i e)) (passing (length l - e)) (length (placed j c) + p) 0 (length (placed j c) + p)
           (c .events (k + n + (j + padding j (c .alignment)))) [] (c .events (k + n + (j + padding j (c .alignment))))
-          (last-padded (f .reader) c j i e p x r g q v (both-left (c .fits d) true t) (omega (arith, ap length y, length-placed j c)) (rw y at hl) hx hi he (rw y at hp))
+          (last-padded (f .reader) c j i e p x r g q v (both-left (fits c d) true t) (omega (arith, ap length y, length-placed j c)) (rw y at hl) hx hi he (rw y at hp))
           (rw m0) (omega arith) (rw append-nil))
       fixed-read j i e p x r o (more {f = f} {c = c} g h v (more {f = f′} {c = c′} {fs = gs} {cs = ds} g′ h′ v′ rs)) (cons q qs) t s hl hx hi he hp =
           let v1 = stop-placed j c in
           let v2 = length-layout j c (c′ ∷ ds) in
           let h1 : l ≡ x ++ (layout j (c ∷ c′ ∷ ds) ++ ((zeros p ++ r) ++ [])) = hl ∙ simp append-nil in
           fixed-step true f f′ gs c (c′ ∷ ds) j i e (length (layout j (c ∷ c′ ∷ ds)) + p) (length (layout (stop j c) (c′ ∷ ds)) + p) x [] (zeros p ++ r) g (h ∙ q) q v
-          (both-left (c .fits d) (allFit (c′ ∷ ds) d) t) s h1 hx hi
+          (both-left (fits c d) (allFit (c′ ∷ ds) d) t) s h1 hx hi
           (simp (length-append, length-replicate) (omega (arith, simp (length-append, length-replicate) at (ap length hl))))
-          (fixed-read (stop j c) (i + length (placed j c)) e p (x ++ placed j c) r (omega arith) (more g′ h′ v′ rs) qs (both-right (c .fits d) (allFit (c′ ∷ ds) d) t) (omega arith)
+          (fixed-read (stop j c) (i + length (placed j c)) e p (x ++ placed j c) r (omega arith) (more g′ h′ v′ rs) qs (both-right (fits c d) (allFit (c′ ∷ ds) d) t) (omega arith)
           (layout-shift x (zeros p ++ r) l j c (c′ ∷ ds) hl) (simp length-append (omega arith)) (omega arith) he (rw (← length-layout j c (c′ ∷ ds)) hp))
           (omega arith)
 
       -- one field that is not last, of a structure that is not fixed in size
       next-step : (b : Bool) (f g : Field) (fs : List Field) (c c′ : Piece) (ds : List Piece) (j i e m : ℕ) (x y : List ℕ) → c .fixed ≡ b → Reads position (f .reader) c → f .fixed ≡ c .fixed
-          → Divides (c .alignment) a → T (c .fits d) → length (layout j (c ∷ c′ ∷ ds)) ≤ 65536 → j + length (layout j (c ∷ c′ ∷ ds)) < 256 ^ w
+          → Divides (c .alignment) a → T (fits c d) → length (layout j (c ∷ c′ ∷ ds)) ≤ 65536 → j + length (layout j (c ∷ c′ ∷ ds)) < 256 ^ w
           → l ≡ x ++ (layout j (c ∷ c′ ∷ ds) ++ (backTable w (fieldEnds j (c ∷ c′ ∷ ds)) ++ y)) → length x ≡ i → i ≡ n + j
           → i + length (layout j (c ∷ c′ ∷ ds)) + length (fieldEnds j (c ∷ c′ ∷ ds)) * w ≡ e
           → ((e : ℕ) (y : List ℕ) → l ≡ (x ++ placed j c) ++ (layout (stop j c) (c′ ∷ ds) ++ (backTable w (fieldEnds (stop j c) (c′ ∷ ds)) ++ y))
@@ -193,12 +194,12 @@ module _ (position : ℕ) where
           let y1 = layout-one j c in
           let h1 : l ≡ x ++ (placed j c ++ y) = rw (backTable-one w j c, y1) at hl in
           let e1 : i + length (placed j c) ≡ e = omega (arith, rw (fieldEnds-one j c) at he, ap length y1) in
-          rw y1 (last-step f c j i e m x y g v (both-left (c .fits d) true t) (omega (arith, ap length y1, length-placed j c)) h1 hx hi e1 (omega (arith, ap length y1)))
+          rw y1 (last-step f c j i e m x y g v (both-left (fits c d) true t) (omega (arith, ap length y1, length-placed j c)) h1 hx hi e1 (omega (arith, ap length y1)))
       fields-read j i e m x y o (more {f = f} {c = c} g h v (more {f = f′} {c = c′} {fs = gs} {cs = ds} g′ h′ v′ r)) t s b hl hx hi he hm =
           let v1 = stop-placed j c in
           let v2 = length-layout j c (c′ ∷ ds) in
-          next-step (c .fixed) f f′ gs c c′ ds j i e m x y refl g h v (both-left (c .fits d) (allFit (c′ ∷ ds) d) t) s b hl hx hi he
-          (λ e′ y′ hl′ he′. fields-read (stop j c) (i + length (placed j c)) e′ m (x ++ placed j c) y′ (omega arith) (more g′ h′ v′ r) (both-right (c .fits d) (allFit (c′ ∷ ds) d) t)
+          next-step (c .fixed) f f′ gs c c′ ds j i e m x y refl g h v (both-left (fits c d) (allFit (c′ ∷ ds) d) t) s b hl hx hi he
+          (λ e′ y′ hl′ he′. fields-read (stop j c) (i + length (placed j c)) e′ m (x ++ placed j c) y′ (omega arith) (more g′ h′ v′ r) (both-right (fits c d) (allFit (c′ ∷ ds) d) t)
           (omega arith) (omega arith) hl′ (simp length-append (omega arith)) (omega arith) he′ (omega arith))
 
   -- a structure at a place k behind padding p
@@ -243,7 +244,7 @@ module _ (position : ℕ) where
       let e : ℕ = padding b a in
       let n : length (layout 0 cs ++ zeros e) ≡ b + e = simp (length-append, length-replicate) in
       let here : (position + (k + p)) % a ≡ 0 = behind-aligned position al k p hp in
-      rw (append-assoc, n) (readStructure-done a true fs (allFit cs) d k p u (b + e) (layout 0 cs ++ (zeros e ++ r)) _ f hp (λ f′.
+      rw (append-assoc, n) (readStructure-done a true fs (allFit cs) d k p u (b + e) (layout 0 cs ++ (zeros e ++ r)) _ (children-fit cs (opened Depth.structure d) f) hp (λ f′.
       structure-fixed a fs cs g o (opened Depth.structure d) k p q f′ here hq e r (x tt) (omega arith) refl) (omega arith))
   structure-reads a al false fs cs g o x d k p u q r f s t hp hu hq =
       let b : ℕ = length (layout 0 cs) in
@@ -251,5 +252,5 @@ module _ (position : ℕ) where
       let y : List ℕ = backTable w (fieldEnds 0 cs) in
       let n : length (layout 0 cs ++ y) ≡ b + length (fieldEnds 0 cs) * w = simp (length-append, length-backTable) in
       let here : (position + (k + p)) % a ≡ 0 = behind-aligned position al k p hp in
-      rw (t, append-nil, n) (readStructure-done a false fs (allFit cs) d k p u (b + length (fieldEnds 0 cs) * w) (layout 0 cs ++ y) _ f hp (λ f′.
+      rw (t, append-nil, n) (readStructure-done a false fs (allFit cs) d k p u (b + length (fieldEnds 0 cs) * w) (layout 0 cs ++ y) _ (children-fit cs (opened Depth.structure d) f) hp (λ f′.
       structure-other a fs cs g o (opened Depth.structure d) k p q f′ here hq w (writtenWidth-chosen b (length (fieldEnds 0 cs)) (omega arith)) (omega arith)) (omega arith))

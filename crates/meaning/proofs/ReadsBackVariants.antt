@@ -18,11 +18,12 @@ use Rattle.meaning.specs.Depths.{Depths, depthRefusal, opened}
 use Rattle.meaning.specs.Types.{Tree}
 use Rattle.meaning.specs.TypeText.{typeText, typeOf}
 use Rattle.meaning.specs.Events.{Event, textEvent}
-use Rattle.meaning.specs.Written.{Piece, deeper, enclosing, variantPiece}
+use Rattle.meaning.specs.Written.{Piece, fits, deeper, enclosing, variantPiece}
 use Rattle.meaning.specs.Outcome.{Outcome, done, chain, enclosed}
 use Rattle.meaning.specs.Reading.{Reader, child, textAs, lastNul, separator, remaining, variantValue, variantType, variantTyped, variantBody, variantIn, readVariant}
-use Rattle.meaning.proofs.Tests.{both-left, both-right}
+use Rattle.meaning.proofs.Tests.{both, both-left, both-right}
 use Rattle.meaning.proofs.PaddingLaws.{by8, divides-eight}
+use Rattle.meaning.proofs.FitLaws.{held-fits}
 use Rattle.meaning.proofs.OutcomeLaws.{chain-done, enclosed-done, within-done, behind-padding, child-between}
 use Rattle.meaning.proofs.TypeTextLaws.{plain, plain-at, plain-typeText, typeText-positive, typeText-noNul, typeText-utf8, typeText-withoutFinalNul, typeOf-typeText}
 use Rattle.meaning.proofs.ReadsBack.{behind-aligned, Reads, Good, reads-here}
@@ -58,7 +59,7 @@ text-plain t = rw (typeText-noNul t, typeText-utf8 t)
 
 -- a variant at k, behind the padding p: its value, of which read makes a piece, and its type's text
 module _ (position : ℕ) (read : Tree → Reader) (t : Tree) {a : ℕ} {fx : Bool} (c : Piece) (al : Aligns a) (g : Good position (read t) a fx c) where
-  module _ (d : Depths) (k p : ℕ) (f₁ : length (typeText t) ≤ 255) (f₂ : T (deeper (opened Depth.variant d) (c .fits))) (s : length (c .bytes) ≤ 65536) (hp : p ≡ padding (position + k) 8) where
+  module _ (d : Depths) (k p : ℕ) (f₁ : length (typeText t) ≤ 255) (f₂ : T (deeper (opened Depth.variant d) (fits c))) (s : length (c .bytes) ≤ 65536) (hp : p ≡ padding (position + k) 8) where
     abbrev whole : List ℕ
     whole = c .bytes ++ (0 ∷ typeText t)
 
@@ -80,9 +81,9 @@ module _ (position : ℕ) (read : Tree → Reader) (t : Tree) {a : ℕ} {fx : Bo
         let n : length part - p - length b ≡ length whole - length b = simp (length-append, length-replicate) (omega arith) in
         let r : child (read t d′) k part p (p + (sep - 1)) ≡ done (length b) (c .events (k + p)) =
         child-between (read t d′) k (zeros p) b (0 ∷ typeText t) p (p + (sep - 1)) (length-replicate p 0) e
-        ∙ reads-here position al g d′ (k + p) (both-right (eqb (depthRefusal d′) 0) (c .fits d′) f₂) s here in
+        ∙ reads-here position al g d′ (k + p) (both-right (eqb (depthRefusal d′) 0) (fits c d′) f₂) s here in
         rw (dr, typeOf-typeText t f₁)
-        (within-done d′ (k + p) (variantValue read d k part p sep t) (both-left (eqb (depthRefusal d′) 0) (c .fits d′) f₂)
+        (within-done d′ (k + p) (variantValue read d k part p sep t) (both-left (eqb (depthRefusal d′) 0) (fits c d′) f₂)
         (chain-done (child (read t d′) k part p (p + (sep - 1))) (remaining (length part - p)) (length b) (length whole - length b) (length whole) (c .events (k + p)) [] (c .events (k + p)) r
         (rw n) (omega (arith, length-append b (0 ∷ typeText t))) (rw append-nil)))
 
@@ -103,8 +104,11 @@ module _ (position : ℕ) (read : Tree → Reader) (t : Tree) {a : ℕ} {fx : Bo
   unfolding variantPiece readVariant
   variant-reads d k p u q r f s tl hp hu hq =
       let b : ℕ = length (c .bytes ++ (0 ∷ typeText t)) in
-      let f₁ = leb→le (length (typeText t)) 255 (both-left (leb (length (typeText t)) 255) (deeper (opened Depth.variant d) (c .fits)) f) in
-      let f₂ = both-right (leb (length (typeText t)) 255) (deeper (opened Depth.variant d) (c .fits)) f in
+      let short = leb (length (typeText t)) 255 in
+      let below = deeper (opened Depth.variant d) (c .shallow) in
+      let v = both-left (short && c .valid) below f in
+      let f₁ = leb→le (length (typeText t)) 255 (both-left short (c .valid) v) in
+      let f₂ = held-fits c (opened Depth.variant d) (both (c .valid) below (both-right short (c .valid) v) (both-right (short && c .valid) below f)) in
       let s′ : length (c .bytes) ≤ 65536 = omega (arith, length-append (c .bytes) (0 ∷ typeText t)) in
       rw (tl, append-nil, hq) (behind-padding position 8 k p u b (c .bytes ++ (0 ∷ typeText t)) (variantIn read d k (zeros p ++ (c .bytes ++ (0 ∷ typeText t)))) _ hp (variant-read d k p f₁ f₂ s′ hp) hu)
 

@@ -14,7 +14,7 @@ use Rattle.meaning.specs.Depths.{Depths, noneOpen}
 use Rattle.meaning.specs.Types.{Number, Basic, bool, number, text, Tree, Fields, basic, variant, maybe, array, dictionary, structure, last, next, numberWidth, basicAlignment, basicFixed, alignment, largestAlignment, fixed, allFixed}
 use Rattle.meaning.specs.TypeText.{typeText}
 use Rattle.meaning.specs.Values.{BasicValue, ValueOver, FieldsOver, Value}
-use Rattle.meaning.specs.Written.{Piece, layout, basicPiece, maybePiece, arrayPiece, structureBytes, structurePiece, entryPiece, variantPiece, pieceOver, piecesOver, piece, written}
+use Rattle.meaning.specs.Written.{Piece, fits, layout, basicPiece, maybePiece, arrayPiece, structureBytes, structurePiece, entryPiece, variantPiece, pieceOver, piecesOver, piece, written}
 use Rattle.meaning.specs.Outcome.{Outcome, done, refused}
 use Rattle.meaning.specs.Reading.{Reader, Field, readBasic, readMaybe, readArray, childStep, entryStep, readStructure, readVariant, readTree, readers, reading}
 use Rattle.meaning.specs.Limits.{largestFrame, mostVariants}
@@ -143,7 +143,7 @@ module _ (position : ℕ) (big : Bool) where
       (λ x. variant-good position (λ u. reading position big n u) (x .0) (piece big n (x .0) (x .1)) (aligned (x .0)) (all-good n (x .0) (x .1))) t v
 
 -- by the type, from any depth
-pub round-trip : (position : ℕ) (big : Bool) (n : ℕ) (t : Tree) (v : Value n t) (d : Depths) → position % 8 ≡ 0 → T (piece big n t v .fits d) → length (written big n t v) ≤ largestFrame
+pub round-trip : (position : ℕ) (big : Bool) (n : ℕ) (t : Tree) (v : Value n t) (d : Depths) → position % 8 ≡ 0 → T (fits (piece big n t v) d) → length (written big n t v) ≤ largestFrame
     → reading position big n t d 0 (written big n t v) ≡ done (length (written big n t v)) (piece big n t v .events 0)
 unfolding written
 round-trip position big n t v d h f s =
@@ -152,7 +152,7 @@ round-trip position big n t v d h f s =
 
 -- by the type's text, from the start, as the public calls read
 pub round-trip-frame : (position : ℕ) (big : Bool) (t : Tree) (v : Value mostVariants t) → position % 8 ≡ 0 → position ≤ largestFrame → length (typeText t) ≤ 255
-    → T (piece big mostVariants t v .fits noneOpen) → length (written big mostVariants t v) ≤ largestFrame
+    → T (fits (piece big mostVariants t v) noneOpen) → length (written big mostVariants t v) ≤ largestFrame
     → frameReading (typeText t) big position (written big mostVariants t v) ≡ done (length (written big mostVariants t v)) (piece big mostVariants t v .events 0)
 unfolding frameReading frameOf
 round-trip-frame position big t v z p h f s =

@@ -20,14 +20,20 @@ use Rattle.meaning.specs.TypeText.{typeText}
 use Rattle.meaning.specs.Values.{BasicValue, ValueOver, FieldsOver, Value}
 use Rattle.meaning.specs.Events.{Event, event, textEvent, opening, closing, present, nothing}
 
--- A written value: its alignment, whether its type is fixed in size, its bytes, the events that it reads as from a place on, and
--- whether it is a value that may be read where so many containers are open.
+-- A written value: its alignment, whether its type is fixed in size, its bytes, and the events that it reads as from a place on;
+-- whether it is a value (its numbers fit their widths, its texts are UTF-8 without a nul, its variants' types have at most 255
+-- characters), and whether its depth may be read where so many containers are open.
 pub record Piece : Type 0 where
   pub alignment : ℕ
   pub fixed : Bool
   pub bytes : List ℕ
   pub events : ℕ → List Event
-  pub fits : Depths → Bool
+  pub valid : Bool
+  pub shallow : Depths → Bool
+
+-- a value that may be written and read where so many containers are open
+abbrev pub fits : Piece → Depths → Bool
+fits c d = c .valid && c .shallow d
 
 -- where a child ends that is laid out from the place k
 unfoldable pub stop : ℕ → Piece → ℕ
@@ -56,13 +62,17 @@ fieldEnds k [] = []
 fieldEnds k (c ∷ []) = []
 fieldEnds k (c ∷ g ∷ cs) = unless (c .fixed) (stop k c) (fieldEnds (stop k c) (g ∷ cs))
 
-unfoldable pub allFit : List Piece → Depths → Bool
-allFit [] d = true
-allFit (c ∷ cs) d = c .fits d && allFit cs d
+unfoldable pub allValid : List Piece → Bool
+allValid [] = true
+allValid (c ∷ cs) = c .valid && allValid cs
 
--- one more container may be open, and what is in it fits
+unfoldable pub allShallow : List Piece → Depths → Bool
+allShallow [] d = true
+allShallow (c ∷ cs) d = c .shallow d && allShallow cs d
+
+-- one more container may be open, and so may what is in it
 abbrev pub deeper : Depths → (Depths → Bool) → Bool
-deeper d fits = eqb (depthRefusal d) 0 && fits d
+deeper d inside = eqb (depthRefusal d) 0 && inside d
 
 abbrev pub bit : Bool → ℕ
 bit true = 1
@@ -70,31 +80,48 @@ bit false = 0
 
 -- basic values: a bool is 0 or 1, a number stands in its width and byte order, a text is its bytes and one nul
 unfoldable pub basicPiece : Bool → (b : Basic) → BasicValue b → Piece
-basicPiece big bool v = record { alignment = 1; fixed = true; bytes = bit v ∷ []; events = λ k. event boolLetter k (bit v) ∷ []; fits = λ d. true }
+basicPiece big bool v = record {
+  alignment = 1;
+  fixed = true;
+  bytes = bit v ∷ [];
+  events = λ k. event boolLetter k (bit v) ∷ [];
+  valid = true;
+  shallow = λ d. true;
+}
 basicPiece big (number n) v = record {
   alignment = numberWidth n;
   fixed = true;
   bytes = ordered big (bytes (numberWidth n) v);
   events = λ k. event (numberLetter n) k v ∷ [];
-  fits = λ d. ltb v (256 ^ numberWidth n);
+  valid = ltb v (256 ^ numberWidth n);
+  shallow = λ d. true;
 }
 basicPiece big (text c) v = record {
   alignment = 1;
   fixed = false;
   bytes = v ++ (0 ∷ []);
   events = λ k. textEvent (textLetter c) k v ∷ [];
-  fits = λ d. eqb (textRefusal v) 0;
+  valid = eqb (textRefusal v) 0;
+  shallow = λ d. true;
 }
 
 -- a maybe: nothing is no byte; a child that is not fixed has a byte of 0 behind it
 unfoldable pub maybePiece : {A : Type 0} → ℕ → Bool → (A → Piece) → Option A → Piece
-maybePiece a fx child none = record { alignment = a; fixed = false; bytes = []; events = λ k. nothing k ∷ []; fits = λ d. true }
+maybePiece a fx child none = record {
+  alignment = a;
+  fixed = false;
+  bytes = [];
+  events = λ k. nothing k ∷ [];
+  valid = true;
+  shallow = λ d. true;
+}
 maybePiece a fx child (some v) = record {
   alignment = a;
   fixed = false;
   bytes = pick fx (child v .bytes) (child v .bytes ++ (0 ∷ []));
   events = λ k. present k ∷ child v .events k;
-  fits = λ d. deeper (opened Depth.maybe d) (child v .fits);
+  valid = child v .valid;
+  shallow = λ d. deeper (opened Depth.maybe d) (child v .shallow);
 }
 
 -- the events of a container of a kind that starts at k, holds es and takes n bytes
@@ -113,7 +140,8 @@ arrayPiece kind a fx cs = record {
   fixed = false;
   bytes = arrayBytes fx cs;
   events = λ k. enclosing kind k (length (arrayBytes fx cs)) (eventsFrom k 0 cs);
-  fits = λ d. deeper (opened Depth.array d) (allFit cs);
+  valid = allValid cs;
+  shallow = λ d. deeper (opened Depth.array d) (allShallow cs);
 }
 
 -- the fields of a structure: padding at the end of one that is fixed in size, else the offsets, the last in front
@@ -128,12 +156,20 @@ structurePiece a fx cs = record {
   fixed = fx;
   bytes = structureBytes a fx cs;
   events = λ k. enclosing structureLetter k (length (structureBytes a fx cs)) (eventsFrom k 0 cs);
-  fits = λ d. deeper (opened Depth.structure d) (allFit cs);
+  valid = allValid cs;
+  shallow = λ d. deeper (opened Depth.structure d) (allShallow cs);
 }
 
 -- a dictionary's entry: laid out as a structure, with no event and no depth of its own
 unfoldable pub entryPiece : ℕ → Bool → List Piece → Piece
-entryPiece a fx cs = record { alignment = a; fixed = fx; bytes = structureBytes a fx cs; events = λ k. eventsFrom k 0 cs; fits = allFit cs }
+entryPiece a fx cs = record {
+  alignment = a;
+  fixed = fx;
+  bytes = structureBytes a fx cs;
+  events = λ k. eventsFrom k 0 cs;
+  valid = allValid cs;
+  shallow = allShallow cs;
+}
 
 -- a variant: the value, a nul, and the text of its type
 unfoldable pub variantPiece : Tree → Piece → Piece
@@ -144,7 +180,8 @@ variantPiece t c = record {
   events = λ k.
       enclosing variantLetter k (length (c .bytes ++ (0 ∷ typeText t)))
       (textEvent signatureLetter (k + (length (c .bytes) + 1)) (typeText t) ∷ c .events k);
-  fits = λ d. leb (length (typeText t)) longestType && deeper (opened Depth.variant d) (c .fits);
+  valid = leb (length (typeText t)) longestType && c .valid;
+  shallow = λ d. deeper (opened Depth.variant d) (c .shallow);
 }
 
 module _ (big : Bool) {Held : Type 0} (held : Held → Piece) where

@@ -179,7 +179,11 @@ StepKept false step len c = (j e : ℕ) → j ≤ len → e ≤ len → Kept j e
 
 kept-elements : {c : ℕ} (n : ℕ) (step : ℕ → ℕ → Outcome) (len : ℕ) → StepKept true step len c → (j : ℕ) → j ≤ len → Kept j len len 0 c 0 0 (elements n step len j)
 unfolding elements
-kept-elements zero step len w j h = kept-done 0 [] (omega arith) (omega arith) (omega arith) (omega arith)
+kept-elements {c} zero step len w j h = go (leb len j)
+  where
+    go : (x : Bool) → Kept j len len 0 c 0 0 (pick x (done 0 []) (refused 3 0))
+    go true = kept-done 0 [] (omega arith) (omega arith) (omega arith) (omega arith)
+    go false = kept-refused 3 0 (λ z. omega arith) h
 kept-elements {c} (suc n) step len w j h = go (leb len j) (λ j h. kept-elements n step len w j h)
   where
     go : (x : Bool) → ((j : ℕ) → j ≤ len → Kept j len len 0 c 0 0 (elements n step len j)) → Kept j len len 0 c 0 0 (pick x (done 0 []) (chain (step j len) (further (elements n step len) j)))

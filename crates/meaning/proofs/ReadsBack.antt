@@ -225,7 +225,7 @@ module _ (step : ℕ → ℕ → Outcome) (k n b : ℕ) (l : List ℕ) where
   pub all-read : (cs : List Piece) (m j i e : ℕ) (x : List ℕ) → All (Steps true step k n b l) cs → length (layout j cs) ≤ 65536
       → l ≡ x ++ layout j cs → length x ≡ i → i ≡ n + j → length l ≡ e → length (layout j cs) ≤ m → elements m step e i ≡ done (length (layout j cs)) (eventsFrom (k + n) j cs)
   unfolding elements layout eventsFrom
-  all-read [] zero j i e x nil s hl hx hi he hm = refl
+  all-read [] zero j i e x nil s hl hx hi he hm = rw (le-leb e i (omega (arith, ap length hl ∙ length-append x [])))
   all-read [] (suc m) j i e x nil s hl hx hi he hm = rw (le-leb e i (omega (arith, ap length hl ∙ length-append x [])))
   all-read (c ∷ cs) zero j i e x (cons g gs) s hl hx hi he hm = absurd (omega (arith, g .0, stop-placed j c, length-placed j c, length-layout j c cs))
   all-read (c ∷ cs) (suc m) j i e x (cons g gs) s hl hx hi he hm =

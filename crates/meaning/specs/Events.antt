@@ -2,7 +2,9 @@
 use mathlib.Core.List.{List, [], _∷_, _++_}
 use Prim.Native.Nat.{ℕ}
 use lib.ListN.{length}
-use Rattle.meaning.specs.Letters.{containerEnd, maybeLetter, nothingLetter}
+use Rattle.meaning.specs.Letters.{isTextLetter, containerEnd, maybeLetter, nothingLetter}
+use Rattle.meaning.specs.Choice.{pick}
+use Rattle.meaning.specs.Parts.{partAt}
 
 -- A text's event also has the text itself here; the slice holds its length, and the text is part of the frame.
 pub record Event : Type 0 where
@@ -29,6 +31,10 @@ present p = event maybeLetter p 0
 
 abbrev pub nothing : ℕ → Event
 nothing p = event nothingLetter p 0
+
+-- what an event says of the text that it is of: the part of the frame that its place and payload name; nothing where it is of no text
+unfoldable pub textNamed : List ℕ → Event → List ℕ
+textNamed frame e = pick (isTextLetter (e .kind)) (partAt frame (e .place) (e .payload)) []
 
 -- the events as they stand in the slice
 unfoldable pub triples : List Event → List ℕ

@@ -1,5 +1,7 @@
 -- The letters of a type text by their codes, which are also the kinds of events. Assumes nothing: these are definitions.
+use mathlib.Core.Bool.{Bool, _||_}
 use Prim.Native.Nat.{ℕ}
+use lib.Dec.{eqb}
 use Rattle.meaning.specs.Types.{Number, byte, int16, uint16, int32, uint32, int64, uint64, double, Text, string, objectPath, signature, Basic, bool, number, text}
 
 -- b
@@ -26,6 +28,9 @@ abbrev pub textLetter : Text → ℕ
 textLetter string = 115
 textLetter objectPath = 111
 textLetter signature = signatureLetter
+
+abbrev pub isTextLetter : ℕ → Bool
+isTextLetter c = eqb c (textLetter string) || (eqb c (textLetter objectPath) || eqb c (textLetter signature))
 
 abbrev pub basicLetter : Basic → ℕ
 basicLetter bool = boolLetter

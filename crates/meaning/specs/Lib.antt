@@ -2,6 +2,7 @@ pub mod Choice
 pub mod Limits
 pub mod Refusals
 pub mod Numbers
+pub mod Parts
 pub mod Padding
 pub mod Offsets
 pub mod Texts
@@ -15,3 +16,4 @@ pub mod Written
 pub mod Outcome
 pub mod Reading
 pub mod Calls
+pub mod OneAnswer

@@ -1,4 +1,12 @@
 -- The reading rules of document 01. Assumes nothing: these are definitions.
+--
+-- The letters, here and wherever a reading is spoken of:
+--   d  the containers that are open                     k  the place in the frame where the part begins
+--   l  the part, as bytes                               n  the padding in front of a container, in bytes
+--   j  the place in the part where a child begins       e  the place in the part where it ends, or a table's end
+--   b  the place in the part where a body ends          u  the bytes used so far
+--   w  a width                                          a  an alignment
+--   fx whether something is fixed in size, fk a key     t  a type, or a table
 use mathlib.Core.List.{List, [], _∷_, _++_}
 use mathlib.Core.Option.{Option, none, some}
 use mathlib.Core.Bool.{Bool, true, false, _&&_, _||_}
@@ -75,9 +83,9 @@ abbrev pub further : (ℕ → Outcome) → ℕ → ℕ → Outcome
 further rest j u = rest (j + u)
 
 -- Elements one behind another; step j e reads one from the place j on, which ends at e or before. Fixed in size: until the end is
--- reached, and at most so many as there are bytes.
+-- reached. Each uses a byte, so as many steps as there are bytes are enough; to run out of them would be 3, and is never met.
 unfoldable pub elements : ℕ → (ℕ → ℕ → Outcome) → ℕ → ℕ → Outcome
-elements zero step e j = done 0 []
+elements zero step e j = pick (leb e j) (done 0 []) (refused outOfBounds 0)
 elements (suc n) step e j = pick (leb e j) (done 0 []) (chain (step j e) (further (elements n step e) j))
 
 -- not fixed: by the ends of a table, which count from n. The next element starts where reading stopped.

@@ -151,7 +151,7 @@ module _ (step : ℕ → ℕ → Outcome) (part : List ℕ) (lead n : ℕ) (l : 
 
   pub elements-none : (k j : ℕ) → length part ≤ j → elements k step (length part) j ≡ done 0 []
   unfolding elements
-  elements-none zero j h = refl
+  elements-none zero j h = rw (le-leb (length part) j h)
   elements-none (suc k) j h = rw (le-leb (length part) j h)
 
   pub elements-more : (k j : ℕ) → j < length part → length part - j ≤ k → elements k step (length part) j ≡ chain (step j (length part)) (further (elements (k - 1) step (length part)) j)

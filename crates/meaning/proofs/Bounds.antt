@@ -459,7 +459,7 @@ module _ (position : ℕ) where
 
 -- ---- variants
 
-lastNul-most : (i : ℕ) (l : List ℕ) → lastNul i l ≤ i
+pub lastNul-most : (i : ℕ) (l : List ℕ) → lastNul i l ≤ i
 unfolding lastNul
 lastNul-most zero l = omega arith
 lastNul-most (suc i) l = go (eqb (getD l i 1) 0) (lastNul-most i l)

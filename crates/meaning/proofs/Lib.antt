@@ -18,4 +18,5 @@ pub mod ReadsBackVariants
 pub mod RoundTrip
 pub mod Kept
 pub mod Bounds
+pub mod Faithful
 pub mod BoldFrames

@@ -19,4 +19,6 @@ pub mod RoundTrip
 pub mod Kept
 pub mod Bounds
 pub mod Faithful
+pub mod Enough
+pub mod FixedSizes
 pub mod BoldFrames

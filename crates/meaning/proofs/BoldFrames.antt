@@ -11,6 +11,7 @@ use Rattle.meaning.specs.Padding
 use Rattle.meaning.specs.Offsets
 use Rattle.meaning.specs.Texts
 use Rattle.meaning.specs.Depths
+use Rattle.meaning.specs.Depths.{noneOpen}
 use Rattle.meaning.specs.Types
 use Rattle.meaning.specs.Types.{byte, int16, uint16, uint32, int64, string, signature, bool, number, text, Tree, Fields, basic, variant, maybe, array, dictionary, structure, last, next}
 use Rattle.meaning.specs.TypeText
@@ -18,7 +19,7 @@ use Rattle.meaning.specs.TypeText.{typeText}
 use Rattle.meaning.specs.Events
 use Rattle.meaning.specs.Values.{Value}
 use Rattle.meaning.specs.Written
-use Rattle.meaning.specs.Written.{written}
+use Rattle.meaning.specs.Written.{fits, bit, piece, written}
 use Rattle.meaning.specs.Outcome
 use Rattle.meaning.specs.Reading
 use Rattle.meaning.specs.Calls
@@ -79,11 +80,30 @@ abbrev presents : ℕ → List ℕ → List ℕ
 presents zero es = es
 presents (suc k) es = 109 ∷ 0 ∷ 0 ∷ presents k es
 
+-- a value in so many maybes, arrays or structures
+abbrev inMaybes : (k : ℕ) → ℕ → Value 1 (nested maybe k byteType)
+inMaybes zero v = v
+inMaybes (suc k) v = some (inMaybes k v)
+
+abbrev inArrays : (k : ℕ) → ℕ → Value 1 (nested array k byteType)
+inArrays zero v = v
+inArrays (suc k) v = inArrays k v ∷ []
+
+abbrev alone : Tree → Tree
+alone t = structure (last t)
+
+abbrev inStructures : (k : ℕ) → ℕ → Value 1 (nested alone k byteType)
+inStructures zero v = v
+inStructures (suc k) v = inStructures k v
+
 -- A type, a position, a frame, and the answer: refusal, bytes used, number of events, place of the refusal; and the events.
--- Or a type, a value, and its bytes.
+-- Or a type, a value that fits, and its bytes. Both also with numbers big-endian. Or a type, a value, and whether it fits.
 pub data Row : Type 0 where
   reads : Tree → ℕ → List ℕ → List ℕ → List ℕ → Row
+  readsBig : Tree → List ℕ → List ℕ → List ℕ → Row
   writes : (t : Tree) → Value 1 t → List ℕ → Row
+  writesBig : (t : Tree) → Value 1 t → List ℕ → Row
+  judges : (t : Tree) → Value 1 t → Bool → Row
 
 abbrev pub table : List Row
 table =
@@ -154,6 +174,62 @@ table =
     reads (structure (next byteType (last int16Type))) 0 (0x01 ∷ 0x00 ∷ 0x05 ∷ []) (3 ∷ 0 ∷ 0 ∷ 2 ∷ []) [] ∷
     reads boolType 0 [] (3 ∷ 0 ∷ 0 ∷ 0 ∷ []) [] ∷
     reads boolType 0 (0x02 ∷ []) (0 ∷ 1 ∷ 1 ∷ 0 ∷ []) (98 ∷ 0 ∷ 1 ∷ []) ∷
+    -- the place of a refusal. An array's table that starts past the part, has a leftover piece, or an entry above its start: the array
+    reads (structure (next byteType (last strings))) 0 (0x07 ∷ 0x05 ∷ []) (3 ∷ 0 ∷ 0 ∷ 1 ∷ []) [] ∷
+    reads (structure (next byteType (last readings))) 0 (0x07 ∷ 0x00 ∷ 0x05 ∷ []) (3 ∷ 0 ∷ 0 ∷ 2 ∷ []) [] ∷
+    reads (structure (next byteType (last strings))) 0 (0x07 ∷ (replicate 254 0 ++ (0xff ∷ 0x00 ∷ []))) (3 ∷ 0 ∷ 0 ∷ 1 ∷ []) [] ∷
+    reads (structure (next byteType (last strings))) 0 (0x07 ∷ 0x00 ∷ 0x00 ∷ 0x03 ∷ 0x02 ∷ []) (3 ∷ 0 ∷ 0 ∷ 1 ∷ []) [] ∷
+    -- a structure's width above its end, its table's end before its start, its short piece: the structure
+    reads (structure (next byteType (last (structure (next stringType (last stringType)))))) 0 (0x07 ∷ []) (3 ∷ 0 ∷ 0 ∷ 1 ∷ []) [] ∷
+    reads (structure (next stringType (next stringType (last int64Type)))) 6 (0x00 ∷ 0x00 ∷ []) (3 ∷ 0 ∷ 0 ∷ 2 ∷ []) [] ∷
+    reads (structure (next byteType (last (structure (manyStrings 129))))) 0 (0x07 ∷ replicate 257 0) (3 ∷ 0 ∷ 0 ∷ 1 ∷ []) [] ∷
+    -- the end of an element before its place, of a field past the part: where it was to begin
+    reads strings 0 (0x61 ∷ 0x00 ∷ 0x62 ∷ 0x00 ∷ 0x02 ∷ 0x01 ∷ 0x04 ∷ []) (3 ∷ 0 ∷ 0 ∷ 2 ∷ []) [] ∷
+    reads (structure (next byteType (next stringType (last stringType)))) 0 (0x07 ∷ 0x61 ∷ 0x00 ∷ 0x09 ∷ []) (3 ∷ 0 ∷ 0 ∷ 1 ∷ []) [] ∷
+    -- a key past the body, an entry's end before its padded place: the entry; a value's end before its place: the value
+    reads stringToByte 0 (0x6b ∷ 0x00 ∷ 0x09 ∷ 0x02 ∷ 0x00 ∷ 0x09 ∷ 0x04 ∷ 0x06 ∷ []) (3 ∷ 0 ∷ 0 ∷ 4 ∷ []) [] ∷
+    reads (dictionary (text string) int16Type) 0 (0x6b ∷ 0x00 ∷ 0x05 ∷ 0x00 ∷ 0x02 ∷ 0x00 ∷ 0x00 ∷ 0x00 ∷ 0x05 ∷ 0x05 ∷ 0x08 ∷ []) (3 ∷ 0 ∷ 0 ∷ 6 ∷ []) [] ∷
+    reads stringToByte 0 (0x6b ∷ 0x02 ∷ 0x02 ∷ []) (3 ∷ 0 ∷ 0 ∷ 2 ∷ []) [] ∷
+    -- a padding byte that is missing: the end of the part over which it is judged; one that is not 0: itself; a text: its first byte
+    reads (array byteAndReading) 0 (0x07 ∷ 0x01 ∷ []) (3 ∷ 0 ∷ 0 ∷ 1 ∷ []) [] ∷
+    reads (dictionary (number int64) stringType) 0 (replicate 9 0 ++ (0x09 ∷ 0x09 ∷ [])) (3 ∷ 0 ∷ 0 ∷ 11 ∷ []) [] ∷
+    reads (structure (next int16Type (last byteType))) 0 (0x05 ∷ 0x00 ∷ 0x07 ∷ 0x09 ∷ []) (4 ∷ 0 ∷ 0 ∷ 3 ∷ []) [] ∷
+    reads (structure (next byteType (last stringType))) 0 (0x07 ∷ 0x61 ∷ 0x00 ∷ 0x62 ∷ []) (5 ∷ 0 ∷ 0 ∷ 1 ∷ []) [] ∷
+    reads (structure (next byteType (last stringType))) 0 (0x07 ∷ 0xff ∷ []) (6 ∷ 0 ∷ 0 ∷ 1 ∷ []) [] ∷
+    -- depths: the container's first byte after padding
+    reads (structure (next byteType (last (nested alone 32 byteType)))) 0 (0x07 ∷ 0x05 ∷ []) (10 ∷ 0 ∷ 0 ∷ 1 ∷ []) [] ∷
+    reads (structure (next byteType (last (nested array 33 byteType)))) 0 (0x07 ∷ upTo 0 32) (11 ∷ 0 ∷ 0 ∷ 1 ∷ []) [] ∷
+    reads (nested maybe 64 variant) 4 ((0x00 ∷ 0x00 ∷ 0x00 ∷ 0x00 ∷ 0x05 ∷ 0x00 ∷ 0x79 ∷ []) ++ replicate 64 0) (12 ∷ 0 ∷ 0 ∷ 4 ∷ []) [] ∷
+    -- no place
+    reads boolType 65537 (0x01 ∷ []) (2 ∷ 0 ∷ 0 ∷ 0 ∷ []) [] ∷
+    -- numbers big-endian, of each width; texts and offsets know no byte order
+    readsBig byteType (0x05 ∷ []) (0 ∷ 1 ∷ 1 ∷ 0 ∷ []) (121 ∷ 0 ∷ 5 ∷ []) ∷
+    readsBig int16Type (0x01 ∷ 0x02 ∷ []) (0 ∷ 2 ∷ 1 ∷ 0 ∷ []) (110 ∷ 0 ∷ 258 ∷ []) ∷
+    writesBig int16Type 258 (0x01 ∷ 0x02 ∷ []) ∷
+    readsBig uint32Type (0x01 ∷ 0x02 ∷ 0x03 ∷ 0x04 ∷ []) (0 ∷ 4 ∷ 1 ∷ 0 ∷ []) (117 ∷ 0 ∷ 16909060 ∷ []) ∷
+    writesBig uint32Type 16909060 (0x01 ∷ 0x02 ∷ 0x03 ∷ 0x04 ∷ []) ∷
+    readsBig int64Type (0x01 ∷ 0x02 ∷ 0x03 ∷ 0x04 ∷ 0x05 ∷ 0x06 ∷ 0x07 ∷ 0x08 ∷ []) (0 ∷ 8 ∷ 1 ∷ 0 ∷ []) (120 ∷ 0 ∷ 72623859790382856 ∷ []) ∷
+    writesBig int64Type 72623859790382856 (0x01 ∷ 0x02 ∷ 0x03 ∷ 0x04 ∷ 0x05 ∷ 0x06 ∷ 0x07 ∷ 0x08 ∷ []) ∷
+    readsBig stringType (0x61 ∷ 0x62 ∷ 0x00 ∷ []) (0 ∷ 3 ∷ 1 ∷ 0 ∷ []) (115 ∷ 0 ∷ 2 ∷ []) ∷
+    readsBig strings (replicate 254 0x61 ++ (0 ∷ 255 ∷ 0 ∷ [])) (0 ∷ 257 ∷ 3 ∷ 0 ∷ []) (97 ∷ 0 ∷ 0 ∷ 115 ∷ 0 ∷ 254 ∷ 41 ∷ 257 ∷ 0 ∷ []) ∷
+    writesBig strings (replicate 254 0x61 ∷ []) (replicate 254 0x61 ++ (0 ∷ 255 ∷ 0 ∷ [])) ∷
+    readsBig readings (0x00 ∷ 0xd7 ∷ 0x00 ∷ 0x00 ∷ 0x02 ∷ 0x02 ∷ 0x04 ∷ []) (0 ∷ 7 ∷ 7 ∷ 0 ∷ []) (97 ∷ 0 ∷ 0 ∷ 109 ∷ 0 ∷ 0 ∷ 110 ∷ 0 ∷ 215 ∷ 78 ∷ 2 ∷ 0 ∷ 109 ∷ 2 ∷ 0 ∷ 110 ∷ 2 ∷ 0 ∷ 41 ∷ 7 ∷ 0 ∷ []) ∷
+    writesBig readings (some 215 ∷ none ∷ some 0 ∷ []) (0x00 ∷ 0xd7 ∷ 0x00 ∷ 0x00 ∷ 0x02 ∷ 0x02 ∷ 0x04 ∷ []) ∷
+    -- what a value must be, and the depth that it may have
+    judges boolType true true ∷
+    judges stringType (0x61 ∷ 0x00 ∷ []) false ∷
+    judges stringType (0xff ∷ []) false ∷
+    judges byteType 255 true ∷
+    judges byteType 256 false ∷
+    judges int16Type 65536 false ∷
+    judges (nested maybe 64 byteType) (inMaybes 64 5) true ∷
+    judges (nested maybe 65 byteType) (inMaybes 65 5) false ∷
+    judges (nested array 32 byteType) (inArrays 32 5) true ∷
+    judges (nested array 33 byteType) (inArrays 33 5) false ∷
+    judges (nested alone 32 byteType) (inStructures 32 5) true ∷
+    judges (nested alone 33 byteType) (inStructures 33 5) false ∷
+    judges variant (nested array 33 byteType, []) true ∷
+    judges variant (nested maybe 255 byteType, none) false ∷
     []
 
 -- room for the events of each row
@@ -164,13 +240,29 @@ abbrev answer : Calls.Counts → ℕ → List ℕ
 answer c place = c .refusal ∷ c .used ∷ c .count ∷ place ∷ []
 
 -- the answer and the slice: the events, and what was there before
+abbrev readingGot : Bool → Tree → ℕ → List ℕ → List ℕ
+readingGot big t p l = answer (read (typeText t) big p l room) (frameReading (typeText t) big p l .place) ++ readSlice (typeText t) big p l room
+
+abbrev readingWanted : List ℕ → List ℕ → List ℕ
+readingWanted a es = a ++ (es ++ drop (length es) room)
+
+-- whether a value fits, and its bytes
+abbrev writingGot : Bool → (t : Tree) → Value 1 t → List ℕ
+writingGot big t v = bit (fits (piece big 1 t v) noneOpen) ∷ written big 1 t v
+
 abbrev pub got : Row → List ℕ
-got (reads t p l a es) = answer (read (typeText t) false p l room) (frameReading (typeText t) false p l .place) ++ readSlice (typeText t) false p l room
-got (writes t v l) = written false 1 t v
+got (reads t p l a es) = readingGot false t p l
+got (readsBig t l a es) = readingGot true t 0 l
+got (writes t v l) = writingGot false t v
+got (writesBig t v l) = writingGot true t v
+got (judges t v b) = bit (fits (piece false 1 t v) noneOpen) ∷ []
 
 abbrev pub want : Row → List ℕ
-want (reads t p l a es) = a ++ (es ++ drop (length es) room)
-want (writes t v l) = l
+want (reads t p l a es) = readingWanted a es
+want (readsBig t l a es) = readingWanted a es
+want (writes t v l) = 1 ∷ l
+want (writesBig t v l) = 1 ∷ l
+want (judges t v b) = bit b ∷ []
 
 pub frames-hold : map got table ≡ map want table
 unfolding Numbers.bytes Numbers.value Padding.padding Padding.leadingZeros Offsets.firstWidth Offsets.encodedWidth Offsets.writtenWidth Offsets.bareWidth Offsets.table Offsets.backTable Offsets.entries Offsets.noneAbove Offsets.tableFrom Offsets.tableOf Offsets.endsOf Offsets.tableStands Texts.withoutFinalNul Texts.noNul Texts.following Texts.afterByte Texts.utf8From Texts.utf8 Texts.textRefusal Depths.depthRefusal Types.alignment Types.fixed Types.fixedSize TypeText.typeText TypeText.basicAmong TypeText.made TypeText.endedBy TypeText.basicTree TypeText.entryBy TypeText.entryBegun TypeText.arrayBegun TypeText.typeBegun TypeText.fieldsBegun TypeText.typeWithin TypeText.firstType TypeText.nothingBehind TypeText.typeOf Events.triples Written.stop Written.layout Written.eventsFrom Written.ends Written.fieldEnds Written.allValid Written.allShallow Written.basicPiece Written.maybePiece Written.arrayBytes Written.arrayPiece Written.structureBytes Written.structurePiece Written.entryPiece Written.variantPiece Written.pieceOver Written.piece Written.written Outcome.chain Outcome.unused Outcome.enclosed Reading.child Reading.within Reading.paddingOf Reading.textAs Reading.readText Reading.readBool Reading.numberIn Reading.endByte Reading.presentIn Reading.maybeIn Reading.elements Reading.elementsTo Reading.tabled Reading.arrayBody Reading.arrayIn Reading.childStep Reading.offsetStands Reading.fieldOffset Reading.padded Reading.lastNul Reading.variantValue Reading.variantType Reading.variantTyped Reading.variantBody Reading.variantIn Reading.pad Reading.readNumber Reading.readBasic Reading.readMaybe Reading.readArray Reading.endPadding Reading.fieldsIn Reading.structureBody Reading.structureIn Reading.readStructure Reading.valueFrom Reading.fixedKey Reading.valueBefore Reading.keyTo Reading.textKey Reading.entryFrom Reading.readEntry Reading.entryStep Reading.readVariant Reading.readTree Reading.reading Calls.frameOf Calls.frameReading Calls.sized Calls.fitted Calls.filled Calls.size Calls.read Calls.readSlice

@@ -62,9 +62,9 @@ same-body kind true r s d h k l n = λ i. enclosed kind (k + n) (elements (lengt
 same-body kind false r s d h k l n =
     let t : Table = tableOf (drop n l) in
     λ i.
-        pick (tableStands t (drop n l))
-        (enclosed kind (k + n) (chain (elementsTo (λ j e. h k l (n + t .start) j e i) n (endsOf t (drop n l)) n) (passing (length l - (n + t .start)))))
-        (refused 3 (k + n))
+    pick (tableStands t (drop n l))
+    (enclosed kind (k + n) (chain (elementsTo (λ j e. h k l (n + t .start) j e i) n (endsOf t (drop n l)) n) (passing (length l - (n + t .start)))))
+    (refused 3 (k + n))
 
 same-array : (position kind a : ℕ) (fx : Bool) (r s : Step) (d : Depths) → SameStep r s (opened Depth.array d) → Same (readArray position kind a fx r d) (readArray position kind a fx s d)
 unfolding readArray arrayIn

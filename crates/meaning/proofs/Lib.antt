@@ -1,3 +1,4 @@
+pub mod BoldFrames
 pub mod Tests
 pub mod NumberLaws
 pub mod NumberSteps
@@ -21,4 +22,3 @@ pub mod Bounds
 pub mod Faithful
 pub mod Enough
 pub mod FixedSizes
-pub mod BoldFrames

@@ -80,14 +80,8 @@ bit false = 0
 
 -- basic values: a bool is 0 or 1, a number stands in its width and byte order, a text is its bytes and one nul
 unfoldable pub basicPiece : Bool → (b : Basic) → BasicValue b → Piece
-basicPiece big bool v = record {
-  alignment = 1;
-  fixed = true;
-  bytes = bit v ∷ [];
-  events = λ k. event boolLetter k (bit v) ∷ [];
-  valid = true;
-  shallow = λ d. true;
-}
+basicPiece big bool v =
+    record { alignment = 1; fixed = true; bytes = bit v ∷ []; events = λ k. event boolLetter k (bit v) ∷ []; valid = true; shallow = λ d. true }
 basicPiece big (number n) v = record {
   alignment = numberWidth n;
   fixed = true;
@@ -107,14 +101,8 @@ basicPiece big (text c) v = record {
 
 -- a maybe: nothing is no byte; a child that is not fixed has a byte of 0 behind it
 unfoldable pub maybePiece : {A : Type 0} → ℕ → Bool → (A → Piece) → Option A → Piece
-maybePiece a fx child none = record {
-  alignment = a;
-  fixed = false;
-  bytes = [];
-  events = λ k. nothing k ∷ [];
-  valid = true;
-  shallow = λ d. true;
-}
+maybePiece a fx child none =
+    record { alignment = a; fixed = false; bytes = []; events = λ k. nothing k ∷ []; valid = true; shallow = λ d. true }
 maybePiece a fx child (some v) = record {
   alignment = a;
   fixed = false;

@@ -1,5 +1,5 @@
 /*
- * bogtassel.h: reads GVariant frames. Link with libgvariant.a, which `rt staticlib gvariant` writes to target/staticlib.
+ * bogtassel.h: reads GVariant frames. Link with libbogtassel.a, which `rt staticlib bogtassel` writes to target/staticlib.
  *
  * The archive is for x86-64 Linux. It allocates nothing and keeps nothing between calls, so calls may run in several threads
  * at once, each with memory of its own.

@@ -1,15 +1,20 @@
--- Two answers that satisfy a public contract are the same: the number returned, the lent numbers, and the lent slice. Assumes nothing.
-use mathlib.Core.Path.{_≡_, ap, sym, _∙_}
-use mathlib.Core.List.{List}
-use Prim.Native.Nat.{ℕ}
-use Rattle.meaning.specs.Calls.{Counts, counts}
+-- Each public contract leaves one answer: the number returned, the lent numbers, and the lent slice. Assumes nothing.
+use mathlib.Core.Path.{sym, _∙_}
+use Rattle.meaning.specs.OneAnswer.{OneAnswer}
+use Rattle.bogtassel.proofs.bogtassel_size.Kinds as size-kinds
+use Rattle.bogtassel.proofs.bogtassel_size.Reads as size
+use Rattle.bogtassel.proofs.bogtassel_read.Kinds as read-kinds
+use Rattle.bogtassel.proofs.bogtassel_read.Reads as read
 
--- `bogtassel_size`, and the numbers of `bogtassel_read`
-pub one-answer : {c : Counts} {r u n r′ u′ n′ : ℕ} → counts r u n ≡ c → counts r′ u′ n′ ≡ c → (r ≡ r′) × (u ≡ u′) × (n ≡ n′)
-one-answer p q =
+-- signature, big, position, frame, used, count
+pub size-unique : OneAnswer size-kinds.ps size-kinds.r size.Learnt
+size-unique κs a z z′ w w′ p q =
     let e = p ∙ sym q in
-    (ap (λ (x : Counts). x .refusal) e, ap (λ (x : Counts). x .used) e, ap (λ (x : Counts). x .count) e)
+    (λ i. e i .refusal, λ i. (tt, (tt, (tt, (tt, (e i .used, (e i .count, tt)))))))
 
--- the slice of `bogtassel_read`
-pub one-slice : {A : Type 0} {x l m : List A} → l ≡ x → m ≡ x → l ≡ m
-one-slice p q = p ∙ sym q
+-- signature, big, position, frame, out, used, count
+pub read-unique : OneAnswer read-kinds.ps read-kinds.r read.Learnt
+read-unique κs a z z′ w w′ p q =
+    let e = p .0 ∙ sym (q .0) in
+    let slice = p .1 ∙ sym (q .1) in
+    (λ i. e i .refusal, λ i. (tt, (tt, (tt, (tt, (slice i, (e i .used, (e i .count, tt))))))))

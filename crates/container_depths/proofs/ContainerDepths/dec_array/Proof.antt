@@ -1,0 +1,15 @@
+use borrow.Author.Needs.{needs}
+use Rattle.container_depths.proofs.ContainerDepths.dec_array.Statement.{statement}
+use Rattle.container_depths.proofs.ContainerDepths.dec_array.Tie as tie
+use Rattle.container_depths.proofs.ContainerDepths.dec_array.Reads as reads
+use Rattle.container_depths.proofs.ContainerDepths.dec_array.Lts as lts
+use Rattle.container_depths.proofs.lowered.Reads as lowered-reads
+
+lowered-requires : tie.Need-lowered-requires
+lowered-requires c κs = search needs
+
+returns : tie.Need-returns
+returns c = rw (c .lowered .ensures)
+
+pub dec-array-spec : {M : Type 1} → statement M
+dec-array-spec = tie.close (tie.spec lowered-requires returns)

@@ -1,0 +1,15 @@
+use borrow.Author.Needs.{needs}
+use Rattle.container_depths.proofs.ContainerDepths.dec_maybe.Statement.{statement}
+use Rattle.container_depths.proofs.ContainerDepths.dec_maybe.Tie as tie
+use Rattle.container_depths.proofs.ContainerDepths.dec_maybe.Reads as reads
+use Rattle.container_depths.proofs.ContainerDepths.dec_maybe.Lts as lts
+use Rattle.container_depths.proofs.lowered.Reads as lowered-reads
+
+lowered-requires : tie.Need-lowered-requires
+lowered-requires c κs = search needs
+
+returns : tie.Need-returns
+returns c = rw (c .lowered .ensures)
+
+pub dec-maybe-spec : {M : Type 1} → statement M
+dec-maybe-spec = tie.close (tie.spec lowered-requires returns)

@@ -1,0 +1,17 @@
+use borrow.Author.Needs.{needs}
+use Rattle.container_depths.proofs.ContainerDepths.dec_structure.Statement.{
+  statement,
+}
+use Rattle.container_depths.proofs.ContainerDepths.dec_structure.Tie as tie
+use Rattle.container_depths.proofs.ContainerDepths.dec_structure.Reads as reads
+use Rattle.container_depths.proofs.ContainerDepths.dec_structure.Lts as lts
+use Rattle.container_depths.proofs.lowered.Reads as lowered-reads
+
+lowered-requires : tie.Need-lowered-requires
+lowered-requires c κs = search needs
+
+returns : tie.Need-returns
+returns c = rw (c .lowered .ensures)
+
+pub dec-structure-spec : {M : Type 1} → statement M
+dec-structure-spec = tie.close (tie.spec lowered-requires returns)

@@ -1,0 +1,18 @@
+use native.Mathlib.Nat.{add-zero}
+use borrow.Author.Needs.{needs}
+use Rattle.container_depths.proofs.ContainerDepths.inc_structure.Statement.{
+  statement,
+}
+use Rattle.container_depths.proofs.ContainerDepths.inc_structure.Tie as tie
+use Rattle.container_depths.proofs.ContainerDepths.inc_structure.Reads as reads
+use Rattle.container_depths.proofs.ContainerDepths.inc_structure.Lts as lts
+use Rattle.container_depths.proofs.ContainerDepths.raised.Reads as raised-reads
+
+raised-requires : tie.Need-raised-requires
+raised-requires c κs = search needs
+
+returns : tie.Need-returns
+returns c = simp add-zero at (c .raised .ensures)
+
+pub inc-structure-spec : {M : Type 1} → statement M
+inc-structure-spec = tie.close (tie.spec raised-requires returns)

@@ -1,0 +1,16 @@
+use native.Mathlib.Nat.{add-zero}
+use borrow.Author.Needs.{needs}
+use Rattle.container_depths.proofs.ContainerDepths.inc_variant.Statement.{statement}
+use Rattle.container_depths.proofs.ContainerDepths.inc_variant.Tie as tie
+use Rattle.container_depths.proofs.ContainerDepths.inc_variant.Reads as reads
+use Rattle.container_depths.proofs.ContainerDepths.inc_variant.Lts as lts
+use Rattle.container_depths.proofs.ContainerDepths.raised.Reads as raised-reads
+
+raised-requires : tie.Need-raised-requires
+raised-requires c κs = search needs
+
+returns : tie.Need-returns
+returns c = simp add-zero at (c .raised .ensures)
+
+pub inc-variant-spec : {M : Type 1} → statement M
+inc-variant-spec = tie.close (tie.spec raised-requires returns)

@@ -1,0 +1,34 @@
+-- A table of framing offsets as code holds it, and what the leaves over it answer. Assumes nothing: these are definitions.
+use mathlib.Core.Path.{_≡_}
+use mathlib.Core.List.{List}
+use Prim.Native.Nat.{ℕ, _+_, _*_}
+use lib.Dec.{leb}
+use lib.ListN.{getD}
+use Rattle.meaning.specs.Choice.{pick}
+use Rattle.meaning.specs.Refusals.{outOfBounds, missingFramingOffset}
+use Rattle.meaning.specs.Offsets.{Table, tableFrom, tableOf, endsOf, tableStands}
+use Rattle.utils.specs.declared.Checked.{Checked}
+use Rattle.framing_offsets.specs.declared.FramingOffsets.{FramingOffsets}
+use Rattle.framing_offsets.specs.declared.EncodedArray.{EncodedArray}
+use Rattle.utils.specs.Checks.{passed, failed, holds}
+use Rattle.framing_offset_size.specs.Widths.{widthOf}
+
+abbrev pub tableIn : FramingOffsets → Table
+tableIn t = record { start = t .start; count = t .count; width = widthOf (t .size) }
+
+abbrev pub countFrom : ℕ → ℕ → List ℕ → ℕ
+countFrom w start l = tableFrom w start l .count
+
+abbrev pub emptyTable : Table
+emptyTable = record { start = 0; count = 0; width = 1 }
+
+-- the table of a whole array or dictionary; every fault in it is 3
+pub record Encoded (l : List ℕ) (r : EncodedArray) : Type 0 where
+  pub refusal : r .refusal ≡ pick (tableStands (tableOf l) l) 0 outOfBounds
+  pub table : tableIn (r .offsets) ≡ pick (tableStands (tableOf l) l) (tableOf l) emptyTable
+
+-- an offset by its number: 14 behind the last one, 3 where the table is longer than the container
+unfoldable pub offsetIn : Table → ℕ → List ℕ → Checked
+offsetIn t i l =
+    pick (leb (t .count) i) (failed missingFramingOffset)
+    (pick (holds l (t .start + i * t .width) (t .width)) (passed (getD (endsOf t l) i 0)) (failed outOfBounds))

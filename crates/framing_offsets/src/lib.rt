@@ -1,0 +1,103 @@
+// The table of framing offsets at the end of a container, read where it stands. Ports framing_offsets.rs.
+use framing_offset_size::FramingOffsetSize;
+use meaning::refusals::MISSING_FRAMING_OFFSET;
+use meaning::refusals::OUT_OF_BOUNDS;
+use utils::Checked;
+ghost use mathlib.Core.Path.{_≡_};
+ghost use Rattle.meaning.specs.Offsets.{tableFrom, tableStands};
+ghost use Rattle.framing_offset_size.specs.Widths.{widthOf};
+ghost use Rattle.framing_offsets.specs.Tables.{tableIn, countFrom, Encoded, offsetIn};
+
+// Where the table begins, how many offsets it has, and how wide they are.
+pub struct FramingOffsets {
+    pub start: usize,
+    pub count: usize,
+    pub size: FramingOffsetSize,
+}
+
+// The refusal's number, 0 where there is none, and the table, an empty one where it is refused.
+pub struct EncodedArray {
+    pub refusal: u8,
+    pub offsets: FramingOffsets,
+}
+
+// How many offsets of a width there are from a start on.
+pub fn count(container: &[u8], start: usize, size: FramingOffsetSize) -> usize
+    ensures { λ r. ⌜ r ≡ countFrom (widthOf size) start (now (container .entry)) ⌝ }
+{
+    if container.len() < start {
+        return 0;
+    }
+    size.count_in(container.len() - start)
+}
+
+// Whether the table from a start on has no leftover piece and no offset above the start.
+fn stands(container: &[u8], start: usize, size: FramingOffsetSize) -> bool
+    ensures { λ r. ⌜ r ≡ tableStands (tableFrom (widthOf size) start (now (container .entry))) (now (container .entry)) ⌝ }
+{
+    if container.len() < start {
+        return false;
+    }
+    let width = size.width();
+    let mut i = start;
+    while i < container.len() {
+        let entry = size.offset_at(container, i);
+        if entry.refusal != 0 {
+            return false;
+        }
+        if start < entry.value {
+            return false;
+        }
+        i += width;
+    }
+    true
+}
+
+pub fn from_encoded_array(container: &[u8]) -> EncodedArray
+    ensures { λ r. ⌜ Encoded (now (container .entry)) r ⌝ }
+{
+    let size = FramingOffsetSize::for_encoded_container(container.len());
+    let last = size.read_last_offset_from_buffer(container);
+    let start = last.value;
+    if stands(container, start, size) {
+        let offsets = FramingOffsets {
+            start,
+            count: count(container, start, size),
+            size,
+        };
+        return EncodedArray {
+            refusal: 0,
+            offsets,
+        };
+    }
+    let offsets = FramingOffsets {
+        start: 0,
+        count: 0,
+        size: FramingOffsetSize::U8,
+    };
+    EncodedArray {
+        refusal: OUT_OF_BOUNDS,
+        offsets,
+    }
+}
+
+// The i-th offset of a table that stands in a container, from 0 on.
+pub fn next(container: &[u8], offsets: FramingOffsets, i: usize) -> Checked
+    ensures { λ r. ⌜ r ≡ offsetIn (tableIn offsets) i (now (container .entry)) ⌝ }
+{
+    let start = offsets.start;
+    let size = offsets.size;
+    if offsets.count <= i {
+        return Checked::failed(MISSING_FRAMING_OFFSET);
+    }
+    if count(container, start, size) <= i {
+        return Checked::failed(OUT_OF_BOUNDS);
+    }
+    size.offset_at(container, start + i * size.width())
+}
+
+pub fn first(container: &[u8], offsets: FramingOffsets) -> Checked
+    ensures { λ r. ⌜ r ≡ offsetIn (tableIn offsets) 0 (now (container .entry)) ⌝ }
+{
+    next(container, offsets, 0)
+}

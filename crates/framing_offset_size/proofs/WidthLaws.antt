@@ -10,6 +10,8 @@ use lib.Seq.{take-nil, drop-nil}
 use borrow.Author.Tests.{le-leb, lt-leb, eq-eqb, ne-eqb, eqb-true}
 use Rattle.meaning.specs.Choice.{pick}
 use Rattle.meaning.specs.Refusals.{outOfBounds, roomTooSmall}
+use Rattle.meaning.specs.Padding.{Aligns}
+use Rattle.meaning.proofs.PaddingLaws.{by1, by2, by4, by8}
 use Rattle.meaning.specs.Numbers.{bytes, value}
 use Rattle.meaning.specs.Offsets.{largest, firstWidth, bareWidth, encodedWidth, lastOffset}
 use Rattle.meaning.proofs.OffsetSteps.{too-long, room-for, first-fits, first-not, encoded-bare}
@@ -33,6 +35,12 @@ width-most U8 = omega arith
 width-most U16 = omega arith
 width-most U32 = omega arith
 width-most U64 = omega arith
+
+pub width-aligns : (s : FramingOffsetSize) → Aligns (widthOf s)
+width-aligns U8 = by1
+width-aligns U16 = by2
+width-aligns U32 = by4
+width-aligns U64 = by8
 
 same-size : {s t : FramingOffsetSize} → Size s ≡ Size t → s ≡ t
 same-size h = cc

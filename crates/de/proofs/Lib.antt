@@ -1,0 +1,3 @@
+pub mod PaddingAnswers
+pub mod PartAnswers
+pub mod Unique

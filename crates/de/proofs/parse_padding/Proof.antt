@@ -1,0 +1,63 @@
+use Rattle.de.proofs.PaddingAnswers.{sum-past, sum-within, none-due, due-short, due-there, due-not-zero}
+use Rattle.utils.proofs.Places.{within}
+use mathlib.Core.Path.{_∙_}
+use borrow.Author.Needs.{needs}
+use Rattle.de.proofs.parse_padding.Statement.{statement}
+use Rattle.de.proofs.parse_padding.Tie as tie
+
+sub-if1 : tie.Need-sub-if1
+sub-if1 c = search needs
+
+failed-requires : tie.Need-failed-requires
+failed-requires c κs = search needs
+
+returns : tie.Need-returns
+returns c = c .failed .ensures ∙ sum-past (c .before .before .before .args .position) (c .before .before .before .args .place) (c .before .before .before .args .alignment) (c .before .before .before .args .part .now) (c .before .before .before .fits .position .fits) (c .before .if1 .taken)
+
+add-padding-for-n-bytes : tie.Need-add-padding-for-n-bytes
+add-padding-for-n-bytes c = search needs
+
+padding-for-n-bytes-requires : tie.Need-padding-for-n-bytes-requires
+padding-for-n-bytes-requires c κs = search needs
+
+returns-2 : tie.Need-returns-2
+returns-2 c = none-due _ (c .before .before .before .before .args .place) (c .before .before .before .before .args .part .now) (c .if2 .taken) ∙ (sum-within (c .before .before .before .before .args .position) (c .before .before .before .before .args .place) (c .before .before .before .before .args .alignment) (c .before .before .before .before .args .part .now) (c .before .before .before .before .fits .position .fits) (c .before .before .if1 .left) (c .before .padding-for-n-bytes .ensures))
+
+reaches-requires : tie.Need-reaches-requires
+reaches-requires c κs = search needs
+
+zeros-requires : tie.Need-zeros-requires
+zeros-requires c κs = within (c .before .before .before .before .before .before .args .part .now) (c .before .before .before .before .before .before .args .place) _ (c .before .reaches .ensures) (c .if3 .taken)
+
+returns-3 : tie.Need-returns-3
+returns-3 c = due-there _ (c .before .before .before .before .before .before .before .before .args .place) (c .before .before .before .before .before .before .before .before .args .part .now) (c .before .before .before .before .if2 .left) (c .before .before .before .reaches .ensures) (c .before .before .if3 .taken) (c .before .zeros .ensures) (c .if4 .taken) ∙ (sum-within (c .before .before .before .before .before .before .before .before .args .position) (c .before .before .before .before .before .before .before .before .args .place) (c .before .before .before .before .before .before .before .before .args .alignment) (c .before .before .before .before .before .before .before .before .args .part .now) (c .before .before .before .before .before .before .before .before .fits .position .fits) (c .before .before .before .before .before .before .if1 .left) (c .before .before .before .before .before .padding-for-n-bytes .ensures))
+
+failed-requires-2 : tie.Need-failed-requires-2
+failed-requires-2 c κs = search needs
+
+returns-4 : tie.Need-returns-4
+returns-4 c = c .failed2 .ensures ∙ due-not-zero _ (c .before .before .before .before .before .before .before .before .before .args .place) (c .before .before .before .before .before .before .before .before .before .args .part .now) (c .before .before .before .before .before .if2 .left) (c .before .before .before .before .reaches .ensures) (c .before .before .before .if3 .taken) (c .before .before .zeros .ensures) (c .before .if4 .left) ∙ (sum-within (c .before .before .before .before .before .before .before .before .before .args .position) (c .before .before .before .before .before .before .before .before .before .args .place) (c .before .before .before .before .before .before .before .before .before .args .alignment) (c .before .before .before .before .before .before .before .before .before .args .part .now) (c .before .before .before .before .before .before .before .before .before .fits .position .fits) (c .before .before .before .before .before .before .before .if1 .left) (c .before .before .before .before .before .before .padding-for-n-bytes .ensures))
+
+failed-requires-3 : tie.Need-failed-requires-3
+failed-requires-3 c κs = search needs
+
+returns-5 : tie.Need-returns-5
+returns-5 c = c .failed3 .ensures ∙ due-short _ (c .before .before .before .before .before .before .before .args .place) (c .before .before .before .before .before .before .before .args .part .now) (c .before .before .before .if2 .left) (c .before .before .reaches .ensures) (c .before .if3 .left) ∙ (sum-within (c .before .before .before .before .before .before .before .args .position) (c .before .before .before .before .before .before .before .args .place) (c .before .before .before .before .before .before .before .args .alignment) (c .before .before .before .before .before .before .before .args .part .now) (c .before .before .before .before .before .before .before .fits .position .fits) (c .before .before .before .before .before .if1 .left) (c .before .before .before .before .padding-for-n-bytes .ensures))
+
+pub parse-padding-spec : {M : Type 1} → statement M
+parse-padding-spec =
+    tie.close
+    (tie.spec
+    sub-if1
+    failed-requires
+    returns
+    add-padding-for-n-bytes
+    padding-for-n-bytes-requires
+    returns-2
+    reaches-requires
+    zeros-requires
+    returns-3
+    failed-requires-2
+    returns-4
+    failed-requires-3
+    returns-5)

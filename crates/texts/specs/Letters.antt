@@ -1,0 +1,17 @@
+-- What a letter still wants, as code holds it, and runs of letters of one byte. Assumes nothing: these are definitions.
+use mathlib.Core.Path.{_≡_}
+use mathlib.Core.List.{List}
+use Prim.Native.Nat.{ℕ, _≤_}
+use lib.ListN.{length, drop}
+use Rattle.meaning.specs.Texts as texts
+use Rattle.texts.specs.declared.Wanted.{Wanted}
+
+abbrev pub wantedOf : Wanted → texts.Wanted
+wantedOf s = texts.wanted (s .count) (s .low) (s .high)
+
+-- from i to j a text has no nul and only whole letters: what is behind j decides
+pub record Plain (l : List ℕ) (i j : ℕ) : Type 0 where
+  pub from : i ≤ j
+  pub to : j ≤ length l
+  pub nul : texts.noNul (drop i l) ≡ texts.noNul (drop j l)
+  pub letters : texts.utf8From texts.letter (drop i l) ≡ texts.utf8From texts.letter (drop j l)

@@ -1,8 +1,8 @@
 // Padding, parts, numbers and bools, read where they stand. Ports de.rs.
+use byte_order::number_at;
 use framing_offset_size::FramingOffsetSize;
 use meaning::refusals::OUT_OF_BOUNDS;
 use meaning::refusals::PADDING_NOT_ZERO;
-use numbers::number_at;
 use utils::Checked;
 use utils::padding_for_n_bytes;
 use utils::reaches;
@@ -11,7 +11,7 @@ ghost use Prim.Native.Nat.{_+_, _≤_};
 ghost use lib.Dec.{leb};
 ghost use lib.ListN.{length, drop};
 ghost use Rattle.meaning.specs.Padding.{leadingZeros};
-ghost use Rattle.numbers.specs.Standing.{numberAt};
+ghost use Rattle.byte_order.specs.Standing.{numberAt};
 ghost use Rattle.framing_offset_size.specs.Widths.{widthOf};
 ghost use Rattle.de.specs.Parts.{paddingAt, placeAfter, partAt, boolAt};
 

@@ -20,8 +20,8 @@ use Rattle.framing_offset_size.specs.declared.FramingOffsetSize.the-vari
 use Rattle.framing_offset_size.specs.declared.Fitting.{Fitting}
 use Rattle.framing_offset_size.specs.declared.Fitting.the-variants.{Size, Nothing}
 use Rattle.utils.specs.Checks.{passed, failed}
-use Rattle.numbers.specs.Standing.{numberAt}
-use Rattle.numbers.proofs.Standings.{numberAt-is}
+use Rattle.byte_order.specs.Standing.{numberAt}
+use Rattle.byte_order.proofs.Standings.{numberAt-is}
 use Rattle.framing_offset_size.specs.Widths.{widthOf, bumped, fittingWidth, Fitted, writeRefusal, bufferAfter, lastOffsetIn}
 
 pub width-positive : (s : FramingOffsetSize) → 0 < widthOf s

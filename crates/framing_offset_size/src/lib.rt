@@ -1,17 +1,17 @@
 // The widths of framing offsets. Offsets are little-endian in either byte order. Ports framing_offset_size.rs.
+use byte_order::byte_at;
+use byte_order::eight_at;
+use byte_order::four_at;
+use byte_order::two_at;
 use meaning::refusals::OUT_OF_BOUNDS;
 use meaning::refusals::ROOM_TOO_SMALL;
-use numbers::byte_at;
-use numbers::eight_at;
-use numbers::four_at;
-use numbers::two_at;
 use utils::Checked;
 ghost use mathlib.Core.Path.{_≡_};
 ghost use mathlib.Core.Bool.{false};
 ghost use Prim.Native.Nat.{_+_, _*_, _/_};
 ghost use lib.Dec.{leb};
 ghost use Rattle.meaning.specs.Offsets.{largest, encodedWidth};
-ghost use Rattle.numbers.specs.Standing.{numberAt};
+ghost use Rattle.byte_order.specs.Standing.{numberAt};
 ghost use Rattle.framing_offset_size.specs.Widths.{widthOf, bumped, Fitted, writeRefusal, bufferAfter, lastOffsetIn};
 
 pub enum FramingOffsetSize {

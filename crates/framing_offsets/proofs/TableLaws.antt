@@ -18,8 +18,8 @@ use Rattle.framing_offset_size.specs.declared.FramingOffsetSize.the-variants.{U
 use Rattle.framing_offsets.specs.declared.FramingOffsets.{FramingOffsets}
 use Rattle.framing_offsets.specs.declared.EncodedArray.{EncodedArray}
 use Rattle.utils.specs.Checks.{passed, failed, holds}
-use Rattle.numbers.specs.Standing.{numberAt}
-use Rattle.numbers.proofs.Standings.{numberAt-is, number-inside, number-outside, number-value}
+use Rattle.byte_order.specs.Standing.{numberAt}
+use Rattle.byte_order.proofs.Standings.{numberAt-is, number-inside, number-outside, number-value}
 use Rattle.framing_offsets.specs.Tables.{tableIn, countFrom, Encoded, offsetIn}
 use Rattle.framing_offset_size.specs.Widths.{widthOf, lastOffsetIn}
 

@@ -4,15 +4,13 @@ use crate::words::bytes;
 use crate::words::number;
 use crate::words::word;
 use check::same;
-use leaves::container_depths::ContainerDepths;
-use leaves::container_depths::Raised;
-use leaves::de;
-use leaves::framing_offset_size::Fitting;
-use leaves::framing_offset_size::FramingOffsetSize;
-use leaves::framing_offsets;
-use leaves::framing_offsets::FramingOffsets;
-use leaves::utils::padding_for_n_bytes;
+use container_depths::ContainerDepths;
+use container_depths::Raised;
+use framing_offset_size::Fitting;
+use framing_offset_size::FramingOffsetSize;
+use framing_offsets::FramingOffsets;
 use std::num::wrapping_add_usize;
+use utils::padding_for_n_bytes;
 
 fn size_of(width: usize) -> FramingOffsetSize {
     if width == 1 {
@@ -200,8 +198,8 @@ fn print_table(container: &[u8]) {
 }
 
 fn print_text(part: &[u8]) {
-    let text = de::text(part);
-    let refusal = de::text_refusal(text);
+    let text = texts::text(part);
+    let refusal = texts::text_refusal(text);
     print::first(refusal as usize);
     if refusal == 0 {
         print::then(text.len());

@@ -1,6 +1,6 @@
 // The answers on standard output.
-use leaves::utils::Answer;
 use libc::STDOUT_FILENO;
+use utils::Checked;
 
 pub fn first(number: usize) {
     io::print_decimal(STDOUT_FILENO, number as u64);
@@ -27,7 +27,7 @@ pub fn end() {
     io::write_all(STDOUT_FILENO, b"\n");
 }
 
-pub fn answer(a: Answer) {
+pub fn answer(a: Checked) {
     first(a.refusal as usize);
     then(a.value);
     end();

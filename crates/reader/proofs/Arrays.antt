@@ -17,13 +17,13 @@ use Rattle.meaning.specs.Offsets.{Table, noneAbove, entries, tableFrom, tableOf
 use Rattle.meaning.specs.Events.{Event, event, opening}
 use Rattle.meaning.specs.Outcome.{Outcome, done, refused, after, chain, passing, closingAt, enclosed}
 use Rattle.meaning.specs.Reading.{Step, child, within, further, elements, elementsTo, tabled, arrayBody, arrayIn}
-use Rattle.leaves.specs.Opening.{depthsOf, Raises}
+use Rattle.container_depths.specs.Opening.{depthsOf, Raises}
 use Rattle.meaning.proofs.OffsetLaws.{encodedWidth-positive}
-use Rattle.leaves.specs.Tables.{tableIn, emptyTable, Encoded, offsetIn}
-use Rattle.leaves.specs.declared.utils.Answer as leafs
-use Rattle.leaves.specs.declared.container_depths.ContainerDepths.{ContainerDepths}
-use Rattle.leaves.specs.declared.container_depths.Raised.{Raised}
-use Rattle.leaves.specs.declared.framing_offsets.EncodedArray.{EncodedArray}
+use Rattle.framing_offsets.specs.Tables.{tableIn, emptyTable, Encoded, offsetIn}
+use Rattle.utils.specs.declared.Checked as leafs
+use Rattle.container_depths.specs.declared.ContainerDepths.{ContainerDepths}
+use Rattle.container_depths.specs.declared.Raised.{Raised}
+use Rattle.framing_offsets.specs.declared.EncodedArray.{EncodedArray}
 use Rattle.reader.specs.Answers.{next, put, putAll, advance, Done}
 use Rattle.reader.specs.Places.{treeAt, Typed, Within, bodyIn, itemStep, itemKind, ItemAt, Repeated, Stands}
 use Rattle.reader.specs.declared.Answer.{Answer}
@@ -295,7 +295,7 @@ module _ {t : Table} {l : List ℕ} (s : Stands t l) (i : ℕ) where
   pub ends-below : getD (endsOf t l) i 0 ≤ t .start
   ends-below = none-above (t .start) (endsOf t l) (s .below) i
 
-  pub next-end : (r : leafs.Answer) → i < t .count → r ≡ offsetIn t i l → r .value ≡ getD (endsOf t l) i 0
+  pub next-end : (r : leafs.Checked) → i < t .count → r ≡ offsetIn t i l → r .value ≡ getD (endsOf t l) i 0
   unfolding offsetIn
   next-end r h q =
       let c = s .count in

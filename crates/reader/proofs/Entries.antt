@@ -1,5 +1,6 @@
 -- A law for each way out of the readers of a dictionary's entry: its conclusion has the form of the need, and its premises are what the
 -- code knows there. Assumes nothing.
+use Rattle.framing_offset_size.proofs.WidthLaws.{lastOffsetIn-is}
 use mathlib.Core.Path.{_≡_, refl, ap, sym, _∙_}
 use mathlib.Core.List.{List, [], _∷_}
 use mathlib.Core.Bool.{Bool, true, false}
@@ -17,9 +18,9 @@ use Rattle.meaning.specs.Outcome.{Outcome, refused, after, chain, passing}
 use Rattle.meaning.specs.Reading.{Reader, Step, child, further, pad, endPadding, valueFrom, fixedKey, valueBefore, keyTo, textKey, entryFrom, readEntry, entryStep, childStep}
 use Rattle.meaning.specs.Padding.{Aligns}
 use Rattle.meaning.proofs.OffsetSteps.{own-width}
-use Rattle.leaves.specs.Paddings.{paddingAt}
-use Rattle.leaves.specs.Widths.{lastOffsetIn}
-use Rattle.leaves.specs.declared.utils.Answer as leafs
+use Rattle.de.specs.Parts.{paddingAt}
+use Rattle.framing_offset_size.specs.Widths.{lastOffsetIn}
+use Rattle.utils.specs.declared.Checked as leafs
 use Rattle.reader.specs.Answers.{Done}
 use Rattle.reader.specs.Places.{treeAt, readerOf, keyReader, itemStep}
 use Rattle.reader.specs.declared.Answer.{Answer}
@@ -91,12 +92,11 @@ no-byte (suc w) [] h = let z : 0 - suc w ≡ 0 = omega arith in rw z
 no-byte w (x ∷ l) h = absurd (omega arith)
 
 -- what is read as the last offset of an entry
-pub record KeyEnd (part : List ℕ) (j e : ℕ) (r : leafs.Answer) : Type 0 where
+pub record KeyEnd (part : List ℕ) (j e : ℕ) (r : leafs.Checked) : Type 0 where
   pub there : r .refusal ≡ 0
   pub end : r .value ≡ lastOffset (encodedWidth (e - j)) (take (e - j) (drop j part))
 
-pub key-end : (part : List ℕ) (j e w : ℕ) (r : leafs.Answer) → j ≤ e → e ≤ length part → w ≡ encodedWidth (e - j) → r ≡ lastOffsetIn w (take (e - j) (drop j part)) → KeyEnd part j e r
-unfolding lastOffsetIn
+pub key-end : (part : List ℕ) (j e w : ℕ) (r : leafs.Checked) → j ≤ e → e ≤ length part → w ≡ encodedWidth (e - j) → r ≡ lastOffsetIn w (take (e - j) (drop j part)) → KeyEnd part j e r
 key-end part j e w r h i p q = go (eqb (e - j) 0) refl
   where
     m : length (take (e - j) (drop j part)) ≡ e - j
@@ -106,13 +106,13 @@ key-end part j e w r h i p q = go (eqb (e - j) 0) refl
     go true x =
         let y = eqb-true (e - j) 0 x in
         let t : eqb (length (take (e - j) (drop j part))) 0 ≡ true = eq-eqb _ _ (m ∙ y) in
-        record { there = ap (λ s. s .refusal) q ∙ rw t; end = ap (λ s. s .value) q ∙ rw t (sym (no-byte (encodedWidth (e - j)) (take (e - j) (drop j part)) (m ∙ y))) }
+        record { there = ap (λ s. s .refusal) (q ∙ lastOffsetIn-is w (take (e - j) (drop j part))) ∙ rw t; end = ap (λ s. s .value) (q ∙ lastOffsetIn-is w (take (e - j) (drop j part))) ∙ rw t (sym (no-byte (encodedWidth (e - j)) (take (e - j) (drop j part)) (m ∙ y))) }
     go false x =
         let y = eqb-false (e - j) 0 x in
         let t : eqb (length (take (e - j) (drop j part))) 0 ≡ false = ne-eqb _ _ (λ o. y (sym m ∙ o)) in
         let u = own-width (e - j) (omega arith) in
         let v : leb w (length (take (e - j) (drop j part))) ≡ true = le-leb w (length (take (e - j) (drop j part))) (omega (arith, m)) in
-        record { there = ap (λ s. s .refusal) q ∙ rw (t, v); end = ap (λ s. s .value) q ∙ rw (t, v) (rw p) }
+        record { there = ap (λ s. s .refusal) (q ∙ lastOffsetIn-is w (take (e - j) (drop j part))) ∙ rw (t, v); end = ap (λ s. s .value) (q ∙ lastOffsetIn-is w (take (e - j) (drop j part))) ∙ rw (t, v) (rw p) }
 
 module _ (position a : ℕ) (fx : Bool) (key value : Reader) (d : Depths) (place : ℕ) (part : List ℕ) (b j e n : ℕ) (l : List ℕ) where
   pub text-key-before : e < j → Done (textKey position a fx key value d place part b j e) (e - j) (length part - j) n l l (answer 3 0 n)
@@ -194,7 +194,7 @@ behind-padding part j e u n l l′ o r h i d = go (leb (j + u) e) refl
         let g = d .refusal in
         record { refusal = d .refusal; used = ap (λ (x : ℕ). u + x) (d .used); fits = omega arith; ends = λ z. absurd (omega arith); count = d .count; slice = d .slice }
 
-module _ (position a : ℕ) (fk fx : Bool) (key value : Reader) (d : Depths) (place : ℕ) (part : List ℕ) (b j e n : ℕ) (l : List ℕ) (p : leafs.Answer)
+module _ (position a : ℕ) (fk fx : Bool) (key value : Reader) (d : Depths) (place : ℕ) (part : List ℕ) (b j e n : ℕ) (l : List ℕ) (p : leafs.Checked)
     (s : Aligns a) (f : position + place + j ≤ 18446744073709551615) (h : j ≤ length part) (q : p ≡ paddingAt (position + place) j a part) where
   pads : Pads (pad position a (place + j) (drop j part)) (length part - j) p
   pads = pads-at position place j a part p s f h q
@@ -223,7 +223,7 @@ module _ (position a : ℕ) (fk fx : Bool) (key value : Reader) (d : Depths) (pl
         entry-behind (λ i. rw k (rw (lt-leb (j + p .value) e i))) (rw k c)
 
 -- where the entry begins, behind its padding
-pub entry-within : (position place j a : ℕ) (part : List ℕ) (p : leafs.Answer) → Aligns a → position + place + j ≤ 18446744073709551615 → j ≤ length part
+pub entry-within : (position place j a : ℕ) (part : List ℕ) (p : leafs.Checked) → Aligns a → position + place + j ≤ 18446744073709551615 → j ≤ length part
     → p ≡ paddingAt (position + place) j a part → j + p .value ≤ length part
 entry-within position place j a part p s f h q = let w = pads-at position place j a part p s f h q .fits in omega arith
 
@@ -245,7 +245,7 @@ module _ (position : ℕ) (big : Bool) (nested : ℕ) (text : List ℕ) (i : Ite
       other (i .entry) (entryStep position (i .alignment) (i .keyed) (i .fixed) (keyReader position big (i .key)) (readerOf position big nested (treeAt text (i .at))))
       (childStep (readerOf position big nested (treeAt text (i .at)))) d place part b j e (e - j) (length part - j) n l l′ r h c
 
-  module _ (w : i .entry ≡ true) (p : leafs.Answer) (s : Aligns (i .alignment)) (f : position + place + j ≤ 18446744073709551615) (h : j ≤ length part)
+  module _ (w : i .entry ≡ true) (p : leafs.Checked) (s : Aligns (i .alignment)) (f : position + place + j ≤ 18446744073709551615) (h : j ≤ length part)
       (q : p ≡ paddingAt (position + place) j (i .alignment) part) where
     pub step-unpadded : (p .refusal ≡ 0 → ⊥) → Done (itemStep position big nested text i d place part b j e) (e - j) (length part - j) n l l (answer (p .refusal) 0 n)
     step-unpadded z =

@@ -15,8 +15,8 @@ use Rattle.meaning.specs.Outcome.{Outcome}
 use Rattle.meaning.specs.Limits.{largestFrame}
 use Rattle.meaning.specs.Calls.{frameOf, frameReading, Counts, counts, sized, fitted, filled, size, read, readSlice}
 use Rattle.meaning.proofs.Bounds.{frame-events}
-use Rattle.leaves.specs.Opening.{depthsOf}
-use Rattle.leaves.specs.declared.container_depths.ContainerDepths.{ContainerDepths}
+use Rattle.container_depths.specs.Opening.{depthsOf}
+use Rattle.container_depths.specs.declared.ContainerDepths.{ContainerDepths}
 use Rattle.signature.specs.Places.{isType}
 use Rattle.reader.specs.Answers.{next, put, putAll, advance, Done, countsOf}
 use Rattle.reader.specs.Places.{treeAt, Within, readerOf}

@@ -1,4 +1,8 @@
 -- What the leaves answer, as the readings that they are of: padding, numbers, bools, texts and offsets. Assumes nothing.
+use Rattle.de.proofs.PaddingAnswers.{paddingAt-is}
+use Rattle.de.proofs.PartAnswers.{boolAt-is}
+use Rattle.framing_offset_size.proofs.WidthLaws.{lastOffsetIn-is}
+use Rattle.byte_order.proofs.Standings.{byte-number as leaf-byte}
 use mathlib.Core.Path.{_≡_, refl, ap, sym, subst, _∙_}
 use mathlib.Core.List.{List, [], _∷_}
 use mathlib.Core.Bool.{Bool, true, false, _||_}
@@ -21,11 +25,14 @@ use Rattle.meaning.specs.Events.{event, textEvent}
 use Rattle.meaning.specs.Outcome.{Outcome, done, refused, chain, unused, closingAt}
 use Rattle.meaning.specs.Reading.{child, paddingOf, pad, readBool, numberIn, readNumber, textAs, readText, padded, endPadding, offsetStands, fieldOffset, lastNul}
 use Rattle.meaning.proofs.PaddingLaws.{by-alignment}
-use Rattle.leaves.specs.Answers as leaf
-use Rattle.leaves.specs.Paddings.{paddingFor, paddingIn, paddingAt}
-use Rattle.leaves.specs.declared.utils.Answer as leafs
-use Rattle.leaves.specs.Standing.{numberAt, boolAt}
-use Rattle.leaves.specs.Widths.{lastOffsetIn}
+use Rattle.utils.specs.Checks as leaf
+use Rattle.utils.specs.Checks.{paddingFor}
+use Rattle.de.proofs.PaddingAnswers.{paddingIn}
+use Rattle.de.specs.Parts.{paddingAt}
+use Rattle.utils.specs.declared.Checked as leafs
+use Rattle.byte_order.specs.Standing.{numberAt}
+use Rattle.de.specs.Parts.{boolAt}
+use Rattle.framing_offset_size.specs.Widths.{lastOffsetIn}
 use Rattle.signature.specs.declared.Letter.{Letter}
 use Rattle.signature.specs.declared.Letter.the-variants.{End, Bad, Boolean, Number, Text, Variant, Maybe, Array, OpenStructure, CloseStructure, OpenEntry, CloseEntry}
 use Rattle.signature.proofs.Letter.{the-type}
@@ -38,7 +45,7 @@ use Rattle.reader.proofs.Rests.{Rest, rest-chain}
 -- ---- padding
 
 -- a leaf's answer is a reading with no event, of a part of so many bytes
-pub record Pads (o : Outcome) (room : ℕ) (r : leafs.Answer) : Type 0 where
+pub record Pads (o : Outcome) (room : ℕ) (r : leafs.Checked) : Type 0 where
   pub place : ℕ
   pub there : r .refusal ≡ 0 → o ≡ done (r .value) []
   pub missing : (r .refusal ≡ 0 → ⊥) → o ≡ refused (r .refusal) place
@@ -46,7 +53,7 @@ pub record Pads (o : Outcome) (room : ℕ) (r : leafs.Answer) : Type 0 where
   pub fits : r .value ≤ room
 
 module _ (p j k : ℕ) (l : List ℕ) (h : j ≤ length l) where
-  pads-in : Pads (paddingOf p k (drop j l)) (length l - j) (paddingIn (leaf.done p) j l)
+  pads-in : Pads (paddingOf p k (drop j l)) (length l - j) (paddingIn (leaf.passed p) j l)
   unfolding paddingIn paddingOf
   pads-in = go (eqb p 0) (leb (j + p) (length l)) (leb p (leadingZeros (drop j l))) refl refl refl
     where
@@ -55,7 +62,7 @@ module _ (p j k : ℕ) (l : List ℕ) (h : j ≤ length l) where
 
       go : (x y z : Bool) → eqb p 0 ≡ x → leb (j + p) (length l) ≡ y → leb p (leadingZeros (drop j l)) ≡ z
           → Pads (pick (ltb (length (drop j l)) p) (refused 3 (k + length (drop j l))) (pick (ltb (leadingZeros (drop j l)) p) (refused 4 (k + leadingZeros (drop j l))) (done p [])))
-          (length l - j) (pick x (leaf.done p) (pick y (pick z (leaf.done p) (leaf.refused 4)) (leaf.refused 3)))
+          (length l - j) (pick x (leaf.passed p) (pick y (pick z (leaf.passed p) (leaf.failed 4)) (leaf.failed 3)))
       go true y z a b c =
           let e : p ≡ 0 = eqb-true p 0 a in
           rw (le-ltb (length (drop j l)) p (omega arith), le-ltb (leadingZeros (drop j l)) p (omega arith))
@@ -73,20 +80,20 @@ module _ (p j k : ℕ) (l : List ℕ) (h : j ≤ length l) where
           rw (lt-ltb (length (drop j l)) p (omega (arith, m)))
           (record { place = k + length (drop j l); there = λ q. absurd (omega arith); missing = λ q. refl; none-used = λ q. refl; fits = omega arith })
 
-padding-for : (n : ℕ) {a : ℕ} → Aligns a → paddingFor n a ≡ leaf.done (padding n a)
+padding-for : (n : ℕ) {a : ℕ} → Aligns a → paddingFor n a ≡ leaf.passed (padding n a)
 unfolding paddingFor
 padding-for n al = rw (al .listed)
 
 -- the padding at the place j of a part that begins at a place
-pub pads-at : (position place j a : ℕ) (l : List ℕ) (r : leafs.Answer) → Aligns a → position + place + j ≤ 18446744073709551615 → j ≤ length l
+pub pads-at : (position place j a : ℕ) (l : List ℕ) (r : leafs.Checked) → Aligns a → position + place + j ≤ 18446744073709551615 → j ≤ length l
     → r ≡ paddingAt (position + place) j a l → Pads (pad position a (place + j) (drop j l)) (length l - j) r
-unfolding paddingAt pad
+unfolding pad
 pads-at position place j a l r s n h e =
-    rw (e, le-ltb 18446744073709551615 (position + place + j) n, padding-for (position + place + j) s, add-assoc position place j)
+    rw (e, paddingAt-is (position + place) j a l, le-ltb 18446744073709551615 (position + place + j) n, padding-for (position + place + j) s, add-assoc position place j)
     (pads-in (padding (position + (place + j)) a) j (place + j) l h)
 
 -- and at its front
-pub pads-first : (position place a : ℕ) (l : List ℕ) (r : leafs.Answer) → Aligns a → position + place ≤ 18446744073709551615
+pub pads-first : (position place a : ℕ) (l : List ℕ) (r : leafs.Checked) → Aligns a → position + place ≤ 18446744073709551615
     → r ≡ paddingAt (position + place) 0 a l → Pads (pad position a place l) (length l) r
 pads-first position place a l r s n e =
     let g = pads-at position place 0 a l r s (omega arith) (omega arith) e in
@@ -94,7 +101,7 @@ pads-first position place a l r s n e =
     rw (← add-zero place, ← z) g
 
 -- as the answer of a reader that tells no event
-pub pads-done : {o : Outcome} {room : ℕ} {r : leafs.Answer} (n : ℕ) (l : List ℕ) → Pads o room r → Done o room room n l l (answer (r .refusal) (r .value) n)
+pub pads-done : {o : Outcome} {room : ℕ} {r : leafs.Checked} (n : ℕ) (l : List ℕ) → Pads o room r → Done o room room n l l (answer (r .refusal) (r .value) n)
 unfolding putAll advance
 pads-done {o} {room} {r} n l p = go (eqb (r .refusal) 0) refl
   where
@@ -107,7 +114,7 @@ pads-done {o} {room} {r} n l p = go (eqb (r .refusal) 0) refl
         rw (p .missing z) (record { refusal = refl; used = p .none-used z; fits = p .fits; ends = λ q. p .fits; count = refl; slice = refl })
 
 -- padding, and what is read behind it: the padding is refused, or what is read answers from its end on
-module _ {o : Outcome} {room : ℕ} {r : leafs.Answer} (f : ℕ → Outcome) (end len n : ℕ) (l : List ℕ) (p : Pads o room r) where
+module _ {o : Outcome} {room : ℕ} {r : leafs.Checked} (f : ℕ → Outcome) (end len n : ℕ) (l : List ℕ) (p : Pads o room r) where
   pub pads-stop : (r .refusal ≡ 0 → ⊥) → Done (chain o f) end len n l l (answer (r .refusal) 0 n)
   unfolding chain
   pads-stop z = rw (p .missing z, ne-eqb (r .refusal) 0 z) (refusing (r .refusal) (p .place) end len n l z)
@@ -131,47 +138,37 @@ closed end len n m place l l₁ l′ o r z p q d =
 
 -- ---- bools
 
-module _ (d : Depths) (k n : ℕ) (l out : List ℕ) (r : leafs.Answer) (e : r ≡ boolAt l 0) where
+module _ (d : Depths) (k n : ℕ) (l out : List ℕ) (r : leafs.Checked) (e : r ≡ boolAt l 0) where
   pub bool-missing : (r .refusal ≡ 0 → ⊥) → Done (readBool d k l) (length l) (length l) n out out (answer 3 0 n)
-  unfolding readBool boolAt
+  unfolding readBool
   bool-missing z = go (eqb (length l) 0) refl
     where
       go : (b : Bool) → eqb (length l) 0 ≡ b → Done (pick b (refused 3 k) (done 1 (event 98 k (pick (eqb (getD l 0 0) 0) 0 1) ∷ []))) (length l) (length l) n out out (answer 3 0 n)
       go true h = refusing 3 k (length l) (length l) n out (λ q. omega arith)
       go false h =
           let s : 0 + 1 ≤ length l = omega (arith, eqb-false (length l) 0 h) in
-          let w : r .refusal ≡ 0 = ap (λ x. x .refusal) e ∙ rw (le-leb (0 + 1) (length l) s) in
+          let w : r .refusal ≡ 0 = ap (λ x. x .refusal) (e ∙ boolAt-is l 0) ∙ rw (le-leb (0 + 1) (length l) s) in
           absurd (z w)
 
   pub bool-there : (m : ℕ) (out′ : List ℕ) → r .refusal ≡ 0 → m ≡ next n → out′ ≡ put out n (event 98 k (r .value))
       → Done (readBool d k l) (length l) (length l) n out out′ (answer 0 1 m)
-  unfolding readBool boolAt
+  unfolding readBool
   bool-there m out′ z p q = go (eqb (length l) 0) refl
     where
       go : (b : Bool) → eqb (length l) 0 ≡ b → Done (pick b (refused 3 k) (done 1 (event 98 k (pick (eqb (getD l 0 0) 0) 0 1) ∷ []))) (length l) (length l) n out out′ (answer 0 1 m)
       go true h =
           let s : length l < 0 + 1 = omega (arith, eqb-true (length l) 0 h) in
-          let w : r .refusal ≡ 3 = ap (λ x. x .refusal) e ∙ rw (lt-leb (0 + 1) (length l) s) in
+          let w : r .refusal ≡ 3 = ap (λ x. x .refusal) (e ∙ boolAt-is l 0) ∙ rw (lt-leb (0 + 1) (length l) s) in
           absurd (omega arith)
       go false h =
           let s : 0 + 1 ≤ length l = omega (arith, eqb-false (length l) 0 h) in
-          let w : r .value ≡ pick (eqb (getD l 0 0) 0) 0 1 = ap (λ x. x .value) e ∙ rw (le-leb (0 + 1) (length l) s) in
+          let w : r .value ≡ pick (eqb (getD l 0 0) 0) 0 1 = ap (λ x. x .value) (e ∙ boolAt-is l 0) ∙ rw (le-leb (0 + 1) (length l) s) in
           single 1 (length l) (length l) n m out out′ _ (omega arith) (omega arith) p (q ∙ ap (λ x. put out n (event 98 k x)) w)
 
 -- ---- numbers
 
--- one byte is the same in either byte order
-byte-ordered : (big : Bool) (l : List ℕ) → length l ≤ 1 → ordered big l ≡ l
-byte-ordered false l h = refl
-byte-ordered true [] h = refl
-byte-ordered true (x ∷ []) h = refl
-byte-ordered true (x ∷ y ∷ l) h = absurd (omega arith)
-
 pub byte-number : (big : Bool) (l : List ℕ) (place : ℕ) → numberAt 1 false l place ≡ numberAt 1 big l place
-unfolding numberAt
-byte-number big l place =
-    let h : length (take 1 (drop place l)) ≤ 1 = simp length-take (omega arith) in
-    rw (byte-ordered big (take 1 (drop place l)) h)
+byte-number big l place = leaf-byte big l place
 
 -- the last width is 8
 pub eight-left : {w : ℕ} → Aligns w → (w ≡ 1 → ⊥) → (w ≡ 2 → ⊥) → (w ≡ 4 → ⊥) → w ≡ 8
@@ -179,12 +176,12 @@ eight-left al a b c =
     by-alignment (λ w. (w ≡ 1 → ⊥) → (w ≡ 2 → ⊥) → (w ≡ 4 → ⊥) → w ≡ 8)
     (λ a b c. absurd (a refl)) (λ a b c. absurd (b refl)) (λ a b c. absurd (c refl)) (λ a b c. refl) al a b c
 
-module _ (position : ℕ) (big : Bool) (kind w : ℕ) (d : Depths) (k n : ℕ) (l out : List ℕ) (r : leafs.Answer) (p : Pads (pad position w k l) (length l) r) where
+module _ (position : ℕ) (big : Bool) (kind w : ℕ) (d : Depths) (k n : ℕ) (l out : List ℕ) (r : leafs.Checked) (p : Pads (pad position w k l) (length l) r) where
   pub number-unpadded : (r .refusal ≡ 0 → ⊥) → Done (readNumber position big kind w d k l) (length l) (length l) n out out (answer (r .refusal) 0 n)
   unfolding readNumber chain unused
   number-unpadded z = rw (p .missing z, ne-eqb (r .refusal) 0 z, ne-eqb (r .refusal) 0 z) (refusing (r .refusal) (p .place) (length l) (length l) n out z)
 
-  module _ (f : leafs.Answer) (z : r .refusal ≡ 0) (e : f ≡ numberAt w big l (r .value)) where
+  module _ (f : leafs.Checked) (z : r .refusal ≡ 0) (e : f ≡ numberAt w big l (r .value)) where
     pub number-short : (f .refusal ≡ 0 → ⊥) → Done (readNumber position big kind w d k l) (length l) (length l) n out out (answer 3 0 n)
     unfolding readNumber chain unused numberIn numberAt
     number-short y = go (leb (r .value + w) (length l)) refl
@@ -226,7 +223,7 @@ module _ (kind : ℕ) (d : Depths) (k n : ℕ) (l out t : List ℕ) (x : ℕ) (e
 
 -- ---- the padding at the end of what is fixed
 
-module _ (position a k j end len n : ℕ) (l out out′ : List ℕ) (o : Outcome) (r : Answer) (p : leafs.Answer) (b : j + r .used ≤ length l) (e : len ≡ length l - j)
+module _ (position a k j end len n : ℕ) (l out out′ : List ℕ) (o : Outcome) (r : Answer) (p : leafs.Checked) (b : j + r .used ≤ length l) (e : len ≡ length l - j)
     (w : Pads (pad position a (k + (j + r .used)) (drop (j + r .used) l)) (length l - (j + r .used)) p) (d : Done o end len n out out′ r) where
   pub ending-missing : (p .refusal ≡ 0 → ⊥) → Done (endPadding position true a k l j o) len len n out out′ (answer (p .refusal) (r .used) (r .count))
   unfolding endPadding padded
@@ -250,11 +247,11 @@ drop-take (suc m) w (suc k) [] h = sym (take-nil w)
 drop-take (suc m) w (suc k) (x ∷ l) h = drop-take m w k l (omega arith)
 
 module _ (n w e : ℕ) (l : List ℕ) where
-  pub offset-below : e < n → leaf.refused 3 ≡ offsetAnswer n w e l
+  pub offset-below : e < n → leaf.failed 3 ≡ offsetAnswer n w e l
   unfolding offsetAnswer offsetStands
   offset-below h = rw (lt-leb n e h)
 
-  pub offset-narrow : n ≤ e → e < w → leaf.refused 3 ≡ offsetAnswer n w e l
+  pub offset-narrow : n ≤ e → e < w → leaf.failed 3 ≡ offsetAnswer n w e l
   unfolding offsetAnswer offsetStands
   offset-narrow h i = rw (le-leb n e h, lt-leb w e i)
 
@@ -272,17 +269,17 @@ module _ (n w e : ℕ) (l : List ℕ) where
         ∙ ap (λ (k : List ℕ). value (take w k)) (drop-drop (e - n - w) n l ∙ ap (λ k. drop k l) u)
 
     pub offset-read : lastOffsetIn w (take (e - n) (drop n l)) ≡ offsetAnswer n w e l
-    unfolding offsetAnswer offsetStands fieldOffset lastOffsetIn
-    offset-read = rw (part-length, le-leb n e h, le-leb w e i) (go (eqb e n) (leb (n + w) e) refl refl)
+    unfolding offsetAnswer offsetStands fieldOffset
+    offset-read = rw (lastOffsetIn-is w (take (e - n) (drop n l)), part-length, le-leb n e h, le-leb w e i) (go (eqb e n) (leb (n + w) e) refl refl)
       where
         go : (x y : Bool) → eqb e n ≡ x → leb (n + w) e ≡ y
-            → pick (eqb (e - n) 0) (leaf.done 0) (pick (leb w (e - n)) (leaf.done (value (take w (drop (e - n - w) (take (e - n) (drop n l)))))) (leaf.refused 3))
-            ≡ pick (x || y) (leaf.done (pick x 0 (offsetBefore w e l))) (leaf.refused 3)
+            → pick (eqb (e - n) 0) (leaf.passed 0) (pick (leb w (e - n)) (leaf.passed (value (take w (drop (e - n - w) (take (e - n) (drop n l)))))) (leaf.failed 3))
+            ≡ pick (x || y) (leaf.passed (pick x 0 (offsetBefore w e l))) (leaf.failed 3)
         go true y p q = let z = eqb-true e n p in rw (eq-eqb (e - n) 0 (omega arith))
         go false true p q =
             let z = eqb-false e n p in
             let t = leb-true (n + w) e q in
-            rw (ne-eqb (e - n) 0 (λ o. z (omega arith)), le-leb w (e - n) (omega arith)) (ap leaf.done (last-part t))
+            rw (ne-eqb (e - n) 0 (λ o. z (omega arith)), le-leb w (e - n) (omega arith)) (ap leaf.passed (last-part t))
         go false false p q =
             let z = eqb-false e n p in
             let t = leb-false (n + w) e q in

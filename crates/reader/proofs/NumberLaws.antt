@@ -17,8 +17,8 @@ use Rattle.meaning.specs.Events.{Event, event, present, nothing}
 use Rattle.meaning.specs.Outcome.{Outcome, outcome, done, refused, after, chain, unused}
 use Rattle.meaning.specs.Reading.{child, childStep, within, paddingOf, pad, numberIn, readNumber, presentIn, maybeIn, readMaybe, further, elements}
 use Rattle.meaning.proofs.PaddingLaws.{by-alignment, aligns-positive, padding-aligned, padding-none}
-use Rattle.leaves.specs.declared.utils.Answer as leafs
-use Rattle.leaves.specs.Standing.{numberAt}
+use Rattle.utils.specs.declared.Checked as leafs
+use Rattle.byte_order.specs.Standing.{numberAt}
 use Rattle.reader.specs.Answers.{next, put, putAll, advance, Done}
 use Rattle.reader.specs.Runs.{numberEvents, leftOver, countedOf, numbersFrom}
 use Rattle.reader.specs.declared.Answer.{Answer}
@@ -119,8 +119,8 @@ module _ (big : Bool) (kind w k : ℕ) (part : List ℕ) (j n : ℕ) (l : List �
     run-full r e a h = rw e (run-stands a (putAll-full (numberEvents big kind w k part (i .more) at) out count h))
 
 -- the number that a leaf found
-pub found-there : (big : Bool) (w at : ℕ) (part : List ℕ) (f : leafs.Answer) → f ≡ numberAt w big part at → at ≤ length part → w ≤ length part - at → f .value ≡ spelled big w at part
-unfolding numberAt
+pub found-there : (big : Bool) (w at : ℕ) (part : List ℕ) (f : leafs.Checked) → f ≡ numberAt w big part at → at ≤ length part → w ≤ length part - at → f .value ≡ spelled big w at part
+unfolding numberAt numberIn
 found-there big w at part f e b h = ap (λ x. x .value) e ∙ rw (le-leb (at + w) (length part) (omega arith))
 
 -- ---- padding
@@ -264,7 +264,7 @@ module _ (position : ℕ) (big : Bool) (kind w : ℕ) (s : Aligns w) (d : Depths
           rw y at (i .rest .whole out₂ q (rw y (numbers-done (i .more) (lead + r .used) _ _ (r .count) out₁ out₂ q (omega (arith, i .bound)) (omega (arith, i .enough)) (numbers-padded z) g)))
 
 -- ---- the ways out of a reading
-module _ (position : ℕ) (big : Bool) (kind w : ℕ) (s : Aligns w) (d : Depths) (k n : ℕ) (l out : List ℕ) (r : leafs.Answer) (p : Pads (pad position w k l) (length l) r) where
+module _ (position : ℕ) (big : Bool) (kind w : ℕ) (s : Aligns w) (d : Depths) (k n : ℕ) (l out : List ℕ) (r : leafs.Checked) (p : Pads (pad position w k l) (length l) r) where
   abbrev inside : ℕ → Outcome
   inside = maybeIn true (readNumber position big kind w) d k l
 
@@ -310,8 +310,8 @@ module _ (position : ℕ) (big : Bool) (kind w : ℕ) (s : Aligns w) (d : Depths
             let g : position + k + padding (position + k) w ≡ position + (k + r .value) = omega arith in
             rw (← g) (padding-behind s (position + k))
 
-        pub reading-short : (f : leafs.Answer) → f ≡ numberAt w big l (r .value) → (f .refusal ≡ 0 → ⊥) → Done this (length l) (length l) n out out₁ (answer 3 (r .value) m)
-        unfolding numberAt
+        pub reading-short : (f : leafs.Checked) → f ≡ numberAt w big l (r .value) → (f .refusal ≡ 0 → ⊥) → Done this (length l) (length l) n out out₁ (answer 3 (r .value) m)
+        unfolding numberAt numberIn
         reading-short f x y = go (leb (r .value + w) (length l)) refl
           where
             go : (t : Bool) → leb (r .value + w) (length l) ≡ t → Done this (length l) (length l) n out out₁ (answer 3 (r .value) m)
@@ -320,9 +320,9 @@ module _ (position : ℕ) (big : Bool) (kind w : ℕ) (s : Aligns w) (d : Depths
                 let v = leb-false (r .value + w) (length l) q in
                 rw (add-zero (r .value)) at (present-by out₁ (answer 3 0 m) (rw (number-cut position big kind w (opened Depth.maybe d) k l (r .value) (omega arith) aligned-there (omega arith)) (refusing 3 _ _ _ m out₁ (λ t. omega arith))))
 
-        pub reading-there : (f : leafs.Answer) (c : ℕ) (out′ : List ℕ) → f ≡ numberAt w big l (r .value) → f .refusal ≡ 0 → c ≡ next m → out′ ≡ put out₁ m (event kind (k + r .value) (f .value))
+        pub reading-there : (f : leafs.Checked) (c : ℕ) (out′ : List ℕ) → f ≡ numberAt w big l (r .value) → f .refusal ≡ 0 → c ≡ next m → out′ ≡ put out₁ m (event kind (k + r .value) (f .value))
             → Done this (length l) (length l) n out out′ (answer 0 (r .value + w) c)
-        unfolding numberAt
+        unfolding numberAt numberIn
         reading-there f c out′ x y i j = go (leb (r .value + w) (length l)) refl
           where
             go : (t : Bool) → leb (r .value + w) (length l) ≡ t → Done this (length l) (length l) n out out′ (answer 0 (r .value + w) c)

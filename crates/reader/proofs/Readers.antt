@@ -24,11 +24,11 @@ use Rattle.meaning.specs.Reading.{arrayIn, fieldsIn, structureBody, structureIn
 use Rattle.meaning.specs.Padding.{Aligns}
 use Rattle.meaning.proofs.TypeLaws.{aligned}
 use Rattle.meaning.proofs.TypeLaws.{number-aligned as aligned-number}
-use Rattle.leaves.specs.Opening.{depthsOf, Raises}
-use Rattle.leaves.specs.Paddings.{paddingAt}
-use Rattle.leaves.specs.declared.utils.Answer as leafs
-use Rattle.leaves.specs.declared.container_depths.ContainerDepths.{ContainerDepths}
-use Rattle.leaves.specs.declared.container_depths.Raised.{Raised}
+use Rattle.container_depths.specs.Opening.{depthsOf, Raises}
+use Rattle.de.specs.Parts.{paddingAt}
+use Rattle.utils.specs.declared.Checked as leafs
+use Rattle.container_depths.specs.declared.ContainerDepths.{ContainerDepths}
+use Rattle.container_depths.specs.declared.Raised.{Raised}
 use Rattle.signature.specs.Places.{basicKind, letterAt, typeAt, childBy, childAt}
 use Rattle.signature.specs.declared.Letter.{Letter}
 use Rattle.signature.specs.declared.Letter.the-variants.{Boolean, Number, Text, Variant, Maybe, Array, OpenStructure}
@@ -158,7 +158,7 @@ pub container-reads : (position : ℕ) (big : Bool) (d : ContainerDepths) (t : T
 container-reads position big d t k l c h = body-at position big (d .variant) (65 - d .variant) (64 - d .variant) d t k l c (omega arith) refl refl
 
 -- the ways out of container
-module _ (text : List ℕ) (at : ℕ) (info : Child) (part : List ℕ) (place position : ℕ) (big : Bool) (d : ContainerDepths) (n : ℕ) (l : List ℕ) (p : leafs.Answer)
+module _ (text : List ℕ) (at : ℕ) (info : Child) (part : List ℕ) (place position : ℕ) (big : Bool) (d : ContainerDepths) (n : ℕ) (l : List ℕ) (p : leafs.Checked)
     (t : Typed text at) (i : info ≡ childAt text at) (w : Within (length part) place position d) (c : Contains (treeAt text at)) (q : p ≡ paddingAt (position + place) 0 (info .alignment) part) where
   container-pads : Pads (pad position (alignment (treeAt text at)) place part) (length part) p
   container-pads =

@@ -19,10 +19,10 @@ use Rattle.meaning.specs.Events.{Event}
 use Rattle.meaning.specs.Outcome.{Outcome, done, refused, after, chain, passing}
 use Rattle.meaning.specs.Reading.{child, further, endPadding, offsetStands, fieldOffset, fieldsIn, readTree, readVariant, reading}
 use Rattle.meaning.proofs.OffsetLaws.{encodedWidth-1, encodedWidth-2, encodedWidth-4}
-use Rattle.leaves.specs.Opening.{depthsOf}
-use Rattle.leaves.specs.Answers as leaf
-use Rattle.leaves.specs.declared.utils.Answer as leafs
-use Rattle.leaves.specs.declared.container_depths.ContainerDepths.{ContainerDepths}
+use Rattle.container_depths.specs.Opening.{depthsOf}
+use Rattle.utils.specs.Checks as leaf
+use Rattle.utils.specs.declared.Checked as leafs
+use Rattle.container_depths.specs.declared.ContainerDepths.{ContainerDepths}
 use Rattle.signature.specs.Places.{childAt, fieldAt}
 use Rattle.signature.specs.declared.Field.{Field}
 use Rattle.signature.proofs.Children.{child-is}
@@ -233,18 +233,18 @@ fields-begin position big nested text at fx a place part lead w d n l g e h = re
 }
 
 -- an offset that stands, and one that does not
-pub record OffsetThere (lead w end : ℕ) (part : List ℕ) (o : leafs.Answer) : Type 0 where
+pub record OffsetThere (lead w end : ℕ) (part : List ℕ) (o : leafs.Checked) : Type 0 where
   pub stands : offsetStands lead w end ≡ true
   pub is : o .value ≡ fieldOffset lead w end part
   pub start : lead ≤ end
   pub room : w ≤ end
 
-module _ (lead w end : ℕ) (part : List ℕ) (o : leafs.Answer) (q : o ≡ offsetAnswer lead w end part) where
+module _ (lead w end : ℕ) (part : List ℕ) (o : leafs.Checked) (q : o ≡ offsetAnswer lead w end part) where
   pub offset-missing : (o .refusal ≡ 0 → ⊥) → offsetStands lead w end ≡ false
   unfolding offsetAnswer
   offset-missing z = go (offsetStands lead w end) (ap (λ x. x .refusal) q)
     where
-      go : (b : Bool) → o .refusal ≡ pick b (leaf.done (fieldOffset lead w end part)) (leaf.refused 3) .refusal → b ≡ false
+      go : (b : Bool) → o .refusal ≡ pick b (leaf.passed (fieldOffset lead w end part)) (leaf.failed 3) .refusal → b ≡ false
       go true e = absurd (z e)
       go false e = refl
 
@@ -253,8 +253,8 @@ module _ (lead w end : ℕ) (part : List ℕ) (o : leafs.Answer) (q : o ≡ offs
   offset-there z = go (leb lead end) (leb w end) (eqb end lead || leb (lead + w) end) refl refl refl (ap (λ x. x .refusal) q) (ap (λ x. x .value) q)
     where
       go : (a b c : Bool) → leb lead end ≡ a → leb w end ≡ b → (eqb end lead || leb (lead + w) end) ≡ c
-          → o .refusal ≡ pick (a && (b && c)) (leaf.done (fieldOffset lead w end part)) (leaf.refused 3) .refusal
-          → o .value ≡ pick (a && (b && c)) (leaf.done (fieldOffset lead w end part)) (leaf.refused 3) .value → OffsetThere lead w end part o
+          → o .refusal ≡ pick (a && (b && c)) (leaf.passed (fieldOffset lead w end part)) (leaf.failed 3) .refusal
+          → o .value ≡ pick (a && (b && c)) (leaf.passed (fieldOffset lead w end part)) (leaf.failed 3) .value → OffsetThere lead w end part o
       go true true true x y t e f = record { stands = rw (x, y, t); is = f; start = leb-true lead end x; room = leb-true w end y }
       go true true false x y t e f = absurd (omega arith)
       go true false c x y t e f = absurd (omega arith)
@@ -277,7 +277,7 @@ power-most (suc (suc (suc zero))) h = omega arith
 power-most (suc (suc (suc (suc zero)))) h = omega arith
 power-most (suc (suc (suc (suc (suc w))))) h = absurd (omega arith)
 
-pub offset-small : (lead w end : ℕ) (part : List ℕ) (o : leafs.Answer) → ((i : ℕ) → getD part i 0 < 256) → w ≤ 4 → OffsetThere lead w end part o → o .value < 4294967296
+pub offset-small : (lead w end : ℕ) (part : List ℕ) (o : leafs.Checked) → ((i : ℕ) → getD part i 0 < 256) → w ≤ 4 → OffsetThere lead w end part o → o .value < 4294967296
 unfolding fieldOffset
 offset-small lead w end part o b h s = rw (s .is) (go (eqb end lead))
   where
@@ -323,7 +323,7 @@ module _ {position : ℕ} {big : Bool} {nested : ℕ} {text : List ℕ} {at : �
           inside = omega arith;
         }
 
-    module _ (h : f .child .fixed ≡ false) (v : ℕ) (y : v ≡ w) (o : leafs.Answer) (q : o ≡ offsetAnswer lead v end part) where
+    module _ (h : f .child .fixed ≡ false) (v : ℕ) (y : v ≡ w) (o : leafs.Checked) (q : o ≡ offsetAnswer lead v end part) where
       -- it is not, and has no offset
       pub fields-no-offset : (o .refusal ≡ 0 → ⊥)
           → Done (fieldsIn position fx a place part lead w d (readersOf position big nested (fieldsAt text at)) (length part) lead) (length part - lead) (length part - lead) n l l₁ (answer 3 u m)

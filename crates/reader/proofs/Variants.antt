@@ -18,9 +18,9 @@ use Rattle.meaning.specs.Events.{Event, event, textEvent, opening, closing}
 use Rattle.meaning.specs.Outcome.{Outcome, done, refused, after, chain, closingAt, enclosed}
 use Rattle.meaning.specs.Reading.{Reader, child, within, textAs, separator, remaining, variantValue, variantType, variantTyped, variantBody, variantIn, reading}
 use Rattle.meaning.proofs.TypeTextLaws.{OneType, typeOf-sound}
-use Rattle.leaves.specs.Opening.{depthsOf, Raises}
-use Rattle.leaves.specs.declared.container_depths.ContainerDepths.{ContainerDepths}
-use Rattle.leaves.specs.declared.container_depths.Raised.{Raised}
+use Rattle.container_depths.specs.Opening.{depthsOf, Raises}
+use Rattle.container_depths.specs.declared.ContainerDepths.{ContainerDepths}
+use Rattle.container_depths.specs.declared.Raised.{Raised}
 use Rattle.signature.specs.Places.{isType}
 use Rattle.reader.specs.Answers.{next, put, putAll, advance, Done}
 use Rattle.reader.specs.Places.{treeBy, treeAt, behindBy, Typed, readerOf, bodyIn, variantTree}

@@ -16,10 +16,10 @@ use Rattle.meaning.specs.Outcome as outcome
 use Rattle.meaning.specs.Outcome.{Outcome}
 use Rattle.meaning.specs.Reading.{Reader, Step, Field, readBool, readNumber, readText, readBasic, readMaybe, maybeIn, arrayIn, childStep, entryStep, structureIn, variantIn, offsetStands, fieldOffset, readers, readVariant, reading}
 use Rattle.meaning.specs.Padding.{Aligns}
-use Rattle.leaves.specs.Answers.{done, refused}
-use Rattle.leaves.specs.declared.utils.Answer.{Answer}
-use Rattle.leaves.specs.Opening.{depthsOf}
-use Rattle.leaves.specs.declared.container_depths.ContainerDepths.{ContainerDepths}
+use Rattle.utils.specs.Checks.{passed, failed}
+use Rattle.utils.specs.declared.Checked.{Checked}
+use Rattle.container_depths.specs.Opening.{depthsOf}
+use Rattle.container_depths.specs.declared.ContainerDepths.{ContainerDepths}
 use Rattle.signature.specs.Places.{childAt}
 use Rattle.signature.specs.declared.Letter.{Letter}
 use Rattle.signature.specs.declared.Letter.the-variants.{End, Bad, Boolean, Number, Text, Variant, Maybe, Array, OpenStructure, CloseStructure, OpenEntry, CloseEntry}
@@ -168,5 +168,5 @@ pub record Stands (t : Table) (l : List ℕ) : Type 0 where
   pub below : noneAbove (t .start) (endsOf t l) ≡ true
 
 -- the offset before an end of a structure's table
-unfoldable pub offsetAnswer : ℕ → ℕ → ℕ → List ℕ → Answer
-offsetAnswer n w e l = pick (offsetStands n w e) (done (fieldOffset n w e l)) (refused 3)
+unfoldable pub offsetAnswer : ℕ → ℕ → ℕ → List ℕ → Checked
+offsetAnswer n w e l = pick (offsetStands n w e) (passed (fieldOffset n w e l)) (failed 3)

@@ -4,17 +4,15 @@ mod numbers;
 
 use crate::numbers::numbers;
 use crate::numbers::readings;
-use leaves::container_depths::ContainerDepths;
-use leaves::de::next_slice;
-use leaves::de::parse_padding;
-use leaves::de::read_bool;
-use leaves::de::read_number;
-use leaves::de::text;
-use leaves::de::text_refusal;
-use leaves::framing_offset_size::FramingOffsetSize;
-use leaves::framing_offsets::FramingOffsets;
-use leaves::framing_offsets::from_encoded_array;
-use leaves::framing_offsets::next;
+use container_depths::ContainerDepths;
+use de::next_slice;
+use de::parse_padding;
+use de::read_bool;
+use de::read_number;
+use framing_offset_size::FramingOffsetSize;
+use framing_offsets::FramingOffsets;
+use framing_offsets::from_encoded_array;
+use framing_offsets::next;
 use signature::Child;
 use signature::Letter;
 use signature::child_at;
@@ -23,6 +21,8 @@ use signature::field_at;
 use signature::judge;
 use signature::key_fixed;
 use signature::letter_at;
+use texts::text;
+use texts::text_refusal;
 ghost use mathlib.Core.Path.{_≡_};
 ghost use mathlib.Core.Bool.{true, false};
 ghost use Prim.Native.Nat.{ℕ, _+_, _-_, _≤_, _<_};
@@ -36,11 +36,12 @@ ghost use Rattle.meaning.specs.Outcome.{Outcome, chain, closingAt, passing};
 ghost use Rattle.meaning.specs.Reading.{child, readBool, readNumber, readText, maybeIn, arrayIn, elements as elementsIn, elementsTo, offsetStands, fieldOffset, endPadding, fieldsIn, structureIn, fixedKey, textKey, readEntry, separator as separatorOf, variantIn};
 ghost use Rattle.meaning.specs.Calls.{frameReading, size as sizeOf, read as readOf, readSlice};
 ghost use Rattle.meaning.specs.Padding.{Aligns};
-ghost use Rattle.leaves.specs.Answers.{done, refused};
-ghost use Rattle.leaves.specs.Standing.{numberAt, partAt};
-ghost use Rattle.leaves.specs.Opening.{depthsOf};
-ghost use Rattle.leaves.specs.Widths.{widthOf};
-ghost use Rattle.leaves.specs.Tables.{tableIn};
+ghost use Rattle.utils.specs.Checks.{passed, failed};
+ghost use Rattle.byte_order.specs.Standing.{numberAt};
+ghost use Rattle.de.specs.Parts.{partAt};
+ghost use Rattle.container_depths.specs.Opening.{depthsOf};
+ghost use Rattle.framing_offset_size.specs.Widths.{widthOf};
+ghost use Rattle.framing_offsets.specs.Tables.{tableIn};
 ghost use Rattle.signature.specs.Places.{childAt, letterAt};
 ghost use Rattle.reader.specs.Answers.{next as nextOf, put, Done, countsOf};
 ghost use Rattle.reader.specs.Places.{treeAt, Typed, fieldsAt, Rowed, Within, Contains, readerOf, readersOf, bodyIn, keyReader, KeyAligned, itemStep, itemKind, ItemAt, HeldNumber, Repeated, Stands, offsetAnswer, variantTree};
@@ -128,32 +129,32 @@ fn boolean(part: &[u8], place: usize, out: &mut [u64], n: usize) -> Answer
 }
 
 // A byte, and the numbers of two, four and eight bytes, at a place.
-fn byte_at(part: &[u8], place: usize) -> leaves::utils::Answer
+fn byte_at(part: &[u8], place: usize) -> utils::Checked
     ensures { λ r. ⌜ r ≡ numberAt 1 false (now (part .entry)) place ⌝ }
 {
     read_number(part, place, FramingOffsetSize::U8, false)
 }
 
-fn two_at(part: &[u8], place: usize, big: bool) -> leaves::utils::Answer
+fn two_at(part: &[u8], place: usize, big: bool) -> utils::Checked
     ensures { λ r. ⌜ r ≡ numberAt 2 big (now (part .entry)) place ⌝ }
 {
     read_number(part, place, FramingOffsetSize::U16, big)
 }
 
-fn four_at(part: &[u8], place: usize, big: bool) -> leaves::utils::Answer
+fn four_at(part: &[u8], place: usize, big: bool) -> utils::Checked
     ensures { λ r. ⌜ r ≡ numberAt 4 big (now (part .entry)) place ⌝ }
 {
     read_number(part, place, FramingOffsetSize::U32, big)
 }
 
-fn eight_at(part: &[u8], place: usize, big: bool) -> leaves::utils::Answer
+fn eight_at(part: &[u8], place: usize, big: bool) -> utils::Checked
     ensures { λ r. ⌜ r ≡ numberAt 8 big (now (part .entry)) place ⌝ }
 {
     read_number(part, place, FramingOffsetSize::U64, big)
 }
 
 // The number of a width at a place.
-fn number_at(part: &[u8], place: usize, big: bool, width: usize) -> leaves::utils::Answer
+fn number_at(part: &[u8], place: usize, big: bool, width: usize) -> utils::Checked
     ensures { λ r. ⌜ (Aligns width → r ≡ numberAt width big (now (part .entry)) place) ⌝ }
 {
     match width {
@@ -306,24 +307,19 @@ fn end_padding(
 }
 
 // The offset before an end of a structure's table, over a part whose structure begins at lead.
-fn offset_before(
-    part: &[u8],
-    lead: usize,
-    size: FramingOffsetSize,
-    end: usize,
-) -> leaves::utils::Answer
+fn offset_before(part: &[u8], lead: usize, size: FramingOffsetSize, end: usize) -> utils::Checked
     requires { ⌜ end ≤ length (now part) ⌝ }
     ensures { λ r. ⌜ r ≡ offsetAnswer lead (widthOf size) end (now (part .entry)) ⌝ }
 {
     let width = size.width();
     if end < lead {
-        return leaves::utils::Answer {
+        return utils::Checked {
             refusal: 3,
             value: 0,
         };
     }
     if end < width {
-        return leaves::utils::Answer {
+        return utils::Checked {
             refusal: 3,
             value: 0,
         };

@@ -5,10 +5,10 @@ use crate::number;
 use crate::number_at;
 use crate::two_at;
 use crate::wide;
-use leaves::container_depths::ContainerDepths;
-use leaves::de::parse_padding;
-use leaves::framing_offsets::FramingOffsets;
-use leaves::framing_offsets::next;
+use container_depths::ContainerDepths;
+use de::parse_padding;
+use framing_offsets::FramingOffsets;
+use framing_offsets::next;
 ghost use mathlib.Core.Path.{_≡_};
 ghost use mathlib.Core.Bool.{Bool, true};
 ghost use Prim.Native.Nat.{ℕ, _+_, _-_, _≤_, _<_, min};
@@ -18,9 +18,9 @@ ghost use Rattle.meaning.specs.Offsets.{endsOf};
 ghost use Rattle.meaning.specs.Outcome.{chain, passing};
 ghost use Rattle.meaning.specs.Reading.{child, childStep, readNumber, readMaybe, elements as elementsIn, elementsTo};
 ghost use Rattle.meaning.specs.Padding.{Aligns};
-ghost use Rattle.leaves.specs.Standing.{numberAt};
-ghost use Rattle.leaves.specs.Opening.{depthsOf};
-ghost use Rattle.leaves.specs.Tables.{tableIn};
+ghost use Rattle.byte_order.specs.Standing.{numberAt};
+ghost use Rattle.container_depths.specs.Opening.{depthsOf};
+ghost use Rattle.framing_offsets.specs.Tables.{tableIn};
 ghost use Rattle.reader.specs.Answers.{Done};
 ghost use Rattle.reader.specs.Places.{Stands};
 ghost use Rattle.reader.specs.Runs.{countedOf, numbersFrom};
@@ -155,7 +155,7 @@ pub(crate) fn numbers(
 }
 
 // The number of a reading. The wall's readings have two bytes.
-fn reading_number(part: &[u8], place: usize, big: bool, width: usize) -> leaves::utils::Answer
+fn reading_number(part: &[u8], place: usize, big: bool, width: usize) -> utils::Checked
     ensures { λ r. ⌜ (Aligns width → r ≡ numberAt width big (now (part .entry)) place) ⌝ }
 {
     if width == 2 {

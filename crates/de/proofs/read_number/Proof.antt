@@ -1,6 +1,6 @@
 use mathlib.Core.Path.{_∙_}
 use borrow.Author.Needs.{needs}
-use Rattle.numbers.proofs.Standings.{numberOf-is}
+use Rattle.byte_order.proofs.Standings.{numberOf-is}
 use Rattle.framing_offset_size.proofs.WidthLaws.{width-aligns}
 use Rattle.de.proofs.read_number.Statement.{statement}
 use Rattle.de.proofs.read_number.Tie as tie

@@ -7,8 +7,8 @@ use mathlib.Core.Path.{refl, ap, sym, _∙_}
 use mathlib.Core.Bool.{false, false≢true}
 use Prim.Native.Nat.{ℕ, _+_, _-_, _*_, _<_}
 use lib.ListN.{length, drop, length-take, length-drop}
-use Rattle.leaves.specs.Opening.{depthsOf}
-use Rattle.leaves.specs.Tables.{tableIn}
+use Rattle.container_depths.specs.Opening.{depthsOf}
+use Rattle.framing_offsets.specs.Tables.{tableIn}
 use Rattle.meaning.specs.Offsets.{endsOf, encodedWidth}
 use Rattle.reader.specs.Places.{itemStep}
 use Rattle.reader.proofs.Answers.{denied, granted, within-default}
@@ -70,18 +70,18 @@ use Rattle.reader.proofs.+array+body+child_value+container+elements+fie
 use Rattle.reader.proofs.variant.Reads as variant
 use Rattle.reader.proofs.variant.Kinds as variant-kinds
 use Rattle.reader.proofs.+array+body+child_value+container+elements+fields+fixed_key+framed+last_field+maybe+step+structure+text_key+value+variant.Lts-variant as variant-lts
-use Rattle.leaves.proofs.container_depths.ContainerDepths.inc_array.Reads as inc-array-reads
-use Rattle.leaves.proofs.container_depths.ContainerDepths.inc_maybe.Reads as inc-maybe-reads
-use Rattle.leaves.proofs.container_depths.ContainerDepths.inc_structure.Reads as inc-structure-reads
-use Rattle.leaves.proofs.container_depths.ContainerDepths.inc_variant.Reads as inc-variant-reads
-use Rattle.leaves.proofs.de.parse_padding.Reads as parse-padding-reads
-use Rattle.leaves.proofs.de.text.Reads as text-reads
-use Rattle.leaves.proofs.de.text_refusal.Reads as text-refusal-reads
-use Rattle.leaves.proofs.framing_offset_size.FramingOffsetSize.for_encoded_container.Reads as for-encoded-container-reads
-use Rattle.leaves.proofs.framing_offset_size.FramingOffsetSize.read_last_offset_from_buffer.Reads as read-last-offset-from-buffer-reads
-use Rattle.leaves.proofs.framing_offset_size.FramingOffsetSize.width.Reads as width-reads
-use Rattle.leaves.proofs.framing_offsets.from_encoded_array.Reads as from-encoded-array-reads
-use Rattle.leaves.proofs.framing_offsets.next.Reads as next-reads
+use Rattle.container_depths.proofs.ContainerDepths.inc_array.Reads as inc-array-reads
+use Rattle.container_depths.proofs.ContainerDepths.inc_maybe.Reads as inc-maybe-reads
+use Rattle.container_depths.proofs.ContainerDepths.inc_structure.Reads as inc-structure-reads
+use Rattle.container_depths.proofs.ContainerDepths.inc_variant.Reads as inc-variant-reads
+use Rattle.de.proofs.parse_padding.Reads as parse-padding-reads
+use Rattle.texts.proofs.text.Reads as text-reads
+use Rattle.texts.proofs.text_refusal.Reads as text-refusal-reads
+use Rattle.framing_offset_size.proofs.FramingOffsetSize.for_encoded_container.Reads as for-encoded-container-reads
+use Rattle.framing_offset_size.proofs.FramingOffsetSize.read_last_offset_from_buffer.Reads as read-last-offset-from-buffer-reads
+use Rattle.framing_offset_size.proofs.FramingOffsetSize.width.Reads as width-reads
+use Rattle.framing_offsets.proofs.from_encoded_array.Reads as from-encoded-array-reads
+use Rattle.framing_offsets.proofs.next.Reads as next-reads
 use Rattle.reader.proofs.boolean.Reads as boolean-reads
 use Rattle.reader.proofs.child_key.Reads as child-key-reads
 use Rattle.reader.proofs.close.Reads as close-reads

@@ -5,8 +5,8 @@ use Rattle.leaves_check.proofs.calls.print_offsets.Statement.{statement
 use Rattle.leaves_check.proofs.calls.print_offsets.Tie as tie
 use Rattle.leaves_check.proofs.calls.print_offsets.Reads as reads
 use Rattle.leaves_check.proofs.calls.print_offsets.Lts as lts
-use Rattle.leaves.proofs.framing_offsets.first.Reads as first-reads
-use Rattle.leaves.proofs.framing_offsets.next.Reads as next-reads
+use Rattle.framing_offsets.proofs.first.Reads as first-reads
+use Rattle.framing_offsets.proofs.next.Reads as next-reads
 use Rattle.leaves_check.proofs.print.then.Reads as then-reads
 
 abbrev Inv-loop : tie.InvT-loop

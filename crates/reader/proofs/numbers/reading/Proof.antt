@@ -9,8 +9,8 @@ use Rattle.reader.proofs.numbers.reading.Statement.{statement}
 use Rattle.reader.proofs.numbers.reading.Tie as tie
 use Rattle.reader.proofs.numbers.reading.Reads as reads
 use Rattle.reader.proofs.numbers.reading.Lts as lts
-use Rattle.leaves.proofs.container_depths.ContainerDepths.inc_maybe.Reads as inc-maybe-reads
-use Rattle.leaves.proofs.de.parse_padding.Reads as parse-padding-reads
+use Rattle.container_depths.proofs.ContainerDepths.inc_maybe.Reads as inc-maybe-reads
+use Rattle.de.proofs.parse_padding.Reads as parse-padding-reads
 use Rattle.reader.proofs.emit.Reads as emit-reads
 use Rattle.reader.proofs.wide.Reads as wide-reads
 

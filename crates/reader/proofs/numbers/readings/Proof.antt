@@ -6,14 +6,14 @@ use lib.ListN.{length, drop, length-drop}
 use borrow.Author.Needs.{needs}
 use Rattle.meaning.specs.Offsets.{endsOf}
 use Rattle.meaning.specs.Reading.{childStep, readNumber, readMaybe}
-use Rattle.leaves.specs.Opening.{depthsOf}
-use Rattle.leaves.specs.Tables.{tableIn}
+use Rattle.container_depths.specs.Opening.{depthsOf}
+use Rattle.framing_offsets.specs.Tables.{tableIn}
 use Rattle.reader.proofs.Arrays.{tail, ends-below, next-end, length-ends, FramedLeft, framed-begin, framed-end, framed-stop, framed-next}
 use Rattle.reader.proofs.numbers.readings.Statement.{statement}
 use Rattle.reader.proofs.numbers.readings.Tie as tie
 use Rattle.reader.proofs.numbers.readings.Reads as reads
 use Rattle.reader.proofs.numbers.readings.Lts as lts
-use Rattle.leaves.proofs.framing_offsets.next.Reads as next-reads
+use Rattle.framing_offsets.proofs.next.Reads as next-reads
 use Rattle.reader.proofs.numbers.child_reading.Reads as child-reading-reads
 
 abbrev Inv-loop : tie.InvT-loop

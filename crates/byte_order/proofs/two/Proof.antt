@@ -1,0 +1,61 @@
+use Rattle.meaning.proofs.NumberSteps.{spelled-byte, first-high, first-low}
+use native.Mathlib.Omega.{arith}
+use Prim.Native.Nat.{_+_}
+use mathlib.Core.Path.{sym, _∙_}
+use borrow.Author.Needs.{needs}
+use Rattle.byte_order.proofs.two.Statement.{statement}
+use Rattle.byte_order.proofs.two.Tie as tie
+use Rattle.byte_order.proofs.two.Reads as reads
+use Rattle.byte_order.proofs.two.Lts as lts
+use Rattle.byte_order.proofs.wide.Reads as wide-reads
+
+shared-slice-read-wide : tie.Need-shared-slice-read-wide
+shared-slice-read-wide c = search needs
+
+wide-requires : tie.Need-wide-requires
+wide-requires c κs = search needs
+
+add-wide : tie.Need-add-wide
+add-wide c = search needs
+
+shared-slice-read-wide-2 : tie.Need-shared-slice-read-wide-2
+shared-slice-read-wide-2 c = search needs
+
+wide-requires-2 : tie.Need-wide-requires-2
+wide-requires-2 c κs = search needs
+
+mul-result : tie.Need-mul-result
+mul-result c = search needs
+
+add-result : tie.Need-add-result
+add-result c = search needs
+
+returns : tie.Need-returns
+returns c =
+    (first-high 1 (c .before .before .before .before .before .before .args .place) (c .before .before .before .before .before .before .args .part .now) (omega arith) (c .if1 .taken) (c .before .before .before .wide .ensures .0 ∙ sym (spelled-byte (c .before .before .before .before .before .before .args .big) (c .before .before .before .before .before .before .args .place) (c .before .before .before .before .before .before .args .part .now) (omega arith))) (c .before .wide2 .ensures .0 ∙ sym (spelled-byte (c .before .before .before .before .before .before .args .big) (c .before .before .before .before .before .before .args .place + 1) (c .before .before .before .before .before .before .args .part .now) (omega arith))), omega arith)
+
+mul-result-2 : tie.Need-mul-result-2
+mul-result-2 c = search needs
+
+add-result-2 : tie.Need-add-result-2
+add-result-2 c = search needs
+
+returns-2 : tie.Need-returns-2
+returns-2 c =
+    (first-low 1 (c .before .before .before .before .before .before .args .place) (c .before .before .before .before .before .before .args .part .now) (omega arith) (c .if1 .left) (c .before .before .before .wide .ensures .0 ∙ sym (spelled-byte (c .before .before .before .before .before .before .args .big) (c .before .before .before .before .before .before .args .place) (c .before .before .before .before .before .before .args .part .now) (omega arith))) (c .before .wide2 .ensures .0 ∙ sym (spelled-byte (c .before .before .before .before .before .before .args .big) (c .before .before .before .before .before .before .args .place + 1) (c .before .before .before .before .before .before .args .part .now) (omega arith))), omega arith)
+
+pub two-spec : {M : Type 1} → statement M
+two-spec =
+    tie.close
+    (tie.spec
+    shared-slice-read-wide
+    wide-requires
+    add-wide
+    shared-slice-read-wide-2
+    wide-requires-2
+    mul-result
+    add-result
+    returns
+    mul-result-2
+    add-result-2
+    returns-2)

@@ -1,7 +1,0 @@
-pub mod Answers
-pub mod Letters
-pub mod Opening
-pub mod Paddings
-pub mod Standing
-pub mod Tables
-pub mod Widths

@@ -1,26 +1,48 @@
 -- Runs of letters of one byte, and a text judged letter by letter. Assumes nothing.
 use mathlib.Core.Path.{_≡_, refl, sym, _∙_}
 use mathlib.Core.List.{List, [], _∷_}
+use mathlib.Core.Bool.{Bool, true, false}
 use Prim.Native.Nat.{ℕ, _+_, _≤_, _<_}
 use native.Mathlib.Omega.{arith}
 use lib.ListN.{length, drop, getD}
-use borrow.Author.Tests.{eq-eqb}
 use Rattle.meaning.specs.Texts.{noNul, Wanted, letter, afterByte, utf8From, utf8}
 use Rattle.meaning.proofs.TextSteps.{nul-next, utf8-next, following-ascii, after-letter}
-use Rattle.texts.specs.Letters.{Plain}
+use Rattle.texts.specs.Letters.{Plain, PlainIf}
+
+pub false-is : false ≡ true → ⊥
+false-is t = let z : _≡_ {A = ℕ} 0 1 = cc in omega arith
 
 pub plain-begin : (l : List ℕ) (i : ℕ) → i ≤ length l → Plain l i i
 plain-begin l i h = record { from = omega arith; to = h; nul = refl; letters = refl }
 
-pub plain-next : (l : List ℕ) (i j : ℕ) → Plain l i j → j < length l → (getD l j 0 ≡ 0 → ⊥) → getD l j 0 ≤ 127 → Plain l i (j + 1)
-plain-next l i j p h z a =
+pub plain-next : (l : List ℕ) (i j : ℕ) → Plain l i j → j < length l → (1 ≤ getD l j 0) × (getD l j 0 ≤ 127) → Plain l i (j + 1)
+plain-next l i j p h a =
     let f = p .from in
+    let low = a .0 in
     record {
       from = omega arith;
       to = omega arith;
-      nul = p .nul ∙ nul-next l j h z;
-      letters = p .letters ∙ utf8-next l j h letter ∙ rw (after-letter letter (getD l j 0) refl ∙ following-ascii (getD l j 0) a);
+      nul = p .nul ∙ nul-next l j h (λ z. omega arith);
+      letters = p .letters ∙ utf8-next l j h letter ∙ rw (after-letter letter (getD l j 0) refl ∙ following-ascii (getD l j 0) (a .1));
     }
+
+-- one run behind another, both of the same number of bytes
+pub plain-on : (l : List ℕ) (i j k : ℕ) → Plain l i j → Plain l j k → Plain l i k
+plain-on l i j k p q =
+    let f = p .from in
+    let g = q .from in
+    record { from = omega arith; to = q .to; nul = p .nul ∙ q .nul; letters = p .letters ∙ q .letters }
+
+pub plain-halves : (l : List ℕ) (i w : ℕ) {b c : Bool} → PlainIf b l i (i + w) → PlainIf c l (i + w) (i + w + w) → b ≡ true → PlainIf c l i (i + (w + w))
+plain-halves l i w p q t u =
+    let e : i + w + w ≡ i + (w + w) = omega arith in
+    rw e at (plain-on l i (i + w) (i + w + w) (p t) (q u))
+
+pub plain-byte : (l : List ℕ) (i : ℕ) {b : Bool} → i < length l → (b ≡ true → (1 ≤ getD l i 0) × (getD l i 0 ≤ 127)) → PlainIf b l i (i + 1)
+plain-byte l i h e t = plain-next l i i (plain-begin l i (omega arith)) h (e t)
+
+pub plain-false : (l : List ℕ) (i j : ℕ) → PlainIf false l i j
+plain-false l i j t = absurd (false-is t)
 
 -- between two letters only the count counts
 pub letter-ends : (s : Wanted) (l : List ℕ) → s .count ≡ 0 → utf8From s l ≡ utf8From letter l

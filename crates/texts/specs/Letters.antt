@@ -1,6 +1,7 @@
 -- What a letter still wants, as code holds it, and runs of letters of one byte. Assumes nothing: these are definitions.
 use mathlib.Core.Path.{_≡_}
 use mathlib.Core.List.{List}
+use mathlib.Core.Bool.{Bool, true}
 use Prim.Native.Nat.{ℕ, _≤_}
 use lib.ListN.{length, drop}
 use Rattle.meaning.specs.Texts as texts
@@ -15,3 +16,6 @@ pub record Plain (l : List ℕ) (i j : ℕ) : Type 0 where
   pub to : j ≤ length l
   pub nul : texts.noNul (drop i l) ≡ texts.noNul (drop j l)
   pub letters : texts.utf8From texts.letter (drop i l) ≡ texts.utf8From texts.letter (drop j l)
+
+abbrev pub PlainIf : Bool → List ℕ → ℕ → ℕ → Type 0
+PlainIf b l i j = b ≡ true → Plain l i j

@@ -2,10 +2,11 @@
 use meaning::refusals::NOT_UTF8;
 use meaning::refusals::NUL_IN_TEXT;
 ghost use mathlib.Core.Path.{_≡_};
-ghost use Prim.Native.Nat.{_≤_};
+ghost use mathlib.Core.Bool.{true};
+ghost use Prim.Native.Nat.{_+_, _≤_};
 ghost use lib.ListN.{length};
 ghost use Rattle.meaning.specs.Texts.{withoutFinalNul, wanted, following, afterByte, textRefusal};
-ghost use Rattle.texts.specs.Letters.{wantedOf, Plain};
+ghost use Rattle.texts.specs.Letters.{wantedOf, Plain, PlainIf};
 
 // The text of a part: all of it but one final nul. `text_refusal` judges it.
 pub fn text(part: &[u8]) -> &[u8]
@@ -86,18 +87,76 @@ fn after_byte(wanted: Wanted, byte: u8) -> Wanted
     Wanted::new(wanted.count - 1, 128, 191)
 }
 
+// Whether a byte is a letter by itself.
+fn plain(byte: u8) -> bool
+    ensures { λ r. ⌜ (r ≡ true → (1 ≤ byte) × (byte ≤ 127)) ⌝ }
+{
+    if byte == 0 {
+        return false;
+    }
+    byte <= 127
+}
+
+// Whether two, four and eight bytes from a place on are: each looks at all its bytes, so that no branch is taken for each.
+fn plain_two(text: &[u8], i: usize) -> bool
+    requires { ⌜ i + 2 ≤ length (now text) ⌝ }
+    ensures { λ r. ⌜ PlainIf r (now (text .entry)) i (i + 2) ⌝ }
+{
+    let first = plain(text[i]);
+    let second = plain(text[i + 1]);
+    if first {
+        return second;
+    }
+    false
+}
+
+fn plain_four(text: &[u8], i: usize) -> bool
+    requires { ⌜ i + 4 ≤ length (now text) ⌝ }
+    ensures { λ r. ⌜ PlainIf r (now (text .entry)) i (i + 4) ⌝ }
+{
+    let first = plain_two(text, i);
+    let second = plain_two(text, i + 2);
+    if first {
+        return second;
+    }
+    false
+}
+
+fn plain_eight(text: &[u8], i: usize) -> bool
+    requires { ⌜ i + 8 ≤ length (now text) ⌝ }
+    ensures { λ r. ⌜ PlainIf r (now (text .entry)) i (i + 8) ⌝ }
+{
+    let first = plain_four(text, i);
+    let second = plain_four(text, i + 4);
+    if first {
+        return second;
+    }
+    false
+}
+
+// As far as eight bytes at a time go, from a place on.
+fn plain_eights(text: &[u8], start: usize) -> usize
+    requires { ⌜ start ≤ length (now text) ⌝ }
+    ensures { λ r. ⌜ Plain (now (text .entry)) start r ⌝ }
+{
+    let mut i = start;
+    while 8 <= text.len() - i {
+        if !plain_eight(text, i) {
+            return i;
+        }
+        i += 8;
+    }
+    i
+}
+
 // Where a run of letters of one byte ends, from a place on.
 fn plain_end(text: &[u8], start: usize) -> usize
     requires { ⌜ start ≤ length (now text) ⌝ }
     ensures { λ r. ⌜ Plain (now (text .entry)) start r ⌝ }
 {
-    let mut i = start;
+    let mut i = plain_eights(text, start);
     while i < text.len() {
-        let byte = text[i];
-        if byte == 0 {
-            return i;
-        }
-        if 127 < byte {
+        if !plain(text[i]) {
             return i;
         }
         i += 1;

@@ -1,8 +1,10 @@
 use Prim.Native.Nat.{_-_}
 use native.Mathlib.Omega.{arith}
 use lib.ListN.{length}
+use borrow.Author.Needs.{needs}
+use borrow.Author.Tests.{not-false}
 use Rattle.texts.specs.Letters.{Plain}
-use Rattle.texts.proofs.Runs.{plain-begin, plain-next}
+use Rattle.texts.proofs.Runs.{plain-next}
 use Rattle.texts.proofs.plain_end.Statement.{statement}
 use Rattle.texts.proofs.plain_end.Tie as tie
 
@@ -12,17 +14,20 @@ Inv-loop text start i₀ i = Plain text start i
 abbrev μ-loop : tie.MeasureT-loop
 μ-loop text start i₀ i = length text - i
 
-loop-holds : tie.Need-loop-holds Inv-loop μ-loop
-loop-holds c = plain-begin _ _ (c .pre)
+plain-eights-requires : tie.Need-plain-eights-requires Inv-loop μ-loop
+plain-eights-requires c κs = search needs
 
-shared-slice-read-byte : tie.Need-shared-slice-read-byte Inv-loop μ-loop
-shared-slice-read-byte c = omega arith
+loop-holds : tie.Need-loop-holds Inv-loop μ-loop
+loop-holds c = c .plain-eights .ensures
+
+shared-slice-read-plain : tie.Need-shared-slice-read-plain Inv-loop μ-loop
+shared-slice-read-plain c = omega arith
+
+plain-requires : tie.Need-plain-requires Inv-loop μ-loop
+plain-requires c κs = search needs
 
 returns : tie.Need-returns Inv-loop μ-loop
-returns c = c .before .before .before .loop .inv
-
-returns-2 : tie.Need-returns-2 Inv-loop μ-loop
-returns-2 c = c .before .before .before .before .loop .inv
+returns c = c .before .before .before .before .loop .inv
 
 add-i : tie.Need-add-i Inv-loop μ-loop
 add-i c = omega arith
@@ -31,10 +36,10 @@ loop-less : tie.Need-loop-less Inv-loop μ-loop
 loop-less c = omega arith
 
 loop-again : tie.Need-loop-again Inv-loop μ-loop
-loop-again c = plain-next _ _ _ (c .before .before .before .before .loop .inv) (c .before .before .before .loop-test .taken) (c .before .if1 .left) (c .if2 .left)
+loop-again c = plain-next _ _ _ (c .before .before .before .before .loop .inv) (c .before .before .before .loop-test .taken) (c .before .plain .ensures (not-false _ (c .if1 .left)))
 
-returns-3 : tie.Need-returns-3 Inv-loop μ-loop
-returns-3 c = c .before .loop .inv
+returns-2 : tie.Need-returns-2 Inv-loop μ-loop
+returns-2 c = c .before .loop .inv
 
 pub plain-end-spec : {M : Type 1} → statement M
 plain-end-spec =
@@ -42,11 +47,12 @@ plain-end-spec =
     (tie.spec
     Inv-loop
     μ-loop
+    plain-eights-requires
     loop-holds
-    shared-slice-read-byte
+    shared-slice-read-plain
+    plain-requires
     returns
-    returns-2
     add-i
     loop-less
     loop-again
-    returns-3)
+    returns-2)

@@ -12,8 +12,9 @@ use Rattle.meaning.specs.Refusals.{outOfBounds, noValue}
 use Rattle.meaning.specs.Padding.{isAlignment, Aligns}
 use Rattle.meaning.specs.Numbers.{ordered, spelled}
 use Rattle.meaning.specs.Reading.{numberIn}
+use Rattle.meaning.specs.Parts.{holds}
 use Rattle.utils.specs.declared.Checked.{Checked}
-use Rattle.utils.specs.Checks.{passed, failed, holds, toldBy}
+use Rattle.utils.specs.Checks.{passed, failed, toldBy}
 use Rattle.byte_order.specs.Standing.{numberAt, numberOf}
 
 -- a number in closed form

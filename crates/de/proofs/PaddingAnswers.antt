@@ -12,8 +12,9 @@ use Rattle.meaning.specs.Limits.{largestNumber}
 use Rattle.meaning.specs.Refusals.{outOfBounds, paddingNotZero, noValue}
 use Rattle.meaning.specs.Padding.{isAlignment, padding, leadingZeros}
 use Rattle.meaning.specs.Reading.{paddingOf, pad}
+use Rattle.meaning.specs.Parts.{holds}
 use Rattle.utils.specs.declared.Checked.{Checked}
-use Rattle.utils.specs.Checks.{passed, failed, holds, usedBy, paddingFor}
+use Rattle.utils.specs.Checks.{passed, failed, usedBy, paddingFor}
 use Rattle.de.specs.Parts.{paddingAt}
 
 -- the padding that is due, as code goes: a refused alignment has none due and stays

@@ -12,8 +12,9 @@ use Rattle.meaning.specs.Choice.{pick}
 use Rattle.meaning.specs.Refusals.{outOfBounds}
 use Rattle.meaning.specs.Depths.{noneOpen}
 use Rattle.meaning.specs.Reading.{readBool}
-use Rattle.utils.specs.Checks.{passed, failed, holds, toldBy}
-use Rattle.de.specs.Parts.{placeAfter, partAt, boolAt}
+use Rattle.meaning.specs.Parts.{holds, partAt}
+use Rattle.utils.specs.Checks.{passed, failed, toldBy}
+use Rattle.de.specs.Parts.{placeAfter, boolAt}
 
 -- a bool in closed form
 pub boolAt-is : (l : List ℕ) (place : ℕ) → boolAt l place ≡ pick (holds l place 1) (passed (pick (eqb (getD l place 0) 0) 0 1)) (failed outOfBounds)

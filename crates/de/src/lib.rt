@@ -11,9 +11,10 @@ ghost use Prim.Native.Nat.{_+_, _≤_};
 ghost use lib.Dec.{leb};
 ghost use lib.ListN.{length, drop};
 ghost use Rattle.meaning.specs.Padding.{leadingZeros};
+ghost use Rattle.meaning.specs.Parts.{partAt};
 ghost use Rattle.byte_order.specs.Standing.{numberAt};
 ghost use Rattle.framing_offset_size.specs.Widths.{widthOf};
-ghost use Rattle.de.specs.Parts.{paddingAt, placeAfter, partAt, boolAt};
+ghost use Rattle.de.specs.Parts.{paddingAt, placeAfter, boolAt};
 
 // Whether so many bytes at a place are 0.
 fn zeros(part: &[u8], place: usize, count: usize) -> bool

@@ -7,10 +7,11 @@ use lib.ListN.{getD}
 use Rattle.meaning.specs.Choice.{pick}
 use Rattle.meaning.specs.Refusals.{outOfBounds, missingFramingOffset}
 use Rattle.meaning.specs.Offsets.{Table, tableFrom, tableOf, endsOf, tableStands}
+use Rattle.meaning.specs.Parts.{holds}
 use Rattle.utils.specs.declared.Checked.{Checked}
 use Rattle.framing_offsets.specs.declared.FramingOffsets.{FramingOffsets}
 use Rattle.framing_offsets.specs.declared.EncodedArray.{EncodedArray}
-use Rattle.utils.specs.Checks.{passed, failed, holds}
+use Rattle.utils.specs.Checks.{passed, failed}
 use Rattle.framing_offset_size.specs.Widths.{widthOf}
 
 abbrev pub tableIn : FramingOffsets → Table

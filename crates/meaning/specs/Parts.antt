@@ -6,7 +6,7 @@ use lib.Dec.{leb}
 use lib.ListN.{length, take, drop}
 use Rattle.meaning.specs.Choice.{pick}
 
--- so many bytes stand at a place
+-- so many bytes stand at a place; a sum past 64 bits is past every frame
 abbrev pub holds : List ℕ → ℕ → ℕ → Bool
 holds l place len = leb (place + len) (length l)
 

@@ -7,7 +7,7 @@ use native.Mathlib.Omega.{arith}
 use lib.Dec.{leb}
 use lib.ListN.{length}
 use borrow.Author.Tests.{le-leb, lt-leb, leb-true, leb-false}
-use Rattle.utils.specs.Checks.{holds}
+use Rattle.meaning.specs.Parts.{holds}
 
 pub holds-not : (l : List ℕ) (place len : ℕ) → length l < place → false ≡ holds l place len
 holds-not l place len h = sym (lt-leb (place + len) (length l) (omega arith))

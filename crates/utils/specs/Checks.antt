@@ -1,10 +1,7 @@
 -- What a leaf answers: document 01's number of a refusal with the value 0, or 0 with a value; and what it judges. Assumes nothing: these
 -- are definitions.
 use mathlib.Core.List.{List, [], _∷_}
-use mathlib.Core.Bool.{Bool}
-use Prim.Native.Nat.{ℕ, _+_}
-use lib.Dec.{leb}
-use lib.ListN.{length}
+use Prim.Native.Nat.{ℕ}
 use Rattle.meaning.specs.Choice.{pick}
 use Rattle.meaning.specs.Refusals.{noValue}
 use Rattle.meaning.specs.Padding.{isAlignment, padding}
@@ -28,10 +25,6 @@ payload (e ∷ es) = e .payload
 
 abbrev pub toldBy : Outcome → Checked
 toldBy o = record { refusal = o .refusal; value = payload (o .events) }
-
--- so many bytes stand at a place; a sum past 64 bits is past every frame
-abbrev pub holds : List ℕ → ℕ → ℕ → Bool
-holds l place len = leb (place + len) (length l)
 
 -- the padding at a value, for an alignment of 1, 2, 4 or 8; any other is 17
 unfoldable pub paddingFor : ℕ → ℕ → Checked

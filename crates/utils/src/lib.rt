@@ -4,7 +4,8 @@ use std::num::wrapping_add_usize;
 use std::num::wrapping_sub_usize;
 ghost use mathlib.Core.Path.{_≡_};
 ghost use Rattle.meaning.specs.Padding.{isAlignment};
-ghost use Rattle.utils.specs.Checks.{passed, failed, holds, paddingFor};
+ghost use Rattle.meaning.specs.Parts.{holds};
+ghost use Rattle.utils.specs.Checks.{passed, failed, paddingFor};
 
 // A refusal's number, 0 where there is none, and a value, 0 where it is refused.
 pub struct Checked {

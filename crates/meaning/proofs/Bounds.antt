@@ -26,7 +26,7 @@ use Rattle.meaning.specs.Reading
 use Rattle.meaning.specs.Reading.{Reader, child, within, paddingOf, textAs, readText, readBool, numberIn, endByte, presentIn, maybeIn, further, elements, elementsTo, Step, tabled, arrayBody, arrayIn, childStep, Field, offsetStands, fieldOffset, padded, lastNul, separator, remaining, variantValue, variantType, variantTyped, variantBody, variantIn, pad, readNumber, readBasic, readMaybe, readArray, endPadding, fieldsIn, structureBody, structureIn, readStructure, valueFrom, fixedKey, valueBefore, keyTo, textKey, entryFrom, readEntry, entryStep, readVariant, readTree, readers, reading}
 use Rattle.meaning.specs.Limits.{largestFrame, mostVariants}
 use Rattle.meaning.specs.Calls.{frameOf, frameReading}
-use Rattle.meaning.proofs.Tests.{both-left, both-right, holds}
+use Rattle.meaning.proofs.Tests.{both-left, both-right, from-test}
 use Rattle.meaning.proofs.DepthLaws.{limits}
 use Rattle.meaning.proofs.OffsetLaws.{encodedWidth-positive}
 use Rattle.meaning.proofs.TypeLaws.{number-positive}
@@ -524,7 +524,7 @@ variant-bounded position read w d k l = kept-behind position 8 k l (variantIn re
 -- ---- all types
 
 left : (x y : Bool) → T (x && y) → x ≡ true
-left x y t = holds x (both-left x y t)
+left x y t = from-test x (both-left x y t)
 
 weaken : {position : ℕ} {x y : Bool} {fs : List Field} → (T y → T x) → Row position x fs → Row position y fs
 weaken h end = end
@@ -547,7 +547,7 @@ module _ (position : ℕ) (big : Bool) (variants : Reader) (hv : Bounded false v
     tree-bounded (structure ts) = structure-bounded position (largestAlignment ts) (allFixed ts) (readers position big variants ts) (row-bounded ts) (some-reader ts)
 
     row-bounded : (ts : Fields) → Row position (allFixed ts) (readers position big variants ts)
-    row-bounded (last t) = more (tree-bounded t) (λ z. holds (fixed t) z) end
+    row-bounded (last t) = more (tree-bounded t) (λ z. from-test (fixed t) z) end
     row-bounded (next t ts) = more (tree-bounded t) (λ z. left (fixed t) (allFixed ts) z) (weaken (both-right (fixed t) (allFixed ts)) (row-bounded ts))
 
     some-reader : (ts : Fields) → 0 < length (readers position big variants ts)

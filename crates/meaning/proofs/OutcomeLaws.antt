@@ -15,7 +15,7 @@ use Rattle.meaning.specs.Events.{Event, opening, closing}
 use Rattle.meaning.specs.Outcome.{Outcome, outcome, done, after, chain, passing, closingAt, enclosed}
 use Rattle.meaning.specs.Reading.{child, within, paddingOf, pad}
 use Rattle.meaning.proofs.PaddingLaws.{leadingZeros-zeros}
-use Rattle.meaning.proofs.Tests.{holds}
+use Rattle.meaning.proofs.Tests.{from-test}
 
 -- one reading and then another, both done
 pub chain-done : (o : Outcome) (f : ℕ → Outcome) (u v w : ℕ) (e g h : List Event) → o ≡ done u e → f u ≡ done v g → w ≡ u + v → h ≡ e ++ g → chain o f ≡ done w h
@@ -31,7 +31,7 @@ enclosed-done kind p u v o es h e =
 
 pub within-done : {x : Outcome} (d : Depths) (p : ℕ) (inside : Depths → Outcome) → T (eqb (depthRefusal d) 0) → inside d ≡ x → within d p inside ≡ x
 unfolding within
-within-done d p inside t h = rw (holds (eqb (depthRefusal d) 0) t) h
+within-done d p inside t h = rw (from-test (eqb (depthRefusal d) 0) t) h
 
 -- padding that stands is passed
 pub pad-done : (position a k p : ℕ) (l : List ℕ) → p ≡ padding (position + k) a → pad position a k (zeros p ++ l) ≡ done p []

@@ -23,7 +23,7 @@ use Rattle.meaning.specs.Events.{Event, event, textEvent, present, nothi
 use Rattle.meaning.specs.Written.{Piece, fits, stop, layout, eventsFrom, ends, deeper, bit, basicPiece, maybePiece, enclosing, arrayBytes, arrayPiece}
 use Rattle.meaning.specs.Outcome.{Outcome, done, after, chain, unused, passing, enclosed}
 use Rattle.meaning.specs.Reading.{Reader, child, within, textAs, readText, readBool, numberIn, readNumber, readBasic, endByte, presentIn, maybeIn, readMaybe, further, elements, elementsTo, Step, tabled, arrayBody, arrayIn, readArray, childStep}
-use Rattle.meaning.proofs.Tests.{both-left, both-right, holds}
+use Rattle.meaning.proofs.Tests.{both-left, both-right, from-test}
 use Rattle.meaning.proofs.NumberLaws.{length-bytes, value-bytes, ordered-twice, length-ordered}
 use Rattle.meaning.proofs.PaddingLaws.{padding-shift, padding-aligned, padding-none}
 use Rattle.meaning.proofs.OffsetLaws.{Fits, Chosen, writtenWidth-chosen}
@@ -109,7 +109,7 @@ module _ (position : ℕ) where
       let z : p ≡ 0 = omega arith in
       let m : length (v ++ (0 ∷ [])) + 0 ≡ u = omega arith in
       let n : q ≡ k = omega arith in
-      rw (z, t, append-nil, without-nul, holds (eqb (textRefusal v) 0) (both-left (eqb (textRefusal v) 0) true f), m, n)
+      rw (z, t, append-nil, without-nul, from-test (eqb (textRefusal v) 0) (both-left (eqb (textRefusal v) 0) true f), m, n)
 
   -- ---- maybes: nothing; something of fixed size; something else, and a nul
 

@@ -21,9 +21,9 @@ use Rattle.meaning.specs.Events.{Event, textEvent}
 use Rattle.meaning.specs.Written.{Piece, fits, deeper, enclosing, variantPiece}
 use Rattle.meaning.specs.Outcome.{Outcome, done, chain, enclosed}
 use Rattle.meaning.specs.Reading.{Reader, child, textAs, lastNul, separator, remaining, variantValue, variantType, variantTyped, variantBody, variantIn, readVariant}
-use Rattle.meaning.proofs.Tests.{both, both-left, both-right}
+use Rattle.meaning.proofs.Tests.{both-left, both-right}
 use Rattle.meaning.proofs.PaddingLaws.{by8, divides-eight}
-use Rattle.meaning.proofs.FitLaws.{held-fits}
+use Rattle.meaning.proofs.FitLaws.{variant-fits}
 use Rattle.meaning.proofs.OutcomeLaws.{chain-done, enclosed-done, within-done, behind-padding, child-between}
 use Rattle.meaning.proofs.TypeTextLaws.{plain, plain-at, plain-typeText, typeText-positive, typeText-noNul, typeText-utf8, typeText-withoutFinalNul, typeOf-typeText}
 use Rattle.meaning.proofs.ReadsBack.{behind-aligned, Reads, Good, reads-here}
@@ -48,7 +48,7 @@ lastNul-behind x y (suc i) p =
     let m : eqb (getD (x ++ (0 ∷ y)) (length x + suc i) 1) 0 ≡ false = rw (getD-append-add x (0 ∷ y) (suc i) 1) (plain-at y i p) in
     rw e (lastNul-miss (length x + suc i) (x ++ (0 ∷ y)) m ∙ rw f (lastNul-behind x y i p))
 
-separator-at : (x y : List ℕ) → T (plain y) → 0 < length y → separator (x ++ (0 ∷ y)) ≡ length x + 1
+pub separator-at : (x y : List ℕ) → T (plain y) → 0 < length y → separator (x ++ (0 ∷ y)) ≡ length x + 1
 separator-at x y p h =
     let e : length (x ++ (0 ∷ y)) - 1 ≡ length x + 1 + (length y - 1) = simp length-append (omega arith) in
     rw e (lastNul-behind x y (length y - 1) p)
@@ -104,13 +104,9 @@ module _ (position : ℕ) (read : Tree → Reader) (t : Tree) {a : ℕ} {fx : Bo
   unfolding variantPiece readVariant
   variant-reads d k p u q r f s tl hp hu hq =
       let b : ℕ = length (c .bytes ++ (0 ∷ typeText t)) in
-      let short = leb (length (typeText t)) 255 in
-      let below = deeper (opened Depth.variant d) (c .shallow) in
-      let v = both-left (short && c .valid) below f in
-      let f₁ = leb→le (length (typeText t)) 255 (both-left short (c .valid) v) in
-      let f₂ = held-fits c (opened Depth.variant d) (both (c .valid) below (both-right short (c .valid) v) (both-right (short && c .valid) below f)) in
+      let h = variant-fits t c d f in
       let s′ : length (c .bytes) ≤ 65536 = omega (arith, length-append (c .bytes) (0 ∷ typeText t)) in
-      rw (tl, append-nil, hq) (behind-padding position 8 k p u b (c .bytes ++ (0 ∷ typeText t)) (variantIn read d k (zeros p ++ (c .bytes ++ (0 ∷ typeText t)))) _ hp (variant-read d k p f₁ f₂ s′ hp) hu)
+      rw (tl, append-nil, hq) (behind-padding position 8 k p u b (c .bytes ++ (0 ∷ typeText t)) (variantIn read d k (zeros p ++ (c .bytes ++ (0 ∷ typeText t)))) _ hp (variant-read d k p (h .short) (h .held) s′ hp) hu)
 
   pub variant-good : Good position (readVariant position read) 8 false (variantPiece t c)
   unfolding variantPiece

@@ -20,7 +20,7 @@ use Rattle.meaning.specs.Reading.{Reader, Field, readBasic, readMaybe, r
 use Rattle.meaning.specs.Limits.{largestFrame, mostVariants}
 use Rattle.meaning.specs.Calls.{frameOf, frameReading}
 use Rattle.meaning.specs.Padding.{Aligns}
-use Rattle.meaning.proofs.Tests.{both-left, both-right, holds}
+use Rattle.meaning.proofs.Tests.{both-left, both-right, from-test}
 use Rattle.meaning.proofs.NumberLaws.{length-bytes, length-ordered}
 use Rattle.meaning.proofs.PaddingLaws.{aligns-max, aligns-positive, Divides, divides-eight, divides-left, divides-right}
 use Rattle.meaning.proofs.TypeLaws.{number-aligned, basic-aligned, aligned, fields-aligned}
@@ -103,7 +103,7 @@ module _ (position : ℕ) (big : Bool) where
   last-good {a} {fx} {read} {c} g = record {
     row = more (g .reads) (sym (g .fixed-is)) (λ k z. rw (g .alignment-is) z) none;
     some-field = omega arith;
-    all-fixed = λ t. cons (g .fixed-is ∙ holds fx t) nil;
+    all-fixed = λ t. cons (g .fixed-is ∙ from-test fx t) nil;
     solid = λ t. rw layout-cons (simp length-append (omega (arith, g .solid t)));
   }
 
@@ -112,7 +112,7 @@ module _ (position : ℕ) (big : Bool) where
   next-good {a} {b} {fx} {fy} {read} {c} {fs} {cs} la lb g r = record {
     row = more (g .reads) (sym (g .fixed-is)) (λ k z. rw (g .alignment-is) (divides-left la lb k z)) (widen (divides-right la lb) (r .row));
     some-field = omega arith;
-    all-fixed = λ t. cons (g .fixed-is ∙ holds fx (both-left fx fy t)) (r .all-fixed (both-right fx fy t));
+    all-fixed = λ t. cons (g .fixed-is ∙ from-test fx (both-left fx fy t)) (r .all-fixed (both-right fx fy t));
     solid = λ t. rw layout-cons (simp length-append (omega (arith, g .solid (both-left fx fy t))));
   }
 

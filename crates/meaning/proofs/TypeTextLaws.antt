@@ -8,7 +8,7 @@ use native.Mathlib.Omega.{arith}
 use lib.Dec.{T, leb, eqb, leb→le}
 use lib.ListN.{length, getD, length-append}
 use borrow.Author.Tests.{le-leb, eq-eqb, ne-eqb, eqb-true, leb-true}
-use Rattle.meaning.proofs.Tests.{both, both-left, both-right, holds}
+use Rattle.meaning.proofs.Tests.{both, both-left, both-right, from-test}
 use Rattle.meaning.specs.Choice.{pick}
 use Rattle.meaning.specs.Texts.{withoutFinalNul, noNul, following, afterByte, utf8From, utf8}
 use Rattle.meaning.specs.Types.{byte, int16, uint16, int32, uint32, int64, uint64, double, string, objectPath, signature, Basic, bool, number, text, Tree, Fields, basic, variant, maybe, array, dictionary, structure, last, next, alignment, largestAlignment, allFixed, rounded, fixedSize, fieldsEnd}
@@ -435,7 +435,7 @@ module _ (x : ℕ) (l : List ℕ) (p : T (plain (x ∷ l))) where
 
   small : leb x 127 ≡ true
   unfolding plain
-  small = holds (leb x 127) (both-right (leb 1 x) (leb x 127) (both-left (leb 1 x && leb x 127) (plain l) p))
+  small = from-test (leb x 127) (both-right (leb 1 x) (leb x 127) (both-left (leb 1 x && leb x 127) (plain l) p))
 
   no-nul : eqb x 0 ≡ false
   unfolding plain

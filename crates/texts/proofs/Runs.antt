@@ -26,13 +26,14 @@ plain-next l i j p h a =
       letters = p .letters ∙ utf8-next l j h letter ∙ rw (after-letter letter (getD l j 0) refl ∙ following-ascii (getD l j 0) (a .1));
     }
 
--- one run behind another, both of the same number of bytes
+-- one run behind another
 pub plain-on : (l : List ℕ) (i j k : ℕ) → Plain l i j → Plain l j k → Plain l i k
 plain-on l i j k p q =
     let f = p .from in
     let g = q .from in
     record { from = omega arith; to = q .to; nul = p .nul ∙ q .nul; letters = p .letters ∙ q .letters }
 
+-- both of the same number of bytes
 pub plain-halves : (l : List ℕ) (i w : ℕ) {b c : Bool} → PlainIf b l i (i + w) → PlainIf c l (i + w) (i + w + w) → b ≡ true → PlainIf c l i (i + (w + w))
 plain-halves l i w p q t u =
     let e : i + w + w ≡ i + (w + w) = omega arith in

@@ -2,13 +2,13 @@
 use crate::print;
 use crate::words::bytes;
 use crate::words::number;
-use crate::words::word;
 use check::same;
 use container_depths::ContainerDepths;
 use container_depths::Raised;
 use framing_offset_size::Fitting;
 use framing_offset_size::FramingOffsetSize;
 use framing_offsets::FramingOffsets;
+use lines::word;
 use std::num::wrapping_add_usize;
 use utils::padding_for_n_bytes;
 
@@ -40,7 +40,7 @@ fn size_of_letter(letter: &[u8]) -> FramingOffsetSize {
 }
 
 fn counter(line: &[u8], n: usize) -> u8 {
-    let count = number(word(line, n));
+    let count = number(line, n);
     if 255 < count {
         return 255;
     }
@@ -131,9 +131,9 @@ fn one(value: usize) {
 }
 
 fn find_width(name: &[u8], line: &[u8]) -> bool {
-    let given = number(word(line, 1));
+    let given = number(line, 1);
     if same(name, b"for_bare_container") {
-        print_fitting(FramingOffsetSize::for_bare_container(given, number(word(line, 2))));
+        print_fitting(FramingOffsetSize::for_bare_container(given, number(line, 2)));
         return true;
     }
     if same(name, b"for_encoded_container") {
@@ -160,9 +160,9 @@ fn print_written(size: FramingOffsetSize, offset: usize, buffer: &mut [u8]) {
 
 fn write_offset(line: &[u8]) {
     let mut space = [0u8; 1024];
-    let n = bytes(word(line, 3), &mut space);
-    let size = size_of(number(word(line, 1)));
-    print_written(size, number(word(line, 2)), &mut space[..n]);
+    let n = bytes(line, 3, &mut space);
+    let size = size_of(number(line, 1));
+    print_written(size, number(line, 2), &mut space[..n]);
 }
 
 fn print_offsets(container: &[u8], offsets: FramingOffsets) {
@@ -210,8 +210,8 @@ fn print_text(part: &[u8]) {
 }
 
 fn print_padding(line: &[u8], part: &[u8]) {
-    let place = number(word(line, 2));
-    let padding = de::parse_padding(number(word(line, 1)), place, number(word(line, 3)), part);
+    let place = number(line, 2);
+    let padding = de::parse_padding(number(line, 1), place, number(line, 3), part);
     let refusal = padding.refusal;
     print::first(refusal as usize);
     print::then(padding.value);
@@ -224,8 +224,8 @@ fn print_padding(line: &[u8], part: &[u8]) {
 }
 
 fn print_slice(line: &[u8], part: &[u8]) {
-    let place = number(word(line, 1));
-    let len = number(word(line, 2));
+    let place = number(line, 1);
+    let len = number(line, 2);
     let next = de::next_place(part, place, len);
     print::first(next.refusal as usize);
     print::then_bytes(de::next_slice(part, place, len));
@@ -267,7 +267,7 @@ fn read_part(name: &[u8], line: &[u8], part: &[u8]) {
         return print::answer(de::read_bool(part, 0));
     }
     if same(name, b"read_last_offset_from_buffer") {
-        let size = size_of(number(word(line, 1)));
+        let size = size_of(number(line, 1));
         return print::answer(size.read_last_offset_from_buffer(part));
     }
     if same(name, b"next_slice") {
@@ -284,11 +284,11 @@ pub fn answer(line: &[u8]) {
     let at = bytes_word(name);
     if at != 0 {
         let mut space = [0u8; 1024];
-        let n = bytes(word(line, at), &mut space);
+        let n = bytes(line, at, &mut space);
         return read_part(name, line, &space[..n]);
     }
     if same(name, b"padding_for_n_bytes") {
-        return print::answer(padding_for_n_bytes(number(word(line, 1)), number(word(line, 2))));
+        return print::answer(padding_for_n_bytes(number(line, 1), number(line, 2)));
     }
     if same(name, b"write_offset") {
         return write_offset(line);

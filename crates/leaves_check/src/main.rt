@@ -6,13 +6,12 @@ mod words;
 
 use calls::answer;
 use libc::STDIN_FILENO;
-use words::line_end;
-ghost use Prim.Native.Nat.{_+_, _≤_};
+use lines::find;
 
 fn answer_all(input: &[u8]) {
     let mut start = 0;
     while start < input.len() {
-        let end = line_end(input, start);
+        let end = start + find(&input[start..], b'\n');
         answer(&input[start..end]);
         start = end + 1;
     }

@@ -1,5 +1,3 @@
-pub mod Digits
-pub mod Numerals
 pub mod Texts
 pub mod Steps
 pub mod Blocks

@@ -3,18 +3,21 @@ use mathlib.Core.Path.{_≡_, refl, sym, ap, _∙_}
 use mathlib.Core.List.{List, [], _∷_, _++_, append-assoc, append-nil}
 use mathlib.Core.Option.{Option, none, some}
 use mathlib.Core.Bool.{Bool, true, false}
-use Prim.Native.Nat.{ℕ, suc, _+_, _*_, _≤_, _<_}
-use native.Mathlib.Numerals.{add-one}
+use Prim.Native.Nat.{ℕ, _+_, _*_}
 use native.Mathlib.Omega.{arith}
 use lib.Dec.{ltb, leb}
-use lib.ListN.{length, take, set, length-append, length-set}
-use lib.Seq.{take-suc-set, take-all}
-use borrow.Author.Tests.{lt-ltb, le-ltb, le-leb, lt-leb, leb-true, leb-false}
+use lib.ListN.{length, take}
+use lib.Seq.{take-all}
+use borrow.Author.Tests.{lt-ltb, le-leb, lt-leb, leb-true, leb-false}
 use Rattle.meaning.specs.Choice.{pick}
 use Rattle.meaning.specs.TypeText.{typeOf}
 use Rattle.meaning.specs.Calls.{counts, size, sized, frameOf as frameBehind, frameReading}
-use Rattle.listing.specs.Listing.{digit, before, bytesOf, bytesBehind, frameAnswer}
-use Rattle.listing.specs.States.{more, stored, frameBy}
+use Rattle.lines.specs.Hexadecimal.{digit, before, bytesOf, bytesBehind}
+use Rattle.lines.specs.Lines.{more, stored, Keeps}
+use Rattle.lines.proofs.ByteLaws.{before-none, before-before}
+use Rattle.lines.proofs.GatherLaws.{keeps-none, keeps-more}
+use Rattle.listing.specs.Listing.{frameAnswer}
+use Rattle.listing.specs.States.{frameBy}
 
 abbrev pub nonempty : List ℕ → Bool
 nonempty [] = false
@@ -23,16 +26,6 @@ nonempty (b ∷ l) = true
 pub nonempty-behind : (p : List ℕ) (b : ℕ) → true ≡ nonempty (p ++ (b ∷ []))
 nonempty-behind [] b = refl
 nonempty-behind (a ∷ p) b = refl
-
-before-none : (x : Option (List ℕ)) → x ≡ before [] x
-unfolding before
-before-none none = refl
-before-none (some l) = refl
-
-before-before : (t u : List ℕ) (x : Option (List ℕ)) → before t (before u x) ≡ before (t ++ u) x
-unfolding before
-before-before t u none = refl
-before-before t u (some l) = ap (λ (k : List ℕ). some k) (sym (append-assoc t u l))
 
 -- the bytes of a line that has spelled `front` so far, where q follows
 unfoldable pub restBy : Bool → Bool → ℕ → List ℕ → List ℕ → Option (List ℕ)
@@ -54,50 +47,6 @@ module _ (half b : ℕ) (front q : List ℕ) where
   unfolding restBy bytesBehind
   rest-second true h = refl
   rest-second false h = rw h (before-before front ((16 * half + digit b) ∷ []) (bytesOf q))
-
--- A memory of so many bytes keeps the front of a text, and counts it to one above.
-pub record Keeps (most : ℕ) (l : List ℕ) (kept : ℕ) (memory : List ℕ) : Type 0 where
-  pub short : length l ≤ most → kept ≡ length l
-  pub long : most < length l → kept ≡ most + 1
-  pub holds : length l ≤ most → take kept memory ≡ l
-  pub room : length memory ≡ most
-
-pub keeps-none : (most : ℕ) (memory : List ℕ) → length memory ≡ most → Keeps most [] 0 memory
-keeps-none most memory h = record { short = λ k. refl; long = λ k. omega arith; holds = λ k. refl; room = h }
-
-pub keeps-more : {most : ℕ} {l : List ℕ} {kept : ℕ} {memory : List ℕ} (b : ℕ) → Keeps most l kept memory → Keeps most (l ++ (b ∷ [])) (more most kept) (stored most memory kept b)
-unfolding more stored
-keeps-more {most} {l} {kept} {memory} b k = go (leb (suc (length l)) most) refl
-  where
-    longer : length (l ++ (b ∷ [])) ≡ suc (length l)
-    longer = simp length-append (omega arith)
-
-    go : (x : Bool) → leb (suc (length l)) most ≡ x → Keeps most (l ++ (b ∷ [])) (more most kept) (stored most memory kept b)
-    go true t =
-        let few = leb-true (suc (length l)) most t in
-        let e = k .short (omega arith) in
-        let i : kept < most = omega arith in
-        let r = k .room in
-        let n : kept < length memory = omega arith in
-        rw (lt-ltb kept most i) (record {
-          short = λ h. omega (arith, longer);
-          long = λ h. omega (arith, longer);
-          holds = λ h. ap (λ (j : ℕ). take j (set memory kept b)) (add-one kept) ∙ take-suc-set memory kept b n ∙ ap (λ (x : List ℕ). x ++ (b ∷ [])) (k .holds (omega arith));
-          room = length-set memory kept b ∙ k .room;
-        })
-    go false t =
-        let many = leb-false (suc (length l)) most t in
-        let i : most ≤ kept = over-most (leb (length l) most) refl in
-        rw (le-ltb kept most i) (record {
-          short = λ h. omega (arith, longer);
-          long = λ h. refl;
-          holds = λ h. (let never : ⊥ = omega (arith, longer) in absurd never);
-          room = k .room;
-        })
-      where
-        over-most : (x : Bool) → leb (length l) most ≡ x → most ≤ kept
-        over-most true u = let e = k .short (leb-true (length l) most u) in let many = leb-false (suc (length l)) most t in omega arith
-        over-most false u = let e = k .long (leb-false (length l) most u) in omega arith
 
 -- The frame's line p, by what is kept of it: the count of its bytes, a waiting digit, whether it is spoilt, and the memory.
 pub record Spells (p : List ℕ) (kept half : ℕ) (spoilt : Bool) (frame : List ℕ) : Type 0 where

@@ -4,13 +4,15 @@ use mathlib.Core.List.{List, []}
 use mathlib.Core.Bool.{Bool, true, false}
 use Prim.Native.Nat.{ℕ, _+_, _*_, _≤_, _<_}
 use lib.Dec.{ltb}
-use lib.ListN.{take}
+use lib.ListN.{length, take}
 use borrow.Author.Tests.{lt-ltb, le-ltb, le-leb, lt-leb, eq-eqb, ne-eqb}
 use Rattle.meaning.specs.Choice.{pick}
 use Rattle.meaning.specs.Calls.{Counts, counts, size}
 use Rattle.signature.specs.Places.{isType}
-use Rattle.listing.specs.Listing.{digit, printed, nextNumber}
-use Rattle.listing.specs.States.{Machine, machine, stateOf, more, stored, ended, lettered, paired, halved, spoiled, valued, step, frameBy, frameOf, answerOf, lineText, output, begun, ending, finalText}
+use Rattle.lines.specs.Hexadecimal.{digit}
+use Rattle.lines.specs.Lines.{more, stored}
+use Rattle.listing.specs.Listing.{printed, nextNumber}
+use Rattle.listing.specs.States.{Machine, machine, stateOf, ended, lettered, paired, halved, spoiled, valued, step, frameBy, frameOf, answerOf, lineText, output, begun, ending, finalText}
 use Rattle.listing.specs.declared.State.{State}
 
 module _ (m : Machine) (b : ℕ) where
@@ -30,9 +32,10 @@ module _ (m : Machine) (b : ℕ) where
   unfolding ended
   step-end n h e = rw e (sym (step-ended h))
 
-  pub step-letter : (k : ℕ) (t : List ℕ) → (b ≡ 10 → ⊥) → m .state .line ≡ 0 → k ≡ more 256 (m .state .letters) → t ≡ stored 256 (m .text) (m .state .letters) b → machine (stateOf (m .state .line) k (m .state .kept) (m .state .half) (m .state .spoilt)) t (m .frame) ≡ step m b
+  pub step-letter : (k : ℕ) (t : List ℕ) → (b ≡ 10 → ⊥) → m .state .line ≡ 0 → length (m .text) ≡ 256 → k ≡ more (length (m .text)) (m .state .letters) → t ≡ stored (length (m .text)) (m .text) (m .state .letters) b → machine (stateOf (m .state .line) k (m .state .kept) (m .state .half) (m .state .spoilt)) t (m .frame) ≡ step m b
   unfolding lettered
-  step-letter k t h z e f = rw (e, f) (sym (step-lettered h z))
+  step-letter k t h z l e f =
+      rw (e ∙ ap (λ (n : ℕ). more n (m .state .letters)) l, f ∙ ap (λ (n : ℕ). stored n (m .text) (m .state .letters) b) l) (sym (step-lettered h z))
 
   step-digit : (b ≡ 10 → ⊥) → (m .state .line ≡ 0 → ⊥) → (v : ℕ) → v ≡ digit b → valued m v ≡ step m b
   step-digit h z v e = ap (λ (x : ℕ). valued m x) e ∙ sym (step-valued h z)
@@ -47,11 +50,13 @@ module _ (m : Machine) (b : ℕ) where
   step-first v h z e k l =
       let halves : valued m v ≡ halved m v = rw (lt-ltb v 16 k, le-ltb (m .state .half) 16 l) in sym halves ∙ step-digit h z v e
 
-  pub step-second : (v k : ℕ) (f : List ℕ) → (b ≡ 10 → ⊥) → (m .state .line ≡ 0 → ⊥) → v ≡ digit b → v < 16 → m .state .half < 16 → k ≡ more 16384 (m .state .kept) → f ≡ stored 16384 (m .frame) (m .state .kept) (16 * m .state .half + v) → machine (stateOf (m .state .line) (m .state .letters) k 16 (m .state .spoilt)) (m .text) f ≡ step m b
+  pub step-second : (v k : ℕ) (f : List ℕ) → (b ≡ 10 → ⊥) → (m .state .line ≡ 0 → ⊥) → v ≡ digit b → v < 16 → m .state .half < 16 → length (m .frame) ≡ 16384 → k ≡ more (length (m .frame)) (m .state .kept) → f ≡ stored (length (m .frame)) (m .frame) (m .state .kept) (16 * m .state .half + v) → machine (stateOf (m .state .line) (m .state .letters) k 16 (m .state .spoilt)) (m .text) f ≡ step m b
   unfolding valued paired
-  step-second v k f h z e l w c s =
+  step-second v k f h z e l w n c s =
       let pairs : valued m v ≡ paired m (16 * m .state .half + v) = rw (lt-ltb v 16 l, lt-ltb (m .state .half) 16 w) in
-      rw (c, s) (sym pairs ∙ step-digit h z v e)
+      let count = c ∙ ap (λ (i : ℕ). more i (m .state .kept)) n in
+      let memory = s ∙ ap (λ (i : ℕ). stored i (m .frame) (m .state .kept) (16 * m .state .half + v)) n in
+      rw (count, memory) (sym pairs ∙ step-digit h z v e)
 
 -- which answer the tests of a line give
 by-spoilt : (x y z : Bool) (c : Counts) → x ≡ true → counts 18 0 0 ≡ frameBy x y z c

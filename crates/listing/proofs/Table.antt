@@ -12,7 +12,10 @@ use Rattle.meaning.specs.TypeText
 use Rattle.meaning.specs.Outcome
 use Rattle.meaning.specs.Reading
 use Rattle.meaning.specs.Calls
-use Rattle.listing.specs.Listing.{linesFrom, lastLine, lines, digit, before, bytesOf, bytesBehind, frameAnswer, answer, digits, numeral, printed, nextNumber, listedFrom, listedLines, listing}
+use Rattle.lines.specs.Hexadecimal.{digit, before, bytesOf, bytesBehind}
+use Rattle.lines.specs.Decimals.{digits, numeral}
+use Rattle.lines.specs.Lines.{linesFrom, lastLine, lines}
+use Rattle.listing.specs.Listing.{frameAnswer, answer, printed, nextNumber, listedFrom, listedLines, listing}
 
 -- an input and what is printed
 pub data Row : Type 0 where

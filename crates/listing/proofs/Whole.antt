@@ -13,10 +13,13 @@ use Rattle.meaning.specs.Choice.{pick}
 use Rattle.meaning.specs.TypeText.{typeOf}
 use Rattle.meaning.specs.Calls.{counts}
 use Rattle.signature.specs.Places.{present}
-use Rattle.listing.specs.Listing.{linesFrom, lastLine, lines, digit, answer, printed, nextNumber, listedFrom, listedLines, listing}
-use Rattle.listing.specs.States.{Machine, machine, freshState, longestLine, ended, lettered, halved, paired, spoiled, valued, step, frameOf, answerOf, lineText, output, begun, ending, listed, finalText, Ran, ran, further, run}
+use Rattle.lines.specs.Hexadecimal.{digit}
+use Rattle.lines.specs.Lines.{linesFrom, lastLine, lines, Keeps}
+use Rattle.lines.proofs.GatherLaws.{keeps-none, keeps-more}
+use Rattle.listing.specs.Listing.{answer, printed, nextNumber, listedFrom, listedLines, listing}
+use Rattle.listing.specs.States.{Machine, machine, freshState, longestLine, ended, lettered, halved, paired, spoiled, valued, step, frameOf, answerOf, lineText, output, begun, ending, listed, finalText, Ran, ran, further, run, Turns, finishing, listing-block}
 use Rattle.listing.proofs.Steps.{step-ended, step-lettered, step-valued, line-type, output-none, output-line}
-use Rattle.listing.proofs.Lines.{nonempty, Keeps, keeps-none, keeps-more, Spells, spells-none, spells-other, spells-first, spells-second, same-type, same-frame}
+use Rattle.listing.proofs.Lines.{nonempty, Spells, spells-none, spells-other, spells-first, spells-second, same-type, same-frame}
 
 -- one call: what it prints, and then what is left
 further-prints : (m : Machine) (b : ℕ) (l rest : List ℕ) (r : Ran) → listed (step m b) (l ++ rest) ≡ r .text ++ listed (r .machine) (drop (r .passed) l ++ rest) → output m b ++ listed (step m b) (l ++ rest) ≡ further (output m b) r .text ++ listed (r .machine) (drop (further (output m b) r .passed) (b ∷ l) ++ rest)
@@ -42,12 +45,6 @@ call-prints room m (b ∷ l) rest =
 final-ending : (room : ℕ) (m : Machine) → longestLine ≤ room → finalText room m ≡ ending m
 unfolding finalText
 final-ending room m h = rw (le-ltb room longestLine h)
-
--- the calls of `list` on an input, and of `finish` at its end, from a machine on, and all that they print: each call of `list` has
--- some room, and a block with which the input goes on; what it leaves of the block stands in front of the rest
-pub data Turns : Machine → List ℕ → List ℕ → Type 0 where
-  finishing : (room : ℕ) (m : Machine) → longestLine ≤ room → Turns m [] (finalText room m)
-  listing-block : (room : ℕ) (m : Machine) (block rest text : List ℕ) → Turns (run room m block .machine) (drop (run room m block .passed) block ++ rest) text → Turns m (block ++ rest) (run room m block .text ++ text)
 
 turns-print : (m : Machine) (input text : List ℕ) → Turns m input text → text ≡ listed m input
 unfolding listed

@@ -5,12 +5,15 @@ use mathlib.Core.List.{List, [], _∷_, _++_}
 use mathlib.Core.Bool.{Bool, true, false}
 use Prim.Native.Nat.{ℕ, _+_, _-_, _*_, _≤_}
 use lib.Dec.{leb, ltb, eqb}
-use lib.ListN.{length, take, drop, set}
-use lib.Seq.{sets}
+use lib.ListN.{length, take, drop}
 use Rattle.meaning.specs.Choice.{pick}
+use Rattle.meaning.specs.Refusals.{typeRefused, overLimit, notHexadecimal}
 use Rattle.meaning.specs.Calls.{Counts, counts, size}
+use Rattle.lines.specs.Storing.{over}
+use Rattle.lines.specs.Hexadecimal.{digit}
+use Rattle.lines.specs.Lines.{more, stored}
 use Rattle.signature.specs.Places.{isType}
-use Rattle.listing.specs.Listing.{digit, mostBytes, printed, nextNumber}
+use Rattle.listing.specs.Listing.{mostBytes, printed, nextNumber}
 use Rattle.listing.specs.declared.State.{State}
 use Rattle.listing.specs.declared.Progress.{Progress}
 
@@ -34,14 +37,6 @@ freshState = stateOf 0 0 0 16 false
 -- 256 bytes of the type are kept: a text of so many is no type, whatever stands in it
 abbrev pub mostLetters : ℕ
 mostLetters = 256
-
--- bytes are counted to one above what is kept of them
-unfoldable pub more : ℕ → ℕ → ℕ
-more most n = pick (ltb n most) (n + 1) (most + 1)
-
--- a memory of so many bytes with a byte stored, where the place is in it
-unfoldable pub stored : ℕ → List ℕ → ℕ → ℕ → List ℕ
-stored most l n b = pick (ltb n most) (set l n b) l
 
 -- behind a line end
 unfoldable pub ended : Machine → Machine
@@ -80,7 +75,7 @@ step m b = pick (eqb b 10) (ended m) (pick (eqb (m .state .line) 0) (lettered m 
 
 -- the answer to the present line, if it ends here: 18 where it is spoilt or a digit waits for its second, then 2, then that of `size`
 unfoldable pub frameBy : Bool → Bool → Bool → Counts → Counts
-frameBy spoilt odd fits sized = pick spoilt (counts 18 0 0) (pick odd (counts 18 0 0) (pick fits sized (counts 2 0 0)))
+frameBy spoilt odd fits sized = pick spoilt (counts notHexadecimal 0 0) (pick odd (counts notHexadecimal 0 0) (pick fits sized (counts overLimit 0 0)))
 
 unfoldable pub frameOf : Machine → Counts
 frameOf m =
@@ -88,7 +83,7 @@ frameOf m =
     (size (take (m .state .letters) (m .text)) false 0 (take (m .state .kept) (m .frame)))
 
 unfoldable pub answerOf : Machine → Counts
-answerOf m = pick (isType (take (m .state .letters) (m .text))) (frameOf m) (counts 1 0 0)
+answerOf m = pick (isType (take (m .state .letters) (m .text))) (frameOf m) (counts typeRefused 0 0)
 
 -- what the end of the present line prints: nothing behind the type
 unfoldable pub lineText : Machine → List ℕ
@@ -133,10 +128,6 @@ run room m [] = ran m 0 []
 run room m (b ∷ l) =
     pick (ltb room longestLine) (ran m 0 []) (further (output m b) (run (room - length (output m b)) (step m b) l))
 
--- a text at the front of a slice; what is left of the slice is unchanged
-abbrev pub over : List ℕ → List ℕ → List ℕ
-over text out = text ++ drop (length text) out
-
 -- THE ANSWER OF `list`: r, where the machine is m′ behind it and the slice out is out′
 pub record Lists (m m′ : Machine) (block out out′ : List ℕ) (r : Progress) : Type 0 where
   pub machine : m′ ≡ run (length out) m block .machine
@@ -156,7 +147,8 @@ pub record Finishes (m : Machine) (out out′ : List ℕ) (r : ℕ) : Type 0 whe
   pub fits : r ≤ length out
   pub slice : out′ ≡ over (finalText (length out) m) out
 
--- a text stored in a slice from a place on, and the place behind it
-pub record Puts (out out′ : List ℕ) (at : ℕ) (text : List ℕ) (r : ℕ) : Type 0 where
-  pub next : r ≡ at + length text
-  pub slice : out′ ≡ sets out at text
+-- The calls of `list` on an input, and of `finish` at its end, from a machine on, and all that they print: each call of `list` has some
+-- room, and a block with which the input goes on; what it leaves of the block stands in front of the rest.
+pub data Turns : Machine → List ℕ → List ℕ → Type 0 where
+  finishing : (room : ℕ) (m : Machine) → longestLine ≤ room → Turns m [] (finalText room m)
+  listing-block : (room : ℕ) (m : Machine) (block rest text : List ℕ) → Turns (run room m block .machine) (drop (run room m block .passed) block ++ rest) text → Turns m (block ++ rest) (run room m block .text ++ text)

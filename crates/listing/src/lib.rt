@@ -1,15 +1,23 @@
 // The frame lister's work: input comes in blocks, and the text to print goes out through a lent slice. The first line is the type,
 // each other line a frame in hexadecimal. Memory is fixed, and a byte costs the same in a line of any length.
+use lines::digit;
+use lines::front;
+use lines::keep;
+use lines::put_decimal;
+use meaning::refusals::NOT_HEXADECIMAL;
+use meaning::refusals::OVER_LIMIT;
+use meaning::refusals::TYPE_REFUSED;
 use reader::Answer;
 use reader::size;
 use signature::judge;
 ghost use mathlib.Core.Path.{_≡_};
-ghost use Prim.Native.Nat.{_+_, _≤_, _<_};
-ghost use lib.ListN.{length, take};
+ghost use Prim.Native.Nat.{_+_, _≤_};
+ghost use lib.ListN.{length};
 ghost use Rattle.meaning.specs.Calls.{counts};
+ghost use Rattle.lines.specs.Storing.{Puts};
 ghost use Rattle.reader.specs.Answers.{countsOf};
-ghost use Rattle.listing.specs.Listing.{digit as digitOf, digits as digitsOf, numeral, printed, nextNumber};
-ghost use Rattle.listing.specs.States.{machine, freshState, more, stored, step as stepOf, answerOf, lineText, output, begun as hasByte, Lists, Finishes, Puts};
+ghost use Rattle.listing.specs.Listing.{printed, nextNumber};
+ghost use Rattle.listing.specs.States.{machine, freshState, step as stepOf, answerOf, lineText, output, begun as hasByte, Lists, Finishes};
 
 // Where the input stands. Line 0 is the type; a frame's line has its number, which stays at the largest. `letters` counts the type's
 // bytes, to 257, and `kept` the frame's, to 16,385: one above what the memories hold. `half` is the value of a pair's first digit, 16
@@ -112,7 +120,7 @@ fn step(mut s: State, text: &mut [u8; 256], frame: &mut [u8; 16384], byte: u8) -
         return s;
     }
     if s.line == 0 {
-        s.letters = keep_letter(text, s.letters, byte);
+        s.letters = keep(text, s.letters, byte);
         return s;
     }
     let value = digit(byte);
@@ -124,7 +132,7 @@ fn step(mut s: State, text: &mut [u8; 256], frame: &mut [u8; 16384], byte: u8) -
         s.half = value;
         return s;
     }
-    s.kept = keep_byte(frame, s.kept, 16 * s.half + value);
+    s.kept = keep(frame, s.kept, 16 * s.half + value);
     s.half = 16;
     s
 }
@@ -133,50 +141,6 @@ fn next_number(n: u64) -> u64
     ensures { λ r. ⌜ r ≡ nextNumber n ⌝ }
 {
     if n < u64::MAX { n + 1 } else { n }
-}
-
-fn keep_letter(text: &mut [u8; 256], letters: usize, byte: u8) -> usize
-    ensures { λ r. ⌜ (r ≡ more 256 letters) × (now (text .exit) ≡ stored 256 (now (text .entry)) letters byte) ⌝ }
-{
-    if 256 <= letters {
-        return 257;
-    }
-    text[letters] = byte;
-    letters + 1
-}
-
-fn keep_byte(frame: &mut [u8; 16384], kept: usize, byte: u8) -> usize
-    ensures { λ r. ⌜ (r ≡ more 16384 kept) × (now (frame .exit) ≡ stored 16384 (now (frame .entry)) kept byte) ⌝ }
-{
-    if 16384 <= kept {
-        return 16385;
-    }
-    frame[kept] = byte;
-    kept + 1
-}
-
-fn digit(byte: u8) -> u8
-    ensures { λ r. ⌜ (r ≡ digitOf byte) × (r ≤ 16) ⌝ }
-{
-    if byte < b'0' {
-        return 16;
-    }
-    if byte <= b'9' {
-        return byte - b'0';
-    }
-    if byte < b'A' {
-        return 16;
-    }
-    if byte <= b'F' {
-        return byte - 55;
-    }
-    if byte < b'a' {
-        return 16;
-    }
-    if byte <= b'f' {
-        return byte - 87;
-    }
-    16
 }
 
 // What a byte prints, from a place on. Says the place behind it.
@@ -217,16 +181,16 @@ fn answer(s: State, text: &[u8; 256], frame: &[u8; 16384]) -> Answer
     let kept = s.kept;
     let signature = front(text, letters);
     if !judge(signature) {
-        return refused(1);
+        return refused(TYPE_REFUSED);
     }
     if s.spoilt {
-        return refused(18);
+        return refused(NOT_HEXADECIMAL);
     }
     if s.half < 16 {
-        return refused(18);
+        return refused(NOT_HEXADECIMAL);
     }
     if 16384 < kept {
-        return refused(2);
+        return refused(OVER_LIMIT);
     }
     size(signature, false, 0, front(frame, kept))
 }
@@ -241,47 +205,12 @@ fn refused(refusal: u8) -> Answer
     }
 }
 
-fn front(bytes: &[u8], n: usize) -> &[u8]
-    ensures { λ r. ⌜ now r ≡ take n (now (bytes .entry)) ⌝ }
-{
-    if n < bytes.len() {
-        return &bytes[..n];
-    }
-    bytes
-}
-
 fn put_answer(line: u64, a: Answer, out: &mut [u8], at: usize) -> usize
     requires { ⌜ at + 84 ≤ length (now out) ⌝ }
     ensures { λ r. ⌜ Puts (now (out .entry)) (now (out .exit)) at (printed line (countsOf a)) r ⌝ }
 {
-    let second = put_number(line, b' ', out, at);
-    let third = put_number(a.refusal as u64, b' ', out, second);
-    let fourth = put_number(a.used as u64, b' ', out, third);
-    put_number(a.count as u64, b'\n', out, fourth)
-}
-
-// A number in decimal, and a byte behind it.
-fn put_number(n: u64, end: u8, out: &mut [u8], at: usize) -> usize
-    requires { ⌜ at + 21 ≤ length (now out) ⌝ }
-    ensures { λ r. ⌜ Puts (now (out .entry)) (now (out .exit)) at (numeral n end) r ⌝ }
-{
-    let next = put_digits(20, n, out, at);
-    out[next] = end;
-    next + 1
-}
-
-fn put_digits(places: usize, n: u64, out: &mut [u8], at: usize) -> usize
-    requires { ⌜ at + places ≤ length (now out) ⌝ }
-    ensures { λ r. ⌜ Puts (now (out .entry)) (now (out .exit)) at (digitsOf places n) r ⌝ }
-{
-    if places == 0 {
-        return at;
-    }
-    if n < 10 {
-        out[at] = 48 + n as u8;
-        return at + 1;
-    }
-    let last = put_digits(places - 1, n / 10, out, at);
-    out[last] = 48 + (n % 10) as u8;
-    last + 1
+    let second = put_decimal(line, b' ', out, at);
+    let third = put_decimal(a.refusal as u64, b' ', out, second);
+    let fourth = put_decimal(a.used as u64, b' ', out, third);
+    put_decimal(a.count as u64, b'\n', out, fourth)
 }

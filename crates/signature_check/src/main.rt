@@ -1,63 +1,54 @@
 // Judges each line of standard input, and writes a line for it: 1 for one complete type, 0 for any other text. A line ends in a line
 // end, which is no part of its text; the last one may have none.
+use lines::front;
+use lines::gather;
 ghost use mathlib.Core.Path.{_≡_};
 ghost use Prim.Native.Nat.{_≤_};
 ghost use lib.ListN.{length};
 
-// How many bytes of the present line are kept, and how many of the answer are written. A line keeps no more than 256 of its bytes:
+// How many bytes of the present line are counted, and how many of the answer are written. A line keeps no more than 256 of its bytes:
 // a text of so many is no type, whatever stands in it.
 pub struct Progress {
     kept: usize,
     written: usize,
 }
 
-fn verdict(line: &[u8]) -> u8 {
-    if signature::judge(line) {
+fn verdict(line: &[u8], kept: usize) -> u8 {
+    if signature::judge(front(line, kept)) {
         return b'1';
     }
     b'0'
 }
 
-// The answers to the lines that end in the first `n` bytes of a block.
-fn judge_block(
-    block: &[u8; 4096],
-    n: usize,
-    line: &mut [u8],
-    before: usize,
-    out: &mut [u8],
-) -> Progress
-    requires { ⌜ (n ≤ 4096) × (length (now line) ≡ 256) × (before ≤ 256) × (length (now out) ≡ 8192) ⌝ }
-    ensures { λ r. ⌜ (r .kept ≤ 256) × (r .written ≤ 8192) ⌝ }
+// The answers to the lines that end in a block.
+fn judge_block(block: &[u8], line: &mut [u8], before: usize, out: &mut [u8]) -> Progress
+    requires { ⌜ (length (now block) ≤ 4096) × (length (now out) ≡ 8192) ⌝ }
+    ensures { λ r. ⌜ r .written ≤ 8192 ⌝ }
 {
     let mut kept = before;
     let mut written = 0;
-    let mut i = 0;
-    while i < n {
-        let byte = block[i];
-        i += 1;
-        if byte == b'\n' {
-            out[written] = verdict(&line[..kept]);
-            out[written + 1] = b'\n';
-            written += 2;
-            kept = 0;
-            continue;
+    let mut from = 0;
+    while from < block.len() {
+        let gathered = gather(&block[from..], line, kept);
+        kept = gathered.kept;
+        if !gathered.ended {
+            return Progress { kept, written };
         }
-        if kept < 256 {
-            line[kept] = byte;
-            kept += 1;
-        }
+        from += gathered.passed;
+        out[written] = verdict(line, kept);
+        out[written + 1] = b'\n';
+        written += 2;
+        kept = 0;
     }
     Progress { kept, written }
 }
 
 // The answer to a last line that has no line end.
-fn judge_rest(line: &[u8], kept: usize)
-    requires { ⌜ kept ≤ length (now line) ⌝ }
-{
+fn judge_rest(line: &[u8], kept: usize) {
     if kept == 0 {
         return;
     }
-    let answer = [verdict(&line[..kept]), b'\n'];
+    let answer = [verdict(line, kept), b'\n'];
     io::write_all(1, &answer);
 }
 
@@ -74,7 +65,7 @@ fn main() {
             return;
         }
         let mut out = [0u8; 8192];
-        let progress = judge_block(&block, n, &mut line, kept, &mut out);
+        let progress = judge_block(&block[..n], &mut line, kept, &mut out);
         let written = progress.written;
         io::write_all(1, &out[..written]);
         kept = progress.kept;

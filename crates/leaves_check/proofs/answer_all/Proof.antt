@@ -1,13 +1,11 @@
-use borrow.Author.Needs.{needs}
+-- `leaves_check::answer_all` is safe and ends: each line takes its end away from the input. Assumes nothing.
+use Prim.Native.Nat.{_-_, _+_, _≤_}
 use native.Mathlib.Omega.{arith}
 use lib.ListN.{length}
-use Prim.Native.Nat.{_-_, _+_, _≤_}
+use borrow.Author.Needs.{needs}
+use Rattle.lines.proofs.WordLaws.{length-to-end}
 use Rattle.leaves_check.proofs.answer_all.Statement.{statement}
 use Rattle.leaves_check.proofs.answer_all.Tie as tie
-use Rattle.leaves_check.proofs.answer_all.Reads as reads
-use Rattle.leaves_check.proofs.answer_all.Lts as lts
-use Rattle.leaves_check.proofs.calls.answer.Reads as answer-reads
-use Rattle.leaves_check.proofs.words.line_end.Reads as line-end-reads
 
 abbrev Inv-loop : tie.InvT-loop
 Inv-loop input start₀ start = start ≤ length input + 1
@@ -15,43 +13,45 @@ Inv-loop input start₀ start = start ≤ length input + 1
 abbrev μ-loop : tie.MeasureT-loop
 μ-loop input start₀ start = length input + 1 - start
 
--- src/main.rt:14:5
 loop-holds : tie.Need-loop-holds Inv-loop μ-loop
 loop-holds c = omega arith
 
--- src/main.rt:15:13
-line-end-requires : tie.Need-line-end-requires Inv-loop μ-loop
-line-end-requires c κs = search needs
+sub-find : tie.Need-sub-find Inv-loop μ-loop
+sub-find c = search needs
 
--- src/main.rt:16:16
+part-find-start : tie.Need-part-find-start Inv-loop μ-loop
+part-find-start c = search needs
+
+part-find-end : tie.Need-part-find-end Inv-loop μ-loop
+part-find-end c = search needs
+
+find-requires : tie.Need-find-requires Inv-loop μ-loop
+find-requires c κs = tt
+
+add-end : tie.Need-add-end Inv-loop μ-loop
+add-end c = let e = length-to-end (c .before .before .before .before .before .args .input .now) (c .before .before .before .loop .start) in let f = c .find .ensures in let t = c .before .before .loop-test .taken in let g = c .before .before .before .before .before .good in omega arith
+
 sub-answer : tie.Need-sub-answer Inv-loop μ-loop
-sub-answer c = omega arith
+sub-answer c = let e = length-to-end (c .before .before .before .before .before .args .input .now) (c .before .before .before .loop .start) in let f = c .find .ensures in let t = c .before .before .loop-test .taken in omega arith
 
--- src/main.rt:16:16
 part-answer-start : tie.Need-part-answer-start Inv-loop μ-loop
-part-answer-start c = omega arith
+part-answer-start c = let e = length-to-end (c .before .before .before .before .before .args .input .now) (c .before .before .before .loop .start) in let f = c .find .ensures in let t = c .before .before .loop-test .taken in omega arith
 
--- src/main.rt:16:16
 part-answer-end : tie.Need-part-answer-end Inv-loop μ-loop
-part-answer-end c = omega arith
+part-answer-end c = let e = length-to-end (c .before .before .before .before .before .args .input .now) (c .before .before .before .loop .start) in let f = c .find .ensures in let t = c .before .before .loop-test .taken in omega arith
 
--- src/main.rt:16:9
 answer-requires : tie.Need-answer-requires Inv-loop μ-loop
 answer-requires c κs = search needs
 
--- src/main.rt:17:17
 add-start : tie.Need-add-start Inv-loop μ-loop
-add-start c = omega arith
+add-start c = let e = length-to-end (c .before .before .before .before .before .before .before .args .input .now) (c .before .before .before .before .before .loop .start) in let f = c .before .before .find .ensures in let t = c .before .before .before .before .loop-test .taken in let g = c .before .before .before .before .before .before .before .good in omega arith
 
--- src/main.rt:14:5
 loop-less : tie.Need-loop-less Inv-loop μ-loop
-loop-less c = omega arith
+loop-less c = let e = length-to-end (c .before .before .before .before .before .before .before .args .input .now) (c .before .before .before .before .before .loop .start) in let f = c .before .before .find .ensures in let t = c .before .before .before .before .loop-test .taken in omega arith
 
--- src/main.rt:14:5
 loop-again : tie.Need-loop-again Inv-loop μ-loop
-loop-again c = search needs
+loop-again c = let e = length-to-end (c .before .before .before .before .before .before .before .args .input .now) (c .before .before .before .before .before .loop .start) in let f = c .before .before .find .ensures in let t = c .before .before .before .before .loop-test .taken in omega arith
 
--- src/main.rt:12:1
 returns : tie.Need-returns Inv-loop μ-loop
 returns c = search needs
 
@@ -62,7 +62,11 @@ answer-all-spec =
     Inv-loop
     μ-loop
     loop-holds
-    line-end-requires
+    sub-find
+    part-find-start
+    part-find-end
+    find-requires
+    add-end
     sub-answer
     part-answer-start
     part-answer-end

@@ -1,41 +1,38 @@
 -- `listing::put_answer` meets its contract: four numbers, one behind another. Assumes nothing.
-use native.Mathlib.Omega.{arith}
-use Rattle.listing.proofs.Texts.{puts-then, numeral-fits}
-use Rattle.listing.specs.Listing.{printed}
 use borrow.Author.Needs.{needs}
+use Rattle.listing.proofs.Texts.{puts-printed}
 use Rattle.listing.proofs.put_answer.Statement.{statement}
 use Rattle.listing.proofs.put_answer.Tie as tie
 
-put-number-requires : tie.Need-put-number-requires
-put-number-requires c κs = search needs
+put-decimal-requires : tie.Need-put-decimal-requires
+put-decimal-requires c κs = search needs
 
-cast-put-number : tie.Need-cast-put-number
-cast-put-number c = search needs
+cast-put-decimal : tie.Need-cast-put-decimal
+cast-put-decimal c = search needs
 
-put-number-requires-2 : tie.Need-put-number-requires-2
-put-number-requires-2 c κs = let h = numeral-fits _ _ 63 (c .before .before .before .before .put-number .ensures) (c .before .before .before .before .before .before .before .pre) in omega arith
+put-decimal-requires-2 : tie.Need-put-decimal-requires-2
+put-decimal-requires-2 c κs = search needs
 
-put-number-requires-3 : tie.Need-put-number-requires-3
-put-number-requires-3 c κs = let h = numeral-fits _ _ 42 (c .before .before .before .put-number2 .ensures) (numeral-fits _ _ 63 (c .before .before .before .before .before .before .before .before .put-number .ensures) (c .before .before .before .before .before .before .before .before .before .before .before .pre)) in omega arith
+put-decimal-requires-3 : tie.Need-put-decimal-requires-3
+put-decimal-requires-3 c κs = search needs
 
-put-number-requires-4 : tie.Need-put-number-requires-4
-put-number-requires-4 c κs = numeral-fits _ _ 21 (c .before .before .before .put-number3 .ensures) (numeral-fits _ _ 42 (c .before .before .before .before .before .before .before .put-number2 .ensures) (numeral-fits _ _ 63 (c .before .before .before .before .before .before .before .before .before .before .before .before .put-number .ensures) (c .before .before .before .before .before .before .before .before .before .before .before .before .before .before .before .pre)))
+put-decimal-requires-4 : tie.Need-put-decimal-requires-4
+put-decimal-requires-4 c κs = search needs
 
 same-length : tie.Need-same-length
 same-length c = search needs
 
 returns : tie.Need-returns
-unfolding printed
-returns c = puts-then (c .before .before .before .before .before .before .before .before .before .before .before .before .before .before .before .put-number .ensures) (puts-then (c .before .before .before .before .before .before .before .before .before .before .put-number2 .ensures) (puts-then (c .before .before .before .before .before .before .put-number3 .ensures) (c .before .before .put-number4 .ensures)))
+returns c = puts-printed _ _ (c .before .before .before .before .before .before .before .before .before .before .before .before .before .before .before .before .before .before .pre) (c .before .before .before .before .before .before .before .before .before .before .before .before .before .before .before .put-decimal .ensures) (c .before .before .before .before .before .before .before .before .before .before .put-decimal2 .ensures) (c .before .before .before .before .before .before .put-decimal3 .ensures) (c .before .before .put-decimal4 .ensures)
 
 pub put-answer-spec : {M : Type 1} → statement M
 put-answer-spec =
     tie.close
     (tie.spec
-    put-number-requires
-    cast-put-number
-    put-number-requires-2
-    put-number-requires-3
-    put-number-requires-4
+    put-decimal-requires
+    cast-put-decimal
+    put-decimal-requires-2
+    put-decimal-requires-3
+    put-decimal-requires-4
     same-length
     returns)

@@ -11,11 +11,11 @@ next-number-requires c κs = search needs
 returns : tie.Need-returns
 returns c = step-end _ _ _ (c .before .if1 .taken) (c .next-number .ensures)
 
-keep-letter-requires : tie.Need-keep-letter-requires
-keep-letter-requires c κs = search needs
+keep-requires : tie.Need-keep-requires
+keep-requires c κs = search needs
 
 returns-2 : tie.Need-returns-2
-returns-2 c = step-letter _ _ _ _ (c .before .before .before .before .if1 .left) (c .before .before .if2 .taken) (c .keep-letter .ensures .0) (c .keep-letter .ensures .1)
+returns-2 c = step-letter _ _ _ _ (c .before .before .before .before .if1 .left) (c .before .before .if2 .taken) (search needs) (c .keep .ensures .0) (c .keep .ensures .1)
 
 digit-requires : tie.Need-digit-requires
 digit-requires c κs = search needs
@@ -28,17 +28,17 @@ returns-4 : tie.Need-returns-4
 unfolding halved
 returns-4 c = step-first _ _ _ (c .before .before .before .before .before .before .if1 .left) (c .before .before .before .before .if2 .left) (c .before .before .before .digit .ensures .0) (c .before .before .if3 .left) (c .if4 .taken)
 
-mul-keep-byte : tie.Need-mul-keep-byte
-mul-keep-byte c = search needs
+mul-keep : tie.Need-mul-keep
+mul-keep c = search needs
 
-add-keep-byte : tie.Need-add-keep-byte
-add-keep-byte c = search needs
+add-keep : tie.Need-add-keep
+add-keep c = search needs
 
-keep-byte-requires : tie.Need-keep-byte-requires
-keep-byte-requires c κs = search needs
+keep-requires-2 : tie.Need-keep-requires-2
+keep-requires-2 c κs = search needs
 
 returns-5 : tie.Need-returns-5
-returns-5 c = step-second _ _ _ _ _ (c .before .before .before .before .before .before .before .before .before .if1 .left) (c .before .before .before .before .before .before .before .if2 .left) (c .before .before .before .before .before .before .digit .ensures .0) (c .before .before .before .before .before .if3 .left) (c .before .before .before .if4 .left) (c .keep-byte .ensures .0) (c .keep-byte .ensures .1)
+returns-5 c = step-second _ _ _ _ _ (c .before .before .before .before .before .before .before .before .before .if1 .left) (c .before .before .before .before .before .before .before .if2 .left) (c .before .before .before .before .before .before .digit .ensures .0) (c .before .before .before .before .before .if3 .left) (c .before .before .before .if4 .left) (search needs) (c .keep2 .ensures .0) (c .keep2 .ensures .1)
 
 pub step-spec : {M : Type 1} → statement M
 step-spec =
@@ -46,12 +46,12 @@ step-spec =
     (tie.spec
     next-number-requires
     returns
-    keep-letter-requires
+    keep-requires
     returns-2
     digit-requires
     returns-3
     returns-4
-    mul-keep-byte
-    add-keep-byte
-    keep-byte-requires
+    mul-keep
+    add-keep
+    keep-requires-2
     returns-5)

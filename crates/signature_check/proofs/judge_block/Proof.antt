@@ -1,84 +1,76 @@
--- `signature_check::judge_block` meets its contract. The invariant: at most two bytes of the answer for each byte read, and at most 256
--- bytes of the line kept. The measure is what is left of the block. Assumes nothing.
-use mathlib.Core.Path.{_≡_, sym}
-use Prim.Native.Nat.{_≤_, _*_, _-_}
+-- `signature_check::judge_block` meets its contract. The invariant: a line's answer takes two bytes, and the line at least one of the
+-- block. The measure is what is left of the block. Assumes nothing.
+use mathlib.Core.Path.{_≡_, refl}
+use Prim.Native.Nat.{_-_, _*_, _≤_}
 use native.Mathlib.Omega.{arith}
 use lib.ListN.{length, length-set}
-use lib.Seq.{length-take-le}
 use borrow.Author.Needs.{needs}
+use Rattle.lines.proofs.GatherLaws.{part-passed}
 use Rattle.signature_check.proofs.judge_block.Statement.{statement}
 use Rattle.signature_check.proofs.judge_block.Tie as tie
 
 abbrev Inv-loop : tie.InvT-loop
-Inv-loop block n line₀ before out₀ kept₀ written₀ i₀ line out kept written i =
-    (i ≤ n) × (length line ≡ 256) × (kept ≤ 256) × (written ≤ 2 * i) × (length out ≡ 8192)
+Inv-loop block line₀ before out₀ kept₀ written₀ from₀ line out kept written from = (from ≤ length block) × (written ≤ 2 * from) × (length line ≡ length line₀) × (length out ≡ length out₀)
 
 abbrev μ-loop : tie.MeasureT-loop
-μ-loop block n line₀ before out₀ kept₀ written₀ i₀ line out kept written i = n - i
+μ-loop block line₀ before out₀ kept₀ written₀ from₀ line out kept written from = length block - from
 
 loop-holds : tie.Need-loop-holds Inv-loop μ-loop
-loop-holds c = search needs
+loop-holds c = (omega arith, omega arith, refl, refl)
 
-element-copy-out-byte : tie.Need-element-copy-out-byte Inv-loop μ-loop
-element-copy-out-byte c = search needs
+sub-gather : tie.Need-sub-gather Inv-loop μ-loop
+sub-gather c = c .before .loop .inv .0
 
-add-i : tie.Need-add-i Inv-loop μ-loop
-add-i c = search needs
+part-gather-start : tie.Need-part-gather-start Inv-loop μ-loop
+part-gather-start c = search needs
 
-slice-reshare-prefix-verdict : tie.Need-slice-reshare-prefix-verdict Inv-loop μ-loop
-slice-reshare-prefix-verdict c = search needs
+part-gather-end : tie.Need-part-gather-end Inv-loop μ-loop
+part-gather-end c = search needs
 
-slice-aggregate-verdict : tie.Need-slice-aggregate-verdict Inv-loop μ-loop
-slice-aggregate-verdict c =
-    sym (length-take-le (c .before .before .before .before .loop .kept) (c .before .before .before .before .loop .line) (omega arith))
-
-verdict-requires : tie.Need-verdict-requires Inv-loop μ-loop
-verdict-requires c κs = search needs
-
-slice-write-out : tie.Need-slice-write-out Inv-loop μ-loop
-slice-write-out c = search needs
-
-add-out : tie.Need-add-out Inv-loop μ-loop
-add-out c = search needs
-
-slice-write-out-2 : tie.Need-slice-write-out-2 Inv-loop μ-loop
-slice-write-out-2 c = simp length-set (omega arith)
-
-add-written : tie.Need-add-written Inv-loop μ-loop
-add-written c = search needs
-
-loop-less : tie.Need-loop-less Inv-loop μ-loop
-loop-less c = search needs
-
-loop-again : tie.Need-loop-again Inv-loop μ-loop
-loop-again c = search needs
-
-slice-write-line : tie.Need-slice-write-line Inv-loop μ-loop
-slice-write-line c = search needs
-
-add-kept : tie.Need-add-kept Inv-loop μ-loop
-add-kept c = search needs
-
-loop-less-2 : tie.Need-loop-less-2 Inv-loop μ-loop
-loop-less-2 c = search needs
-
-loop-again-2 : tie.Need-loop-again-2 Inv-loop μ-loop
-loop-again-2 c = search needs
-
-loop-less-3 : tie.Need-loop-less-3 Inv-loop μ-loop
-loop-less-3 c = search needs
-
-loop-again-3 : tie.Need-loop-again-3 Inv-loop μ-loop
-loop-again-3 c = search needs
+gather-requires : tie.Need-gather-requires Inv-loop μ-loop
+gather-requires c κs = tt
 
 same-length : tie.Need-same-length Inv-loop μ-loop
 same-length c = search needs
 
 same-length-2 : tie.Need-same-length-2 Inv-loop μ-loop
-same-length-2 c = search needs
+same-length-2 c = c .before .before .before .before .before .before .before .before .loop .inv .3
 
 returns : tie.Need-returns Inv-loop μ-loop
-returns c = search needs
+returns c = let i = c .before .before .before .before .before .before .before .before .loop .inv in let p = c .before .before .before .before .before .before .before .before .before .before .before .before .pre in omega arith
+
+add-from : tie.Need-add-from Inv-loop μ-loop
+add-from c = let b = part-passed (c .before .before .before .before .before .before .before .before .before .before .before .before .before .args .block .now) _ _ _ _ _ (c .before .before .before .before .before .gather .ensures) (c .before .before .before .before .before .before .before .before .loop-test .taken) in let g = c .before .before .before .before .before .before .before .before .before .before .before .before .before .good in omega arith
+
+verdict-requires : tie.Need-verdict-requires Inv-loop μ-loop
+verdict-requires c κs = tt
+
+slice-write-out : tie.Need-slice-write-out Inv-loop μ-loop
+slice-write-out c = let i = c .before .before .before .before .before .before .before .before .before .before .before .loop .inv in let p = c .before .before .before .before .before .before .before .before .before .before .before .before .before .before .before .pre in let t = c .before .before .before .before .before .before .before .before .before .before .loop-test .taken in omega arith
+
+add-out : tie.Need-add-out Inv-loop μ-loop
+add-out c = let i = c .before .before .before .before .before .before .before .before .before .before .before .loop .inv in let p = c .before .before .before .before .before .before .before .before .before .before .before .before .before .before .before .pre in let t = c .before .before .before .before .before .before .before .before .before .before .loop-test .taken in omega arith
+
+slice-write-out-2 : tie.Need-slice-write-out-2 Inv-loop μ-loop
+slice-write-out-2 c = let i = c .before .before .before .before .before .before .before .before .before .before .before .loop .inv in let p = c .before .before .before .before .before .before .before .before .before .before .before .before .before .before .before .pre in let t = c .before .before .before .before .before .before .before .before .before .before .loop-test .taken in simp length-set (omega arith)
+
+add-written : tie.Need-add-written Inv-loop μ-loop
+add-written c = let i = c .before .before .before .before .before .before .before .before .before .before .before .loop .inv in let p = c .before .before .before .before .before .before .before .before .before .before .before .before .before .before .before .pre in let t = c .before .before .before .before .before .before .before .before .before .before .loop-test .taken in omega arith
+
+loop-less : tie.Need-loop-less Inv-loop μ-loop
+loop-less c = let b = part-passed (c .before .before .before .before .before .before .before .before .before .before .before .before .before .before .before .args .block .now) _ _ _ _ _ (c .before .before .before .before .before .before .before .gather .ensures) (c .before .before .before .before .before .before .before .before .before .before .loop-test .taken) in omega arith
+
+loop-again : tie.Need-loop-again Inv-loop μ-loop
+loop-again c = let i = c .before .before .before .before .before .before .before .before .before .before .before .loop .inv in let b = part-passed (c .before .before .before .before .before .before .before .before .before .before .before .before .before .before .before .args .block .now) _ _ _ _ _ (c .before .before .before .before .before .before .before .gather .ensures) (c .before .before .before .before .before .before .before .before .before .before .loop-test .taken) in (b .1, omega arith, (search needs), simp length-set (i .3))
+
+same-length-3 : tie.Need-same-length-3 Inv-loop μ-loop
+same-length-3 c = c .before .loop .inv .2
+
+same-length-4 : tie.Need-same-length-4 Inv-loop μ-loop
+same-length-4 c = c .before .loop .inv .3
+
+returns-2 : tie.Need-returns-2 Inv-loop μ-loop
+returns-2 c = let i = c .before .loop .inv in let p = c .before .before .before .before .before .pre in omega arith
 
 pub judge-block-spec : {M : Type 1} → statement M
 judge-block-spec =
@@ -87,10 +79,14 @@ judge-block-spec =
     Inv-loop
     μ-loop
     loop-holds
-    element-copy-out-byte
-    add-i
-    slice-reshare-prefix-verdict
-    slice-aggregate-verdict
+    sub-gather
+    part-gather-start
+    part-gather-end
+    gather-requires
+    same-length
+    same-length-2
+    returns
+    add-from
     verdict-requires
     slice-write-out
     add-out
@@ -98,12 +94,6 @@ judge-block-spec =
     add-written
     loop-less
     loop-again
-    slice-write-line
-    add-kept
-    loop-less-2
-    loop-again-2
-    loop-less-3
-    loop-again-3
-    same-length
-    same-length-2
-    returns)
+    same-length-3
+    same-length-4
+    returns-2)

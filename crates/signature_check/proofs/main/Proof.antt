@@ -1,21 +1,13 @@
 -- `signature_check::main` is safe and ends: the loop counts its turns down. Assumes nothing.
 use mathlib.Core.Path.{_≡_, sym}
-use Prim.Native.Nat.{_≤_}
 use lib.ListN.{length}
 use lib.Seq.{length-take-le}
 use borrow.Author.Needs.{needs}
 use Rattle.signature_check.proofs.main.Statement.{statement}
 use Rattle.signature_check.proofs.main.Tie as tie
-use Rattle.signature_check.proofs.main.Reads as reads
-use Rattle.signature_check.proofs.main.Lts as lts
-use Rattle.io.proofs.count.Reads as count-reads
-use Rattle.io.proofs.write_all.Reads as write-all-reads
-use Rattle.libc.proofs.read.Reads as read-reads
-use Rattle.signature_check.proofs.judge_block.Reads as judge-block-reads
-use Rattle.signature_check.proofs.judge_rest.Reads as judge-rest-reads
 
 abbrev Inv-loop : tie.InvT-loop
-Inv-loop line₀ kept₀ turns₀ line kept turns = (length line ≡ 256) × (kept ≤ 256)
+Inv-loop line₀ kept₀ turns₀ line kept turns = length line ≡ 256
 
 abbrev μ-loop : tie.MeasureT-loop
 μ-loop line₀ kept₀ turns₀ line kept turns = turns
@@ -44,11 +36,17 @@ judge-rest-requires c κs = search needs
 returns : tie.Need-returns Inv-loop μ-loop
 returns c = search needs
 
+array-share-prefix-block : tie.Need-array-share-prefix-block Inv-loop μ-loop
+array-share-prefix-block c = search needs
+
 slice-aggregate-judge-block : tie.Need-slice-aggregate-judge-block Inv-loop μ-loop
 slice-aggregate-judge-block c = search needs
 
 slice-aggregate-judge-block-2 : tie.Need-slice-aggregate-judge-block-2 Inv-loop μ-loop
 slice-aggregate-judge-block-2 c = search needs
+
+slice-aggregate-judge-block-3 : tie.Need-slice-aggregate-judge-block-3 Inv-loop μ-loop
+slice-aggregate-judge-block-3 c = search needs
 
 judge-block-requires : tie.Need-judge-block-requires Inv-loop μ-loop
 judge-block-requires c κs = search needs
@@ -88,8 +86,10 @@ main-spec =
     slice-aggregate-judge-rest
     judge-rest-requires
     returns
+    array-share-prefix-block
     slice-aggregate-judge-block
     slice-aggregate-judge-block-2
+    slice-aggregate-judge-block-3
     judge-block-requires
     array-share-prefix-out
     slice-aggregate-write-all

@@ -1,13 +1,10 @@
+-- `leaves_check::print::then_bytes` is safe and ends: what is left of the bytes is the measure. Assumes nothing.
 use borrow.Author.Needs.{needs}
 use native.Mathlib.Omega.{arith}
 use lib.ListN.{length}
-use Prim.Native.Nat.{_-_, _+_, _≤_}
+use Prim.Native.Nat.{_-_, _≤_}
 use Rattle.leaves_check.proofs.print.then_bytes.Statement.{statement}
 use Rattle.leaves_check.proofs.print.then_bytes.Tie as tie
-use Rattle.leaves_check.proofs.print.then_bytes.Reads as reads
-use Rattle.leaves_check.proofs.print.then_bytes.Lts as lts
-use Rattle.io.proofs.print_hex.Reads as print-hex-reads
-use Rattle.io.proofs.write_all.Reads as write-all-reads
 
 abbrev Inv-loop : tie.InvT-loop
 Inv-loop bytes i₀ i = i ≤ length bytes
@@ -15,51 +12,39 @@ Inv-loop bytes i₀ i = i ≤ length bytes
 abbrev μ-loop : tie.MeasureT-loop
 μ-loop bytes i₀ i = length bytes - i
 
--- src/print.rt:15:34
 slice-aggregate-write-all : tie.Need-slice-aggregate-write-all Inv-loop μ-loop
 slice-aggregate-write-all c = omega arith
 
--- src/print.rt:15:5
 write-all-requires : tie.Need-write-all-requires Inv-loop μ-loop
 write-all-requires c κs = search needs
 
--- src/print.rt:17:38
 slice-aggregate-write-all-2 : tie.Need-slice-aggregate-write-all-2 Inv-loop μ-loop
 slice-aggregate-write-all-2 c = omega arith
 
--- src/print.rt:17:9
 write-all-requires-2 : tie.Need-write-all-requires-2 Inv-loop μ-loop
 write-all-requires-2 c κs = search needs
 
--- src/print.rt:20:5
 loop-holds : tie.Need-loop-holds Inv-loop μ-loop
 loop-holds c = omega arith
 
--- src/print.rt:21:38
 shared-slice-read-print-hex : tie.Need-shared-slice-read-print-hex Inv-loop μ-loop
 shared-slice-read-print-hex c = omega arith
 
--- src/print.rt:21:38
 cast-print-hex : tie.Need-cast-print-hex Inv-loop μ-loop
 cast-print-hex c = omega (arith, c .shared-slice-known2 .given (c .before .before .loop .i))
 
--- src/print.rt:21:9
 print-hex-requires : tie.Need-print-hex-requires Inv-loop μ-loop
 print-hex-requires c κs = search needs
 
--- src/print.rt:22:9
 add-i : tie.Need-add-i Inv-loop μ-loop
 add-i c = omega arith
 
--- src/print.rt:20:5
 loop-less : tie.Need-loop-less Inv-loop μ-loop
 loop-less c = omega arith
 
--- src/print.rt:20:5
 loop-again : tie.Need-loop-again Inv-loop μ-loop
 loop-again c = search needs
 
--- src/print.rt:14:1
 returns : tie.Need-returns Inv-loop μ-loop
 returns c = search needs
 

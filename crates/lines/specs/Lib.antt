@@ -1,0 +1,5 @@
+pub mod Hexadecimal
+pub mod Decimals
+pub mod Storing
+pub mod Lines
+pub mod Words

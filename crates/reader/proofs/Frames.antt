@@ -1,16 +1,15 @@
 -- A whole frame: a law for each way out of whole, and from its answer to those of size and read. Assumes nothing.
 use mathlib.Core.Path.{_≡_, refl, ap, sym, _∙_}
-use mathlib.Core.List.{List, [], _∷_, _++_, append-assoc}
-use mathlib.Core.Bool.{Bool, true, false, _&&_, false≢true}
-use Prim.Native.Nat.{ℕ, zero, suc, _+_, _-_, _*_, _/_, _≤_, _<_}
+use mathlib.Core.List.{List, []}
+use mathlib.Core.Bool.{Bool, true, false, _&&_}
+use Prim.Native.Nat.{ℕ, _-_, _*_, _/_, _≤_, _<_}
 use native.Mathlib.Omega.{arith}
-use native.Mathlib.Nat.{suc-add, zero-add, add-zero}
-use lib.Dec.{leb, ltb, eqb}
-use lib.ListN.{length, drop, set, length-append}
-use borrow.Author.Tests.{eq-eqb, ne-eqb, eqb-true, lt-ltb, le-leb, lt-leb}
+use native.Mathlib.Nat.{zero-add}
+use lib.Dec.{leb, eqb}
+use lib.ListN.{length}
+use borrow.Author.Tests.{eq-eqb, ne-eqb, eqb-true, le-leb, lt-leb}
 use Rattle.meaning.specs.Choice.{pick}
 use Rattle.meaning.specs.Depths.{Depths, noneOpen, depthRefusal}
-use Rattle.meaning.specs.Events.{Event, triples}
 use Rattle.meaning.specs.Outcome.{Outcome}
 use Rattle.meaning.specs.Limits.{largestFrame}
 use Rattle.meaning.specs.Calls.{frameOf, frameReading, Counts, counts, sized, fitted, filled, size, read, readSlice}
@@ -18,11 +17,15 @@ use Rattle.meaning.proofs.Bounds.{frame-events}
 use Rattle.container_depths.specs.Opening.{depthsOf}
 use Rattle.container_depths.specs.declared.ContainerDepths.{ContainerDepths}
 use Rattle.signature.specs.Places.{isType}
-use Rattle.reader.specs.Answers.{next, put, putAll, advance, Done, countsOf}
-use Rattle.reader.specs.Places.{treeAt, Within, readerOf}
-use Rattle.reader.specs.declared.Answer.{Answer}
-use Rattle.reader.proofs.Answers.{answer, refusing}
-use Rattle.reader.proofs.Variants.{Judged, refused-type}
+use Rattle.reader_basic.specs.Answers.{Done, countsOf}
+use Rattle.reader_cycle.specs.Places.{readerOf}
+use Rattle.reader_basic.specs.Parts.{Within}
+use Rattle.reader_basic.specs.declared.Answer.{Answer}
+use Rattle.reader_basic.proofs.Answers.{answer, refusing}
+use Rattle.signature.specs.Trees.{treeAt}
+use Rattle.signature.proofs.Answers.{judged-none}
+use Rattle.signature.proofs.TreeLaws.{Front}
+use Rattle.events.proofs.SliceLaws.{advance-most, fills}
 
 -- a frame is within the limits, with no container open
 pub within-frame : {len position : ℕ} {d : ContainerDepths} → len ≤ 65536 → position ≤ 65536 → depthsOf d ≡ noneOpen → Within len 0 position d
@@ -36,9 +39,9 @@ module _ (type : List ℕ) (big : Bool) (position : ℕ) (frame l : List ℕ) wh
 
   pub whole-type : isType type ≡ false → reads l (answer 1 0 0)
   unfolding frameReading frameOf
-  whole-type h = rw (refused-type type h) (refusing 1 0 (length frame) (length frame) 0 l (λ w. omega arith))
+  whole-type h = rw (judged-none type h) (refusing 1 0 (length frame) (length frame) 0 l (λ w. omega arith))
 
-  module _ (j : Judged type) where
+  module _ (j : Front type) where
     whole-past : (leb (length frame) largestFrame && leb position largestFrame) ≡ false → reads l (answer 2 0 0)
     unfolding frameReading frameOf
     whole-past h = rw (j .type, h) (refusing 2 0 (length frame) (length frame) 0 l (λ w. omega arith))
@@ -50,48 +53,16 @@ module _ (type : List ℕ) (big : Bool) (position : ℕ) (frame l : List ℕ) wh
     whole-far h i = whole-past (rw (le-leb (length frame) 65536 h, lt-leb position 65536 i))
 
     module _ (h : length frame ≤ 65536) (i : position ≤ 65536) (d : ContainerDepths) (e : depthsOf d ≡ noneOpen) where
-      pub whole-read : (l′ : List ℕ) (r : Answer) → Done (readerOf position big (d .variant) (treeAt type 0) (depthsOf d) 0 frame) (length frame) (length frame) 0 l l′ r → reads l′ r
+      pub whole-read : (x : ℕ) → x ≡ 0 → (l′ : List ℕ) (r : Answer) → Done (readerOf position big (d .variant) (treeAt type x) (depthsOf d) 0 frame) (length frame) (length frame) 0 l l′ r → reads l′ r
       unfolding frameReading frameOf
-      whole-read l′ r c =
+      whole-read x q l′ r c =
           let v : d .variant ≡ 0 = ap (λ (x : Depths). x .variant) e in
-          rw (j .type, le-leb (length frame) 65536 h, le-leb position 65536 i) (rw (e, v) at c)
+          rw (j .type, le-leb (length frame) 65536 h, le-leb position 65536 i) (rw (q, e, v) at c)
 
 -- ---- counts
 
-advance-is : (es : List Event) (n : ℕ) → n + length es ≤ 18446744073709551615 → advance n es ≡ n + length es
-unfolding advance next
-advance-is [] n h = omega arith
-advance-is (e ∷ es) n h = rw (lt-ltb n 18446744073709551615 (omega arith)) (omega (arith, advance-is es (n + 1) (omega arith)))
-
 counts-by : {a b : Counts} → a .refusal ≡ b .refusal → a .used ≡ b .used → a .count ≡ b .count → a ≡ b
 counts-by {a} {b} p q r = let e : counts (a .refusal) (a .used) (a .count) ≡ counts (b .refusal) (b .used) (b .count) = rw (p, q, r) in e
-
--- ---- a slice that is filled
-
-set-behind : (a b : List ℕ) (k v : ℕ) → set (a ++ b) (length a + k) v ≡ a ++ set b k v
-set-behind [] b k v = rw (zero-add k)
-set-behind (x ∷ a) b k v = rw (suc-add (length a) k) (ap (λ (y : List ℕ). x ∷ y) (set-behind a b k v))
-
-put-behind : (a : List ℕ) (x y z : ℕ) (b : List ℕ) (n : ℕ) (e : Event) → length a ≡ 3 * n → put (a ++ (x ∷ y ∷ z ∷ b)) n e ≡ a ++ (e .kind ∷ e .place ∷ e .payload ∷ b)
-unfolding put
-put-behind a x y z b n e h =
-    let room : n < length (a ++ (x ∷ y ∷ z ∷ b)) / 3 = omega (arith, length-append a (x ∷ y ∷ z ∷ b)) in
-    let first : set (a ++ (x ∷ y ∷ z ∷ b)) (length a) (e .kind) ≡ a ++ (e .kind ∷ y ∷ z ∷ b) = rw (add-zero (length a)) at (set-behind a (x ∷ y ∷ z ∷ b) 0 (e .kind)) in
-    rw (lt-ltb n (length (a ++ (x ∷ y ∷ z ∷ b)) / 3) room, ← h)
-    (rw (first, set-behind a (e .kind ∷ y ∷ z ∷ b) 1 (e .place), set-behind a (e .kind ∷ e .place ∷ z ∷ b) 2 (e .payload)))
-
-fills : (es : List Event) (a b : List ℕ) (n : ℕ) → length a ≡ 3 * n → 3 * length es ≤ length b → n + length es ≤ 18446744073709551615
-    → putAll (a ++ b) n es ≡ a ++ (triples es ++ drop (3 * length es) b)
-unfolding putAll triples next
-fills [] a b n h i g = refl
-fills (e ∷ es) a [] n h i g = absurd (omega arith)
-fills (e ∷ es) a (x ∷ []) n h i g = absurd (omega arith)
-fills (e ∷ es) a (x ∷ y ∷ []) n h i g = absurd (omega arith)
-fills (e ∷ es) a (x ∷ y ∷ z ∷ b) n h i g =
-    let t = e .kind ∷ e .place ∷ e .payload ∷ [] in
-    let m : 3 * suc (length es) ≡ suc (suc (suc (3 * length es))) = omega arith in
-    rw (put-behind a x y z b n e h, lt-ltb n 18446744073709551615 (omega arith), m, ← append-assoc a t b)
-    (fills es (a ++ t) b (n + 1) (omega (arith, length-append a t)) (omega arith) (omega arith) ∙ append-assoc a t (triples es ++ drop (3 * length es) b))
 
 -- ---- from the answer of whole to those of size and read
 
@@ -104,7 +75,9 @@ module _ (type : List ℕ) (big : Bool) (position : ℕ) (frame : List ℕ) wher
     few z = frame-events type big position frame (sym (d .refusal) ∙ z)
 
     counted : r .refusal ≡ 0 → r .count ≡ length (o .events)
-    counted z = d .count ∙ advance-is (o .events) 0 (omega (arith, few z)) ∙ zero-add (length (o .events))
+    counted z =
+        let m = few z in
+        d .count ∙ advance-most (o .events) 0 (omega arith) ∙ omega arith
 
     pub size-done : r .refusal ≡ 0 → countsOf r ≡ size type big position frame
     unfolding size sized
@@ -158,3 +131,14 @@ module _ (type : List ℕ) (big : Bool) (position : ℕ) (frame : List ℕ) wher
       slice-done =
           let m : s .count ≡ length (o .events) = ap (λ (x : Counts). x .count) (h ∙ sym (size-done d zero-too)) ∙ counted d zero-too in
           rw (← read-done) (rw (eq-eqb (r .refusal) 0 zero-too) (d .slice ∙ fills (o .events) [] out 0 refl (omega arith) (omega (arith, few d zero-too))))
+
+-- a text that is no type
+module _ (type : List ℕ) (big : Bool) (position : ℕ) (frame : List ℕ) (h : isType type ≡ false) where
+  pub type-refused : countsOf (answer 1 0 0) ≡ size type big position frame
+  type-refused = size-refused type big position frame (whole-type type big position frame [] h) (λ w. omega arith)
+
+  pub type-read : (out : List ℕ) → countsOf (answer 1 0 0) ≡ read type big position frame out
+  type-read out = read-refused type big position frame out (answer 1 0 0) type-refused (λ w. omega arith)
+
+  pub type-slice : (out : List ℕ) → out ≡ readSlice type big position frame out
+  type-slice out = slice-refused type big position frame out (answer 1 0 0) type-refused (λ w. omega arith)

@@ -1,12 +1,2 @@
-pub mod Answers
-pub mod Arrays
-pub mod Entries
 pub mod Frames
-pub mod ItemLaws
-pub mod Leaves
-pub mod Readers
-pub mod Rests
-pub mod Structures
-pub mod Variants
 pub mod Unique
-pub mod NumberLaws

@@ -1,39 +1,28 @@
--- The answers of the public functions: one law for each way out, and that two answers which satisfy a contract are the same.
--- Assumes nothing.
-use mathlib.Core.Path.{_≡_, refl, sym, ap, _∙_}
+-- What the judge says of a text, and whether a field is the last. Assumes nothing.
+use mathlib.Core.Path.{_≡_, refl, ap, _∙_}
 use mathlib.Core.List.{List, [], _∷_}
 use mathlib.Core.Option.{Option, none, some}
 use mathlib.Core.Bool.{Bool, true, false}
-use Prim.Native.Nat.{ℕ, _+_, _-_, _≤_, _<_}
+use Prim.Native.Nat.{ℕ, _-_, _≤_, _<_}
 use native.Mathlib.Omega.{arith}
 use lib.Dec.{leb, eqb}
 use lib.ListN.{length, drop, length-drop}
 use borrow.Author.Tests.{eqb-true, le-leb, lt-leb, eq-eqb, ne-eqb}
 use Rattle.meaning.specs.Choice.{pick}
-use Rattle.meaning.specs.Types.{Tree, basic, variant, maybe, array, dictionary, structure, last}
+use Rattle.meaning.specs.Types.{Tree, last}
 use Rattle.meaning.specs.TypeText.{basicAmong, Found, found, firstType, nothingBehind, typeOf}
 use Rattle.meaning.proofs.TypeTextLaws.{typeOf-sound}
-use Rattle.signature.specs.Places.{present, isType, letterOf, letterBy, letterIn, letterAt, typeAt, noChild, childBy, childAt, closedBy, fieldAt, noEntry, entryOf, entryBy, entryAt}
-use Rattle.signature.specs.declared.Child.{Child}
-use Rattle.signature.specs.declared.Field.{Field}
-use Rattle.signature.specs.declared.Letter.the-variants.{Array, OpenEntry, CloseStructure}
+use Rattle.signature.specs.Places.{present, isType, letterOf, letterBy, letterIn, letterAt, typeAt, noChild, childBy, childAt, closedBy, fieldAt}
+use Rattle.signature.specs.Places.{Field}
+use Rattle.signature.specs.declared.Letter.the-variants.{CloseStructure}
 use Rattle.signature.proofs.Letters.{cut}
 use Rattle.signature.proofs.Children.{typeAt-is, Stands}
-use Rattle.signature.proofs.Dispatch.{shown}
-
--- every contract is an equation with a definition, so two answers that satisfy it are the same
-pub one-answer : {A : Type 0} {x y z : A} → x ≡ z → y ≡ z → x ≡ y
-one-answer p q = p ∙ sym q
 
 -- ---- a text of more than 255 characters
 
 pub child-long : (l : List ℕ) (at : ℕ) → 255 < length l → noChild (letterAt l at) ≡ childAt l at
 unfolding childAt typeAt childBy
 child-long l at h = rw (lt-leb (length l) 255 h)
-
-pub entry-long : (l : List ℕ) (at : ℕ) → 255 < length l → noEntry ≡ entryAt l at
-unfolding entryAt typeAt entryBy
-entry-long l at h = rw (lt-leb (length l) 255 h)
 
 -- ---- the judge
 
@@ -83,17 +72,6 @@ judged-none l h = go (typeOf l) h
 
 -- ---- fields
 
-abbrev pub withChild : Bool → Child → Field
-withChild q v = record { child = v; last = q }
-
-pub field-missing : (l : List ℕ) (at : ℕ) → childAt l at .found ≡ false → _≡_ {A = Field} (record { child = childAt l at; last = false }) (fieldAt l at)
-unfolding fieldAt childAt childBy closedBy
-field-missing l at h = go (typeAt l at) h
-  where
-    go : (x : Found Tree) → childBy (letterAt l at) (length l) x .found ≡ false → _≡_ {A = Field} (record { child = childBy (letterAt l at) (length l) x; last = false }) (record { child = childBy (letterAt l at) (length l) x; last = closedBy x })
-    go none e = refl
-    go (some g) e = let z : _≡_ {A = ℕ} 0 1 = cc in absurd (omega arith)
-
 module _ (l : List ℕ) (at : ℕ) (s : Stands l at (childAt l at)) where
   typed : typeAt l at ≡ found (s .it) (drop (childAt l at .next) l)
   typed = typeAt-is l at (s .few) ∙ s .type
@@ -115,28 +93,3 @@ module _ (l : List ℕ) (at : ℕ) (s : Stands l at (childAt l at)) where
       go : (r : List ℕ) → (letterIn r ≡ CloseStructure → ⊥) → _≡_ {A = Field} (record { child = childAt l at; last = false }) (record { child = childAt l at; last = closedBy (found (s .it) r) })
       go [] e = refl
       go (x ∷ r) e = ap (λ q. record { child = childAt l at; last = q }) (test x (eqb x 41) refl e)
-
--- ---- dictionaries
-
-entry-other : (l : List ℕ) (at : ℕ) → (letterAt l at ≡ Array → letterAt l (at + 1) ≡ OpenEntry → ⊥) → noEntry ≡ entryAt l at
-unfolding entryAt typeAt entryBy entryOf
-entry-other l at h = go (leb (length l) 255) (firstType (drop at l)) refl
-  where
-    tree : (t : Tree) (r : List ℕ) (n : ℕ) → firstType (drop at l) ≡ found t r → noEntry ≡ entryOf l at n t
-    tree (basic b) r n e = refl
-    tree variant r n e = refl
-    tree (maybe t) r n e = refl
-    tree (array t) r n e = refl
-    tree (dictionary b t) r n e = let w = shown l at (dictionary b t) r e in absurd (h (w .letter) (w .entry))
-    tree (structure ts) r n e = refl
-
-    go : (q : Bool) (x : Found Tree) → firstType (drop at l) ≡ x → noEntry ≡ entryBy l at (pick q x none)
-    go false x e = refl
-    go true none e = refl
-    go true (some g) e = tree (g .it) (g .behind) (length l - length (g .behind)) e
-
-pub entry-no-array : (l : List ℕ) (at : ℕ) → (letterAt l at ≡ Array → ⊥) → noEntry ≡ entryAt l at
-entry-no-array l at h = entry-other l at (λ a o. h a)
-
-pub entry-no-entry : (l : List ℕ) (at : ℕ) → (letterAt l (at + 1) ≡ OpenEntry → ⊥) → noEntry ≡ entryAt l at
-entry-no-entry l at h = entry-other l at (λ a o. h o)

@@ -16,10 +16,10 @@ use Rattle.meaning.specs.Padding.{Aligns}
 use Rattle.meaning.proofs.PaddingLaws.{aligns-positive, padding-below}
 use Rattle.meaning.proofs.TypeLaws.{aligned, fields-aligned, aligns-most}
 use Rattle.meaning.proofs.TypeTextLaws.{typeText-positive, firstType-none, firstType-cons, firstType-sound, firstFields-is, fixedSize-most, basic-letter, made-some, ended-some}
-use Rattle.signature.specs.Places.{basicKind, letterOf, letterBy, letterIn, letterAt, typeAt, child, noChild, childBy, childAt, noEntry, entryOf, entryBy, entryAt}
+use Rattle.signature.specs.Places.{basicKind, letterOf, letterBy, letterIn, letterAt, typeAt, childOf, noChild, childBy, childAt, noEntry, entryOf, entryBy, entryAt}
 use Rattle.signature.specs.Steps.{structureBy, keyAlignment, keyFixed}
-use Rattle.signature.specs.declared.Child.{Child}
-use Rattle.signature.specs.declared.Entry.{Entry}
+use Rattle.signature.specs.Places.{Child}
+use Rattle.signature.specs.Places.{Entry}
 use Rattle.signature.specs.declared.Letter.{Letter}
 use Rattle.signature.specs.declared.Letter.the-variants.{Maybe, Array, OpenStructure, CloseStructure, OpenEntry, CloseEntry}
 use Rattle.signature.proofs.Letters.{Cut, cut, Key, key-at, no-key-at}
@@ -52,7 +52,7 @@ unfolding alignment fixed fixedSize
 holds-array = record { aligns = λ t. refl; loose = λ t. refl; empty = λ t. refl }
 
 abbrev pub heldBy : Letter → Child → Child
-heldBy k c = child k (c .found) (c .next) (c .alignment) false 0
+heldBy k c = childOf k (c .found) (c .next) (c .alignment) false 0
 
 held : (f : Tree → Tree) → Holds f → (k j : Letter) (len : ℕ) (x : Found Tree) → childBy k len (made f x) ≡ heldBy k (childBy j len x)
 unfolding childBy made
@@ -159,7 +159,7 @@ child-missing l at n h = go (firstType (drop at l)) (ap (λ (c : Child). c .foun
 
 -- what is known of the type at a place, from the type
 pub child-is : (l : List ℕ) (at : ℕ) (t : Tree) (r : List ℕ) → length l ≤ 255 → firstType (drop at l) ≡ found t r
-    → childAt l at ≡ child (letterAt l at) true (length l - length r) (alignment t) (fixed t) (fixedSize t)
+    → childAt l at ≡ childOf (letterAt l at) true (length l - length r) (alignment t) (fixed t) (fixedSize t)
 unfolding childBy
 child-is l at t r n h = child-by l at n ∙ ap (childBy (letterAt l at) (length l)) h
 
@@ -193,7 +193,7 @@ entryWith k place v = record {
 
 -- a dictionary, from its entry
 abbrev pub dictionaryBy : Entry → Child
-dictionaryBy e = child Array (e .found) (e .next) (e .alignment) false 0
+dictionaryBy e = childOf Array (e .found) (e .next) (e .alignment) false 0
 
 dictionary-made : (l : List ℕ) (at : ℕ) (b : Basic) (x : Found Tree) → dictionaryBy (entryBy l at (made (dictionary b) x)) ≡ childBy Array (length l) (made (dictionary b) x)
 unfolding childBy entryBy entryOf made alignment fixed fixedSize
@@ -212,8 +212,8 @@ dictionary-in l at (c ∷ r) = go (basicOf c)
 entry-same : (b : Basic) (t : Tree) (kind key : Letter) (place : ℕ) (k : Letter) (f : Bool) (behind a : ℕ) (x : Bool) (z : ℕ)
     → key ≡ basicKind b → k ≡ kind → f ≡ true → a ≡ alignment t → x ≡ fixed t → z ≡ fixedSize t
     → _≡_ {A = Entry}
-    (record { found = true; key = basicKind b; place = place; value = child kind true (behind + 1 - 1) (alignment t) (fixed t) (fixedSize t); alignment = max (basicAlignment b) (alignment t); fixed = basicFixed b && fixed t; next = behind + 1 })
-    (entryWith key place (child k f behind a x z))
+    (record { found = true; key = basicKind b; place = place; value = childOf kind true (behind + 1 - 1) (alignment t) (fixed t) (fixedSize t); alignment = max (basicAlignment b) (alignment t); fixed = basicFixed b && fixed t; next = behind + 1 })
+    (entryWith key place (childOf k f behind a x z))
 entry-same b t kind key place k f behind a x z hk hkind hf ha hx hz =
     let e : behind + 1 - 1 ≡ behind = omega arith in
     rw (hk, hkind, hf, ha, hx, hz, key-alignment, key-fixed, e)
@@ -390,17 +390,3 @@ module _ (l : List ℕ) (at place a : ℕ) (f : Bool) (end : ℕ) (n : length l 
         let w : length l - length (drop (v + 1) l) ≡ v + 1 = omega (arith, c .within) in
         let e : firstFields (drop place l) ≡ found (last (s .it)) (drop (v + 1) l) = firstFields-is (drop place l) ∙ ap (λ (x : Found Tree). fieldsBegun (λ k. firstFields k) x) (s .type ∙ ap (λ (x : List ℕ). found (s .it) x) (c .is)) in
         laid-last (length l) a f end (s .it) (drop (v + 1) l) (v + 1) (childAt l place .alignment) (childAt l place .fixed) (childAt l place .size) w (s .same-alignment) (s .same-fixed) (s .same-size) ∙ ap (laid (length l) a f end) (sym e) ∙ i .rest
-
--- ---- the same in the code's terms: `v` is the answer of a call
-
-pub entry-made : (key : Letter) (place : ℕ) (v : Child) (a : ℕ) (f : Bool) → a ≡ max (keyAlignment key) (v .alignment) → f ≡ (keyFixed key && v .fixed)
-    → _≡_ {A = Entry} (record { found = true; key = key; place = place; value = v; alignment = a; fixed = f; next = v .next + 1 }) (entryWith key place v)
-entry-made key place v a f ha hf = rw (ha, hf)
-
-pub structure-made : (v w : Child) (a b : ℕ) (f g : Bool) (end far : ℕ) → v ≡ w → b ≡ max a (v .alignment) → g ≡ (f && v .fixed) → far ≡ rounded end (v .alignment)
-    → structureBy (v .next + 1) b g (far + v .size) ≡ structureBy (w .next + 1) (max a (w .alignment)) (f && w .fixed) (rounded end (w .alignment) + w .size)
-structure-made v w a b f g end far hv hb hg hf = rw (hb, hg, hf, hv)
-
-pub fielding-made : (l : List ℕ) (at : ℕ) (v w : Child) (a b : ℕ) (f g : Bool) (end far : ℕ) → v ≡ w → b ≡ max a (v .alignment) → g ≡ (f && v .fixed) → far ≡ rounded end (v .alignment)
-    → Fielding l at (w .next) (max a (w .alignment)) (f && w .fixed) (rounded end (w .alignment) + w .size) → Fielding l at (v .next) b g (far + v .size)
-fielding-made l at v w a b f g end far hv hb hg hf i = rw (hb, hg, hf, hv) i

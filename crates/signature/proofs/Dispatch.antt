@@ -2,21 +2,21 @@
 -- Two readings of each law: from the type to the letters (`shown`), and from the letters to the type (`is-..`). Assumes nothing.
 use mathlib.Core.Path.{_≡_, refl, sym, ap, _∙_}
 use mathlib.Core.List.{List, [], _∷_, _++_, append-assoc}
-use mathlib.Core.Bool.{Bool, true, false, _&&_}
+use mathlib.Core.Bool.{Bool, true, false}
 use Prim.Native.Nat.{ℕ, _+_, _-_, _≤_, _<_}
 use native.Mathlib.Omega.{arith}
 use lib.ListN.{length, drop}
 use lib.Seq.{drop-drop}
 use borrow.Author.Tests.{eqb-false}
-use Rattle.meaning.specs.Types.{Basic, bool, number, text, Tree, Fields, basic, variant, maybe, array, dictionary, structure, last, next, numberWidth, basicFixed, alignment, fixed, fixedSize, Number as NumberType, Text as TextType}
+use Rattle.meaning.specs.Types.{Basic, bool, number, text, Tree, Fields, basic, variant, maybe, array, dictionary, structure, last, next, numberWidth, Number as NumberType, Text as TextType}
 use Rattle.meaning.specs.Letters.{numberLetter, textLetter, basicLetter}
 use Rattle.meaning.specs.TypeText.{typeText, fieldsText, basicAmong, found, firstType, firstFields}
 use Rattle.meaning.proofs.TypeTextLaws.{basic-letter, typeText-positive, head, firstType-typeText, firstType-sound, firstFields-fieldsText, firstFields-sound, fields-head}
-use Rattle.signature.specs.Places.{basicKind, letterOf, letterBy, letterIn, letterAt, child, childAt, closedBy, fieldAt, entryOf, entryBy, entryAt}
+use Rattle.signature.specs.Places.{basicKind, letterOf, letterBy, letterIn, letterAt, childOf, childAt, closedBy, fieldAt}
 use Rattle.signature.specs.declared.Letter.{Letter}
 use Rattle.signature.specs.declared.Letter.the-variants.{End, Bad, Boolean, Number, Text, Variant, Maybe, Array, OpenStructure, CloseStructure, OpenEntry, CloseEntry}
 use Rattle.signature.proofs.Letters.{cut}
-use Rattle.signature.proofs.Children.{typeAt-is, entry-by, behind-at, behind-is, child-is}
+use Rattle.signature.proofs.Children.{typeAt-is, behind-at, behind-is, child-is}
 
 -- ---- from the type to the letters
 
@@ -252,20 +252,6 @@ is-structure l at t r h k = go t (shown l at t r h)
     go (dictionary b u) s = let z : _≡_ {A = ℕ} 0 1 = cc in absurd (omega arith)
     go (structure us) s = record { it = us; type = refl; fields = s .fields }
 
--- where a type stands no other letter does
-pub is-type : (l : List ℕ) (at : ℕ) (t : Tree) (r : List ℕ) → firstType (drop at l) ≡ found t r → begins (letterAt l at) ≡ true
-is-type l at t r h = go t (shown l at t r h)
-  where
-    go : (t : Tree) → Shown l at t r → begins (letterAt l at) ≡ true
-    go (basic bool) s = ap begins (s .letter)
-    go (basic (number x)) s = ap begins (s .letter)
-    go (basic (text x)) s = ap begins (s .letter)
-    go variant s = ap begins (s .letter)
-    go (maybe u) s = ap begins (s .letter)
-    go (array u) s = ap begins (s .letter)
-    go (dictionary b u) s = ap begins (s .letter)
-    go (structure us) s = ap begins (s .letter)
-
 -- ---- a structure's fields, one after another
 
 pub field-child : (l : List ℕ) (at : ℕ) → fieldAt l at .child ≡ childAt l at
@@ -336,35 +322,3 @@ is-next l at ts r n h k = go ts (field-shown l at ts r n h)
     go : (us : Fields) → FieldShown l at us r → IsNext l at us r
     go (last t) s = let z : _≡_ {A = Bool} true false = sym (s .0) ∙ k in let w : _≡_ {A = ℕ} 0 1 = cc in absurd (omega arith)
     go (next t us) s = s .1
-
--- ---- a dictionary's entry
-
-pub record IsEntry (l : List ℕ) (at : ℕ) (b : Basic) (t : Tree) (r : List ℕ) : Type 0 where
-  pub there : entryAt l at .found ≡ true
-  pub same-key : entryAt l at .key ≡ basicKind b
-  pub same-place : entryAt l at .place ≡ at + 3
-  pub same-value : entryAt l at .value ≡ childAt l (at + 3)
-  pub same-alignment : entryAt l at .alignment ≡ alignment (dictionary b t)
-  pub same-fixed : entryAt l at .fixed ≡ (basicFixed b && fixed t)
-  pub behind : drop (entryAt l at .next) l ≡ r
-
-entry-value : (l : List ℕ) (at : ℕ) (t : Tree) (r : List ℕ) → length l ≤ 255 → firstType (drop (at + 3) l) ≡ found t (125 ∷ r)
-    → child (letterAt l (at + 3)) true (length l - length r - 1) (alignment t) (fixed t) (fixedSize t) ≡ childAt l (at + 3)
-entry-value l at t r n h =
-    let m : length l - length r - 1 ≡ length l - length (125 ∷ r) = omega arith in
-    rw m (sym (child-is l (at + 3) t (125 ∷ r) n h))
-
-pub is-entry : (l : List ℕ) (at : ℕ) (b : Basic) (t : Tree) (r : List ℕ) → length l ≤ 255 → firstType (drop at l) ≡ found (dictionary b t) r → IsEntry l at b t r
-unfolding entryOf entryBy alignment
-is-entry l at b t r n h =
-    let e = entry-by l at n ∙ ap (entryBy l at) h in
-    let s = shown l at (dictionary b t) r h in
-    record {
-      there = ap (λ x. x .found) e;
-      same-key = ap (λ x. x .key) e;
-      same-place = ap (λ x. x .place) e;
-      same-value = ap (λ x. x .value) e ∙ entry-value l at t r n (s .value);
-      same-alignment = ap (λ x. x .alignment) e;
-      same-fixed = ap (λ x. x .fixed) e;
-      behind = ap (λ x. drop (x .next) l) e ∙ behind-is l at (dictionary b t) r h;
-    }

@@ -19,9 +19,9 @@ use Rattle.meaning.specs.Letters.{basicLetter}
 use Rattle.meaning.specs.TypeText.{typeText, basicAmong, basicOf, Found, basicTree, entryBy, entryBegun, typeBegun, firstType}
 use Rattle.meaning.proofs.TypeLaws.{number-positive}
 use Rattle.meaning.proofs.TypeTextLaws.{basic-of, firstType-none, firstType-cons, firstType-typeText}
-use Rattle.signature.specs.Places.{basicKind, letterBy, letterOf, letterIn, letterAt, child, noChild, childBy, childAt, typeAt}
+use Rattle.signature.specs.Places.{basicKind, letterBy, letterOf, letterIn, letterAt, childOf, noChild, childBy, childAt, typeAt}
 use Rattle.signature.specs.Steps.{keyAlignment, keyFixed}
-use Rattle.signature.specs.declared.Child.{Child}
+use Rattle.signature.specs.Places.{Child}
 use Rattle.signature.specs.declared.Letter.{Letter}
 use Rattle.signature.proofs.Letter.{the-type}
 use Rattle.signature.specs.declared.Letter.the-variants.{End, Bad, Boolean, Number, Text, Variant, Maybe, Array, OpenStructure, CloseStructure, OpenEntry, CloseEntry}
@@ -228,10 +228,10 @@ alone CloseEntry = true
 abbrev pub loneChild : ℕ → Letter → Child
 loneChild next End = noChild End
 loneChild next Bad = noChild Bad
-loneChild next Boolean = child Boolean true next 1 true 1
-loneChild next (Number c w) = child (Number c w) true next w true w
-loneChild next (Text c) = child (Text c) true next 1 false 0
-loneChild next Variant = child Variant true next 8 false 0
+loneChild next Boolean = childOf Boolean true next 1 true 1
+loneChild next (Number c w) = childOf (Number c w) true next w true w
+loneChild next (Text c) = childOf (Text c) true next 1 false 0
+loneChild next Variant = childOf Variant true next 8 false 0
 loneChild next Maybe = noChild Maybe
 loneChild next Array = noChild Array
 loneChild next OpenStructure = noChild OpenStructure
@@ -273,7 +273,7 @@ none-child : (k : Letter) (len : ℕ) (x : Found Tree) → x ≡ none → childB
 unfolding childBy
 none-child k len x h = rw h
 
-lone-basic : (b : Basic) (n : ℕ) → child (basicKind b) true n (basicAlignment b) (basicFixed b) (pick (basicFixed b) (basicAlignment b) 0) ≡ loneChild n (basicKind b)
+lone-basic : (b : Basic) (n : ℕ) → childOf (basicKind b) true n (basicAlignment b) (basicFixed b) (pick (basicFixed b) (basicAlignment b) 0) ≡ loneChild n (basicKind b)
 lone-basic bool n = refl
 lone-basic (number x) n = refl
 lone-basic (text x) n = refl

@@ -1,2 +1,5 @@
 pub mod Places
 pub mod Steps
+pub mod Shapes
+pub mod Trees
+pub mod Items

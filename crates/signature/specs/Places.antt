@@ -11,9 +11,6 @@ use Rattle.meaning.specs.Letters.{numberLetter, textLetter}
 use Rattle.meaning.specs.TypeText.{Found, basicOf, firstType, typeOf}
 use Rattle.signature.specs.declared.Letter.{Letter}
 use Rattle.signature.specs.declared.Letter.the-variants.{End, Bad, Boolean, Number, Text, Variant, Maybe, Array, OpenStructure, CloseStructure, OpenEntry, CloseEntry}
-use Rattle.signature.specs.declared.Child.{Child}
-use Rattle.signature.specs.declared.Field.{Field}
-use Rattle.signature.specs.declared.Entry.{Entry}
 
 -- is a text one complete type of 1 to 255 characters?
 abbrev pub present : {A : Type 0} → Option A → Bool
@@ -56,16 +53,25 @@ letterAt l at = letterIn (drop at l)
 unfoldable pub typeAt : List ℕ → ℕ → Found Tree
 typeAt l at = pick (leb (length l) 255) (firstType (drop at l)) none
 
--- the place behind a type, its alignment, whether it is fixed, and its fixed size
-abbrev pub child : Letter → Bool → ℕ → ℕ → Bool → ℕ → Child
-child k found next a f n = record { kind = k; found = found; next = next; alignment = a; fixed = f; size = n }
+-- what there is to say of the type at a place: its first letter, whether there is one, the place behind it, its alignment, whether it is
+-- fixed, and its fixed size
+pub record Child : Type 0 where
+  pub kind : Letter
+  pub found : Bool
+  pub next : ℕ
+  pub alignment : ℕ
+  pub fixed : Bool
+  pub size : ℕ
+
+abbrev pub childOf : Letter → Bool → ℕ → ℕ → Bool → ℕ → Child
+childOf k found next a f n = record { kind = k; found = found; next = next; alignment = a; fixed = f; size = n }
 
 abbrev pub noChild : Letter → Child
-noChild k = child k false 0 0 false 0
+noChild k = childOf k false 0 0 false 0
 
 unfoldable pub childBy : Letter → ℕ → Found Tree → Child
 childBy k len none = noChild k
-childBy k len (some g) = child k true (len - length (g .behind)) (alignment (g .it)) (fixed (g .it)) (fixedSize (g .it))
+childBy k len (some g) = childOf k true (len - length (g .behind)) (alignment (g .it)) (fixed (g .it)) (fixedSize (g .it))
 
 unfoldable pub childAt : List ℕ → ℕ → Child
 childAt l at = childBy (letterAt l at) (length l) (typeAt l at)
@@ -75,10 +81,23 @@ unfoldable pub closedBy : Found Tree → Bool
 closedBy none = false
 closedBy (some g) = elim (g .behind) [ [] ↦ false | c ∷ l ↦ eqb c 41 ]
 
+pub record Field : Type 0 where
+  pub child : Child
+  pub last : Bool
+
 unfoldable pub fieldAt : List ℕ → ℕ → Field
 fieldAt l at = record { child = childAt l at; last = closedBy (typeAt l at) }
 
 -- the key and the value of the dictionary at a place, and its entry's alignment and whether that is fixed
+pub record Entry : Type 0 where
+  pub found : Bool
+  pub key : Letter
+  pub place : ℕ
+  pub value : Child
+  pub alignment : ℕ
+  pub fixed : Bool
+  pub next : ℕ
+
 abbrev pub noEntry : Entry
 noEntry = record { found = false; key = End; place = 0; value = noChild End; alignment = 0; fixed = false; next = 0 }
 
@@ -91,7 +110,7 @@ entryOf l at next (dictionary b t) = record {
   found = true;
   key = basicKind b;
   place = at + 3;
-  value = child (letterAt l (at + 3)) true (next - 1) (alignment t) (fixed t) (fixedSize t);
+  value = childOf (letterAt l (at + 3)) true (next - 1) (alignment t) (fixed t) (fixedSize t);
   alignment = max (basicAlignment b) (alignment t);
   fixed = basicFixed b && fixed t;
   next = next;

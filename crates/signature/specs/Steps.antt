@@ -3,10 +3,10 @@ use mathlib.Core.Bool.{Bool, true, false}
 use Prim.Native.Nat.{ℕ}
 use Rattle.meaning.specs.Choice.{pick}
 use Rattle.meaning.specs.Types.{rounded}
-use Rattle.signature.specs.Places.{child}
+use Rattle.signature.specs.Places.{childOf}
 use Rattle.signature.specs.declared.Letter.{Letter}
 use Rattle.signature.specs.declared.Letter.the-variants.{End, Bad, Boolean, Number, Text, Variant, Maybe, Array, OpenStructure, CloseStructure, OpenEntry, CloseEntry}
-use Rattle.signature.specs.declared.Child.{Child}
+use Rattle.signature.specs.Places.{Child}
 
 -- of a key's letter; 0 for what is no key
 abbrev pub keyAlignment : Letter → ℕ
@@ -39,4 +39,4 @@ keyFixed CloseEntry = false
 
 -- a structure of a place behind it, its alignment, whether it is fixed, and where its fields end
 abbrev pub structureBy : ℕ → ℕ → Bool → ℕ → Child
-structureBy next a f end = child OpenStructure true next a f (pick f (rounded end a) 0)
+structureBy next a f end = childOf OpenStructure true next a f (pick f (rounded end a) 0)

@@ -1,34 +1,62 @@
 -- `reader::read` meets its contract. Assumes nothing.
+use mathlib.Core.Path.{refl}
+use Rattle.signature.proofs.ShapeLaws.{table-refused, table-filled, table-type}
+use Rattle.reader_basic.proofs.Answers.{denied, granted}
+use Rattle.reader.proofs.Frames.{type-read, type-slice, read-refused, slice-refused, read-small, slice-small, read-done, slice-done}
 use borrow.Author.Needs.{needs}
-use Rattle.reader.proofs.Frames.{read-refused, slice-refused, read-small, slice-small, read-done, slice-done}
 use Rattle.reader.proofs.read.Statement.{statement}
 use Rattle.reader.proofs.read.Tie as tie
+use Rattle.reader.proofs.read.Reads as reads
+use Rattle.reader.proofs.read.Lts as lts
+use Rattle.reader.proofs.sized.Reads as sized-reads
+use Rattle.reader.proofs.whole.Reads as whole-reads
+use Rattle.signature.proofs.shapes.shapes_of.Reads as shapes-of-reads
 
-size-requires : tie.Need-size-requires
-size-requires c κs = search needs
+slice-aggregate-shapes-of : tie.Need-slice-aggregate-shapes-of
+slice-aggregate-shapes-of c = search needs
+
+shapes-of-requires : tie.Need-shapes-of-requires
+shapes-of-requires c κs = search needs
 
 returns : tie.Need-returns
-returns c =
-    (read-refused _ _ _ _ _ _ (c .before .size .ensures) (c .if1 .taken), slice-refused _ _ _ _ _ _ (c .before .size .ensures) (c .if1 .taken))
+returns c = (type-read _ _ _ _ (table-refused _ _ _ _ refl (c .before .before .shapes-of .ensures) (denied (c .if1 .taken))) _, type-slice _ _ _ _ (table-refused _ _ _ _ refl (c .before .before .shapes-of .ensures) (denied (c .if1 .taken))) _)
+
+slice-aggregate-sized : tie.Need-slice-aggregate-sized
+slice-aggregate-sized c = search needs
+
+sized-requires : tie.Need-sized-requires
+sized-requires c κs = (table-type _ _ _ _ refl (c .before .before .before .shapes-of .ensures) (granted (c .before .if1 .left)), table-filled _ _ _ _ refl (c .before .before .before .shapes-of .ensures) (c .before .before .before .shapes-of .kept .1 .0) (granted (c .before .if1 .left)))
 
 returns-2 : tie.Need-returns-2
-returns-2 c =
-    (read-small _ _ _ _ _ _ (c .before .before .size .ensures) (c .if2 .taken), slice-small _ _ _ _ _ _ (c .before .before .size .ensures) (c .if2 .taken))
+returns-2 c = (read-refused _ _ _ _ _ _ (c .before .sized .ensures) (c .if2 .taken), slice-refused _ _ _ _ _ _ (c .before .sized .ensures) (c .if2 .taken))
+
+returns-3 : tie.Need-returns-3
+returns-3 c = (read-small _ _ _ _ _ _ (c .before .before .sized .ensures) (c .if3 .taken), slice-small _ _ _ _ _ _ (c .before .before .sized .ensures) (c .if3 .taken))
+
+slice-aggregate-whole : tie.Need-slice-aggregate-whole
+slice-aggregate-whole c = search needs
 
 whole-requires : tie.Need-whole-requires
-whole-requires c κs = search needs
+whole-requires c κs = (table-type _ _ _ _ refl (c .before .before .before .before .before .before .before .before .shapes-of .ensures) (granted (c .before .before .before .before .before .before .if1 .left)), table-filled _ _ _ _ refl (c .before .before .before .before .before .before .before .before .shapes-of .ensures) (c .before .before .before .before .before .before .before .before .shapes-of .kept .1 .0) (granted (c .before .before .before .before .before .before .if1 .left)))
 
 same-length : tie.Need-same-length
 same-length c = search needs
 
-returns-3 : tie.Need-returns-3
-returns-3 c =
-    let w = c .before .before in
-    let t = w .before .before in (
-      read-done _ _ _ _ _ _ (t .before .before .size .ensures) (t .before .if1 .left) (t .if2 .left) _ _ (w .whole .ensures),
-      slice-done _ _ _ _ _ _ (t .before .before .size .ensures) (t .before .if1 .left) (t .if2 .left) _ _ (w .whole .ensures),
-    )
+returns-4 : tie.Need-returns-4
+returns-4 c = (read-done _ _ _ _ _ _ (c .before .before .before .before .before .before .before .sized .ensures) (c .before .before .before .before .before .before .if2 .left) (c .before .before .before .before .before .if3 .left) _ _ (c .before .before .whole .ensures), slice-done _ _ _ _ _ _ (c .before .before .before .before .before .before .before .sized .ensures) (c .before .before .before .before .before .before .if2 .left) (c .before .before .before .before .before .if3 .left) _ _ (c .before .before .whole .ensures))
 
 pub read-spec : {M : Type 1} → statement M
 read-spec =
-    tie.close (tie.spec size-requires returns returns-2 whole-requires same-length returns-3)
+    tie.close
+    (tie.spec
+    slice-aggregate-shapes-of
+    shapes-of-requires
+    returns
+    slice-aggregate-sized
+    sized-requires
+    returns-2
+    returns-3
+    slice-aggregate-whole
+    whole-requires
+    same-length
+    returns-4)

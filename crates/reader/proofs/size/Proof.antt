@@ -1,20 +1,41 @@
 -- `reader::size` meets its contract. Assumes nothing.
+use mathlib.Core.Path.{refl}
+use Rattle.signature.proofs.ShapeLaws.{table-refused, table-filled, table-type}
+use Rattle.reader_basic.proofs.Answers.{denied, granted}
+use Rattle.reader.proofs.Frames.{type-refused}
 use borrow.Author.Needs.{needs}
-use Rattle.reader.proofs.Frames.{size-done, size-refused}
 use Rattle.reader.proofs.size.Statement.{statement}
 use Rattle.reader.proofs.size.Tie as tie
+use Rattle.reader.proofs.size.Reads as reads
+use Rattle.reader.proofs.size.Lts as lts
+use Rattle.reader.proofs.sized.Reads as sized-reads
+use Rattle.signature.proofs.shapes.shapes_of.Reads as shapes-of-reads
 
-slice-aggregate-whole : tie.Need-slice-aggregate-whole
-slice-aggregate-whole c = search needs
+slice-aggregate-shapes-of : tie.Need-slice-aggregate-shapes-of
+slice-aggregate-shapes-of c = search needs
 
-whole-requires : tie.Need-whole-requires
-whole-requires c κs = search needs
+shapes-of-requires : tie.Need-shapes-of-requires
+shapes-of-requires c κs = search needs
 
 returns : tie.Need-returns
-returns c = size-refused _ _ _ _ (c .before .before .whole .ensures) (c .if1 .taken)
+returns c = type-refused _ _ _ _ (table-refused _ _ _ _ refl (c .before .before .shapes-of .ensures) (denied (c .if1 .taken)))
+
+slice-aggregate-sized : tie.Need-slice-aggregate-sized
+slice-aggregate-sized c = search needs
+
+sized-requires : tie.Need-sized-requires
+sized-requires c κs = (table-type _ _ _ _ refl (c .before .before .before .shapes-of .ensures) (granted (c .before .if1 .left)), table-filled _ _ _ _ refl (c .before .before .before .shapes-of .ensures) (c .before .before .before .shapes-of .kept .1 .0) (granted (c .before .if1 .left)))
 
 returns-2 : tie.Need-returns-2
-returns-2 c = size-done _ _ _ _ (c .before .before .whole .ensures) (c .if1 .left)
+returns-2 c = search needs
 
 pub size-spec : {M : Type 1} → statement M
-size-spec = tie.close (tie.spec slice-aggregate-whole whole-requires returns returns-2)
+size-spec =
+    tie.close
+    (tie.spec
+    slice-aggregate-shapes-of
+    shapes-of-requires
+    returns
+    slice-aggregate-sized
+    sized-requires
+    returns-2)

@@ -1,61 +1,46 @@
 -- `reader::whole` meets its contract. Assumes nothing.
-use mathlib.Core.Path.{sym, _∙_}
+use mathlib.Core.Path.{ap}
+use Rattle.signature.specs.declared.shapes.Shape.{Shape}
+use Rattle.signature.proofs.TreeLaws.{front, front-described, described-as}
+use Rattle.reader.proofs.Frames.{whole-long, whole-far, within-frame, whole-read}
 use borrow.Author.Needs.{needs}
-use Rattle.reader.proofs.Answers.{denied, granted}
-use Rattle.reader.proofs.Variants.{Judged, judged}
-use Rattle.reader.proofs.Frames.{whole-type, whole-long, whole-far, within-frame, whole-read}
 use Rattle.reader.proofs.whole.Statement.{statement}
 use Rattle.reader.proofs.whole.Tie as tie
-
-judge-requires : tie.Need-judge-requires
-judge-requires c κs = search needs
+use Rattle.reader.proofs.whole.Reads as reads
+use Rattle.reader.proofs.whole.Lts as lts
+use Rattle.container_depths.proofs.ContainerDepths.new.Reads as new-reads
+use Rattle.reader_cycle.proofs.value.Reads as value-reads
+use Rattle.signature.proofs.shapes.shape_in.Reads as shape-in-reads
 
 returns : tie.Need-returns
-returns c = whole-type _ _ _ _ _ (sym (c .before .judge .ensures) ∙ denied (c .if1 .taken))
+returns c = whole-long _ _ _ _ _ (front _ (c .before .before .before .before .before .pre .0)) (c .if1 .taken)
 
 returns-2 : tie.Need-returns-2
-returns-2 c =
-    whole-long _ _ _ _ _ (judged _ (sym (c .before .before .judge .ensures) ∙ granted (c .before .if1 .left))) (c .if2 .taken)
-
-returns-3 : tie.Need-returns-3
-returns-3 c =
-    whole-far _ _ _ _ _ (judged _ (sym (c .before .before .before .judge .ensures) ∙ granted (c .before .before .if1 .left))) (c .before .if2 .left) (c .if3 .taken)
-
-child-at-requires : tie.Need-child-at-requires
-child-at-requires c κs = search needs
+returns-2 c = whole-far _ _ _ _ _ (front _ (c .before .before .before .before .before .before .pre .0)) (c .before .if1 .left) (c .if2 .taken)
 
 new-requires : tie.Need-new-requires
 new-requires c κs = search needs
 
+shape-in-requires : tie.Need-shape-in-requires
+shape-in-requires c κs = search needs
+
 value-requires : tie.Need-value-requires
-value-requires c κs =
-    let n = c .before in
-    let a = n .before in
-    let e = a .before in
-    let j = judged _ (sym (e .before .before .before .judge .ensures) ∙ granted (e .before .before .if1 .left)) in
-    (j .typed, a .child-at .ensures, within-frame (e .before .if2 .left) (e .if3 .left) (n .new .ensures))
+value-requires c κs = (described-as (c .before .shape-in .ensures) (front-described _ _ (c .before .before .before .before .before .before .before .before .before .pre .1) (front _ (c .before .before .before .before .before .before .before .before .before .pre .0))), within-frame (c .before .before .before .before .if1 .left) (c .before .before .before .if2 .left) (c .before .before .new .ensures))
 
 same-length : tie.Need-same-length
 same-length c = search needs
 
-returns-4 : tie.Need-returns-4
-returns-4 c =
-    let v = c .before .before in
-    let n = v .before .before in
-    let e = n .before .before in
-    let j = judged _ (sym (e .before .before .before .judge .ensures) ∙ granted (e .before .before .if1 .left)) in
-    whole-read _ _ _ _ _ j (e .before .if2 .left) (e .if3 .left) _ (n .new .ensures) _ _ (v .value .ensures)
+returns-3 : tie.Need-returns-3
+returns-3 c = whole-read _ _ _ _ _ (front _ (c .before .before .before .before .before .before .before .before .before .before .before .before .pre .0)) (c .before .before .before .before .before .before .before .if1 .left) (c .before .before .before .before .before .before .if2 .left) _ (c .before .before .before .before .before .new .ensures) _ (ap (λ (s : Shape). s .at) (c .before .before .before .before .shape-in .ensures)) _ _ (c .before .before .value .ensures)
 
 pub whole-spec : {M : Type 1} → statement M
 whole-spec =
     tie.close
     (tie.spec
-    judge-requires
     returns
     returns-2
-    returns-3
-    child-at-requires
     new-requires
+    shape-in-requires
     value-requires
     same-length
-    returns-4)
+    returns-3)

@@ -1,0 +1,23 @@
+-- `reader::sized` meets its contract. Assumes nothing.
+use Rattle.reader.proofs.Frames.{size-done, size-refused}
+use borrow.Author.Needs.{needs}
+use Rattle.reader.proofs.sized.Statement.{statement}
+use Rattle.reader.proofs.sized.Tie as tie
+use Rattle.reader.proofs.sized.Reads as reads
+use Rattle.reader.proofs.sized.Lts as lts
+use Rattle.reader.proofs.whole.Reads as whole-reads
+
+slice-aggregate-whole : tie.Need-slice-aggregate-whole
+slice-aggregate-whole c = search needs
+
+whole-requires : tie.Need-whole-requires
+whole-requires c κs = search needs
+
+returns : tie.Need-returns
+returns c = size-refused _ _ _ _ (c .before .before .whole .ensures) (c .if1 .taken)
+
+returns-2 : tie.Need-returns-2
+returns-2 c = size-done _ _ _ _ (c .before .before .whole .ensures) (c .if1 .left)
+
+pub sized-spec : {M : Type 1} → statement M
+sized-spec = tie.close (tie.spec slice-aggregate-whole whole-requires returns returns-2)

@@ -1,0 +1,5 @@
+pub mod Answers
+pub mod Loops
+pub mod NumberLaws
+pub mod Leaves
+pub mod Rests

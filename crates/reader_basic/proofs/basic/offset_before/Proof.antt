@@ -1,0 +1,42 @@
+-- `reader_basic::basic::offset_before` meets its contract. Assumes nothing.
+use mathlib.Core.Path.{_∙_}
+use borrow.Author.Needs.{needs}
+use Rattle.reader_basic.proofs.Leaves.{offset-below, offset-narrow, offset-read}
+use Rattle.reader_basic.proofs.basic.offset_before.Statement.{statement}
+use Rattle.reader_basic.proofs.basic.offset_before.Tie as tie
+
+width-requires : tie.Need-width-requires
+width-requires c κs = search needs
+
+returns : tie.Need-returns
+returns c =
+    offset-below _ _ _ _ (c .if1 .taken)
+
+returns-2 : tie.Need-returns-2
+returns-2 c =
+    offset-narrow _ _ _ _ (c .before .if1 .left) (rw (c .before .before .width .ensures) at (c .if2 .taken))
+
+part-read-last-offset-from-buffer-start : tie.Need-part-read-last-offset-from-buffer-start
+part-read-last-offset-from-buffer-start c = search needs
+
+part-read-last-offset-from-buffer-end : tie.Need-part-read-last-offset-from-buffer-end
+part-read-last-offset-from-buffer-end c = search needs
+
+read-last-offset-from-buffer-requires : tie.Need-read-last-offset-from-buffer-requires
+read-last-offset-from-buffer-requires c κs = search needs
+
+returns-3 : tie.Need-returns-3
+returns-3 c =
+    c .read-last-offset-from-buffer .ensures ∙ offset-read _ _ _ _ (c .before .before .before .if1 .left) (rw (c .before .before .before .before .width .ensures) at (c .before .before .if2 .left)) (c .before .before .before .before .before .before .pre)
+
+pub offset-before-spec : {M : Type 1} → statement M
+offset-before-spec =
+    tie.close
+    (tie.spec
+    width-requires
+    returns
+    returns-2
+    part-read-last-offset-from-buffer-start
+    part-read-last-offset-from-buffer-end
+    read-last-offset-from-buffer-requires
+    returns-3)

@@ -1,0 +1,74 @@
+-- What the small readers are asked to read, and what they answer. Assumes nothing: these are definitions.
+use mathlib.Core.Path.{_≡_}
+use mathlib.Core.List.{List}
+use mathlib.Core.Bool.{Bool, true}
+use Prim.Native.Nat.{ℕ, _+_, _-_, _/_, _≤_, _<_}
+use lib.ListN.{length}
+use Rattle.meaning.specs.Choice.{pick}
+use Rattle.meaning.specs.Depths.{depthRefusal}
+use Rattle.meaning.specs.Types.{bool, structure}
+use Rattle.meaning.specs.Offsets.{Table, noneAbove, endsOf}
+use Rattle.meaning.specs.Reading.{Reader, readBool, readNumber, readText, offsetStands, fieldOffset}
+use Rattle.meaning.specs.Padding.{Aligns}
+use Rattle.utils.specs.Checks.{passed, failed}
+use Rattle.utils.specs.declared.Checked.{Checked}
+use Rattle.container_depths.specs.Opening.{depthsOf}
+use Rattle.container_depths.specs.declared.ContainerDepths.{ContainerDepths}
+use Rattle.signature.specs.declared.Letter.{Letter}
+use Rattle.signature.specs.declared.items.Item.{Item}
+use Rattle.reader_basic.specs.declared.Context.{Context}
+use Rattle.signature.specs.declared.Letter.the-variants.{End, Bad, Boolean, Number, Text, Variant, Maybe, Array, OpenStructure, CloseStructure, OpenEntry, CloseEntry}
+
+-- a part of a frame and where it stands, within the limits; so many containers are nested, within theirs
+pub record Within (len place position : ℕ) (d : ContainerDepths) : Type 0 where
+  pub in-frame : place + len ≤ 65536
+  pub near : position ≤ 65536
+  pub shallow : depthRefusal (depthsOf d) ≡ 0
+
+abbrev pub Inside : ℕ → ℕ → Context → Type 0
+Inside len place c = Within len place (c .position) (c .depths)
+
+-- the reader of a key, by its letter
+abbrev pub keyReader : ℕ → Bool → Letter → Reader
+keyReader position big End = readBool
+keyReader position big Bad = readBool
+keyReader position big Boolean = readBool
+keyReader position big (Number c w) = readNumber position big c w
+keyReader position big (Text c) = readText c
+keyReader position big Variant = readBool
+keyReader position big Maybe = readBool
+keyReader position big Array = readBool
+keyReader position big OpenStructure = readBool
+keyReader position big CloseStructure = readBool
+keyReader position big OpenEntry = readBool
+keyReader position big CloseEntry = readBool
+
+-- a key is a bool, a text, or a number of a width that there is
+abbrev pub KeyAligned : Letter → Type 0
+KeyAligned End = Unit {0}
+KeyAligned Bad = Unit {0}
+KeyAligned Boolean = Unit {0}
+KeyAligned (Number c w) = Aligns w
+KeyAligned (Text c) = Unit {0}
+KeyAligned Variant = Unit {0}
+KeyAligned Maybe = Unit {0}
+KeyAligned Array = Unit {0}
+KeyAligned OpenStructure = Unit {0}
+KeyAligned CloseStructure = Unit {0}
+KeyAligned OpenEntry = Unit {0}
+KeyAligned CloseEntry = Unit {0}
+
+-- a table that begins inside its container and has no end behind its start
+pub record Stands (t : Table) (l : List ℕ) : Type 0 where
+  pub start : t .start ≤ length l
+  pub count : t .count ≡ (length l - t .start) / t .width
+  pub width : 0 < t .width
+  pub below : noneAbove (t .start) (endsOf t l) ≡ true
+
+-- the offset before an end of a structure's table
+unfoldable pub offsetAnswer : ℕ → ℕ → ℕ → List ℕ → Checked
+offsetAnswer n w e l = pick (offsetStands n w e) (passed (fieldOffset n w e l)) (failed 3)
+
+-- the kind of an array's first event, or of a dictionary's
+abbrev pub itemKind : Item → ℕ
+itemKind i = pick (i .entry) 123 97

@@ -1,0 +1,304 @@
+// Reading what holds nothing further: bools, numbers, texts, keys; and the small parts of containers.
+use crate::Answer;
+use crate::Context;
+use de::parse_padding;
+use de::read_bool;
+use de::read_number;
+use events::emit;
+use framing_offset_size::FramingOffsetSize;
+use meaning::letters::ARRAY_LETTER;
+use meaning::letters::BOOL_LETTER;
+use meaning::letters::CONTAINER_END;
+use meaning::letters::DICTIONARY_LETTER;
+use meaning::refusals::OUT_OF_BOUNDS;
+use signature::Letter;
+use signature::items::Item;
+use texts::text;
+use texts::text_refusal;
+ghost use mathlib.Core.Path.{_≡_};
+ghost use mathlib.Core.Bool.{true, false};
+ghost use Prim.Native.Nat.{ℕ, _+_, _-_, _≤_, _<_};
+ghost use mathlib.Core.List.{List};
+ghost use lib.ListN.{length, take, drop};
+ghost use Rattle.meaning.specs.Depths.{Depths};
+ghost use Rattle.meaning.specs.Outcome.{Outcome, chain, closingAt};
+ghost use Rattle.meaning.specs.Reading.{child, readBool, readNumber, readText, endPadding, separator as separatorOf};
+ghost use Rattle.meaning.specs.Padding.{Aligns};
+ghost use Rattle.byte_order.specs.Standing.{numberAt};
+ghost use Rattle.framing_offset_size.specs.Widths.{widthOf};
+ghost use Rattle.reader_basic.specs.Answers.{Done};
+ghost use Rattle.reader_basic.specs.Parts.{keyReader, KeyAligned, offsetAnswer, itemKind};
+
+pub fn wide(code: u8) -> u64
+    ensures { λ r. ⌜ r ≡ code ⌝ }
+{
+    code as u64
+}
+
+// Closes a container that is done: its last event stands where reading stands.
+pub fn close(r: Answer, place: usize, out: &mut [u64]) -> Answer
+    requires { ⌜ place + r .used ≤ 65536 ⌝ }
+    ensures { λ s. ⌜ ((o : Outcome) (end len n : ℕ) (l : List ℕ) → Done o end len n l (now (out .entry)) r → Done (chain o (closingAt place)) end len n l (now (out .exit)) s) ⌝ }
+{
+    let refusal = r.refusal;
+    let used = r.used;
+    if refusal != 0 {
+        return r;
+    }
+    let count = emit(out, r.count, CONTAINER_END, place + used, 0);
+    Answer {
+        refusal: 0,
+        used,
+        count,
+    }
+}
+
+pub fn boolean(part: &[u8], place: usize, out: &mut [u64], n: usize) -> Answer
+    ensures { λ r. ⌜ ((d : Depths) → Done (readBool d place (now (part .entry))) (length (now (part .entry))) (length (now (part .entry))) n (now (out .entry)) (now (out .exit)) r) ⌝ }
+{
+    let found = read_bool(part, 0);
+    let refusal = found.refusal;
+    if refusal != 0 {
+        return Answer {
+            refusal: OUT_OF_BOUNDS,
+            used: 0,
+            count: n,
+        };
+    }
+    let count = emit(out, n, BOOL_LETTER, place, found.value as u64);
+    Answer {
+        refusal: 0,
+        used: 1,
+        count,
+    }
+}
+
+// A byte, and the numbers of two, four and eight bytes, at a place.
+pub fn byte_at(part: &[u8], place: usize) -> utils::Checked
+    ensures { λ r. ⌜ r ≡ numberAt 1 false (now (part .entry)) place ⌝ }
+{
+    read_number(part, place, FramingOffsetSize::U8, false)
+}
+
+pub fn two_at(part: &[u8], place: usize, big: bool) -> utils::Checked
+    ensures { λ r. ⌜ r ≡ numberAt 2 big (now (part .entry)) place ⌝ }
+{
+    read_number(part, place, FramingOffsetSize::U16, big)
+}
+
+pub fn four_at(part: &[u8], place: usize, big: bool) -> utils::Checked
+    ensures { λ r. ⌜ r ≡ numberAt 4 big (now (part .entry)) place ⌝ }
+{
+    read_number(part, place, FramingOffsetSize::U32, big)
+}
+
+pub fn eight_at(part: &[u8], place: usize, big: bool) -> utils::Checked
+    ensures { λ r. ⌜ r ≡ numberAt 8 big (now (part .entry)) place ⌝ }
+{
+    read_number(part, place, FramingOffsetSize::U64, big)
+}
+
+// The number of a width at a place.
+pub fn number_at(part: &[u8], place: usize, big: bool, width: usize) -> utils::Checked
+    ensures { λ r. ⌜ (Aligns width → r ≡ numberAt width big (now (part .entry)) place) ⌝ }
+{
+    match width {
+        1 => byte_at(part, place),
+        2 => two_at(part, place, big),
+        4 => four_at(part, place, big),
+        _ => eight_at(part, place, big),
+    }
+}
+
+pub fn number(
+    part: &[u8],
+    place: usize,
+    context: Context,
+    code: u8,
+    width: usize,
+    out: &mut [u64],
+    n: usize,
+) -> Answer
+    requires { ⌜ (place + length (now part) ≤ 65536) × (context .position ≤ 65536) × Aligns width ⌝ }
+    ensures { λ r. ⌜ ((d : Depths) → Done (readNumber (context .position) (context .big) code width d place (now (part .entry))) (length (now (part .entry))) (length (now (part .entry))) n (now (out .entry)) (now (out .exit)) r) ⌝ }
+{
+    let padding = parse_padding(context.position + place, 0, width, part);
+    let refusal = padding.refusal;
+    let lead = padding.value;
+    if refusal != 0 {
+        return Answer {
+            refusal,
+            used: 0,
+            count: n,
+        };
+    }
+    let found = number_at(part, lead, context.big, width);
+    let short = found.refusal;
+    if short != 0 {
+        return Answer {
+            refusal: OUT_OF_BOUNDS,
+            used: 0,
+            count: n,
+        };
+    }
+    let count = emit(out, n, wide(code), place + lead, found.value as u64);
+    Answer {
+        refusal: 0,
+        used: lead + width,
+        count,
+    }
+}
+
+pub fn text_value(part: &[u8], place: usize, code: u8, out: &mut [u64], n: usize) -> Answer
+    ensures { λ r. ⌜ ((d : Depths) → Done (readText code d place (now (part .entry))) (length (now (part .entry))) (length (now (part .entry))) n (now (out .entry)) (now (out .exit)) r) ⌝ }
+{
+    let letters = text(part);
+    let refusal = text_refusal(letters);
+    if refusal != 0 {
+        return Answer {
+            refusal,
+            used: part.len(),
+            count: n,
+        };
+    }
+    let count = emit(out, n, wide(code), place, letters.len() as u64);
+    Answer {
+        refusal: 0,
+        used: part.len(),
+        count,
+    }
+}
+
+// A dictionary's key, by its letter.
+pub fn key_value(
+    key: Letter,
+    part: &[u8],
+    place: usize,
+    context: Context,
+    out: &mut [u64],
+    n: usize,
+) -> Answer
+    requires { ⌜ (place + length (now part) ≤ 65536) × (context .position ≤ 65536) × KeyAligned key ⌝ }
+    ensures { λ r. ⌜ ((d : Depths) → Done (keyReader (context .position) (context .big) key d place (now (part .entry))) (length (now (part .entry))) (length (now (part .entry))) n (now (out .entry)) (now (out .exit)) r) ⌝ }
+{
+    match key {
+        Letter::Number { code, width } => number(part, place, context, code, width, out, n),
+        Letter::Text { code } => text_value(part, place, code, out, n),
+        _ => boolean(part, place, out, n),
+    }
+}
+
+// A key from j to e of a dictionary's part.
+pub fn child_key(
+    key: Letter,
+    part: &[u8],
+    j: usize,
+    e: usize,
+    place: usize,
+    context: Context,
+    out: &mut [u64],
+    n: usize,
+) -> Answer
+    requires { ⌜ (place + length (now part) ≤ 65536) × (context .position ≤ 65536) × (j ≤ length (now part)) × KeyAligned key ⌝ }
+    ensures { λ r. ⌜ ((d : Depths) → Done (child (keyReader (context .position) (context .big) key d) place (now (part .entry)) j e) (e - j) (length (now (part .entry)) - j) n (now (out .entry)) (now (out .exit)) r) ⌝ }
+{
+    if e < j {
+        return Answer {
+            refusal: OUT_OF_BOUNDS,
+            used: 0,
+            count: n,
+        };
+    }
+    if part.len() < e {
+        return Answer {
+            refusal: OUT_OF_BOUNDS,
+            used: 0,
+            count: n,
+        };
+    }
+    key_value(key, &part[j..e], place + j, context, out, n)
+}
+
+// The padding at the end of what is fixed, judged from where it stands, whatever came of its last child.
+pub fn end_padding(
+    part: &[u8],
+    j: usize,
+    place: usize,
+    position: usize,
+    alignment: usize,
+    r: Answer,
+) -> Answer
+    requires { ⌜ (place + length (now part) ≤ 65536) × (position ≤ 65536) × (j + r .used ≤ length (now part)) × Aligns alignment ⌝ }
+    ensures { λ s. ⌜ ((o : Outcome) (end len n : ℕ) (l l′ : List ℕ) → len ≡ length (now (part .entry)) - j → Done o end len n l l′ r → Done (endPadding position true alignment place (now (part .entry)) j o) len len n l l′ s) ⌝ }
+{
+    let at = j + r.used;
+    let padding = parse_padding(position + place, at, alignment, part);
+    let refusal = padding.refusal;
+    if refusal != 0 {
+        return Answer {
+            refusal,
+            used: r.used,
+            count: r.count,
+        };
+    }
+    Answer {
+        refusal: r.refusal,
+        used: r.used + padding.value,
+        count: r.count,
+    }
+}
+
+// The offset before an end of a structure's table, over a part whose structure begins at lead.
+pub fn offset_before(
+    part: &[u8],
+    lead: usize,
+    size: FramingOffsetSize,
+    end: usize,
+) -> utils::Checked
+    requires { ⌜ end ≤ length (now part) ⌝ }
+    ensures { λ r. ⌜ r ≡ offsetAnswer lead (widthOf size) end (now (part .entry)) ⌝ }
+{
+    let width = size.width();
+    if end < lead {
+        return utils::Checked {
+            refusal: OUT_OF_BOUNDS,
+            value: 0,
+        };
+    }
+    if end < width {
+        return utils::Checked {
+            refusal: OUT_OF_BOUNDS,
+            value: 0,
+        };
+    }
+    size.read_last_offset_from_buffer(&part[lead..end])
+}
+
+// The last nul before the final byte of a part: the number of bytes up to it, itself counted, or 0.
+pub fn separator(part: &[u8]) -> usize
+    ensures { λ r. ⌜ (r ≡ separatorOf (now (part .entry))) × (r ≤ length (now (part .entry)) - 1) ⌝ }
+{
+    if part.len() == 0 {
+        return 0;
+    }
+    let mut i = part.len() - 1;
+    while 0 < i {
+        if part[i - 1] == 0 {
+            return i;
+        }
+        i = i - 1;
+    }
+    0
+}
+
+// The kind of an array's first event, or of a dictionary's.
+pub fn item_kind(item: Item) -> u64
+    ensures { λ r. ⌜ r ≡ itemKind item ⌝ }
+{
+    let entry = item.entry;
+    if entry {
+        DICTIONARY_LETTER
+    } else {
+        ARRAY_LETTER
+    }
+}

@@ -1,0 +1,311 @@
+// Arrays of numbers, and of readings: numbers in maybes. What they repeat holds nothing further, so each is one loop of its own.
+use crate::Answer;
+use crate::Context;
+use crate::basic::number;
+use crate::basic::number_at;
+use crate::basic::two_at;
+use crate::basic::wide;
+use de::parse_padding;
+use events::emit;
+use framing_offsets::FramingOffsets;
+use framing_offsets::next;
+use meaning::letters::MAYBE_LETTER;
+use meaning::letters::NOTHING_LETTER;
+use meaning::refusals::OUT_OF_BOUNDS;
+ghost use mathlib.Core.Path.{_≡_};
+ghost use mathlib.Core.Bool.{Bool, true};
+ghost use Prim.Native.Nat.{ℕ, _+_, _-_, _≤_, _<_, min};
+ghost use lib.ListN.{length, drop};
+ghost use Rattle.meaning.specs.Depths.{Depths};
+ghost use Rattle.meaning.specs.Offsets.{endsOf};
+ghost use Rattle.meaning.specs.Outcome.{chain, passing};
+ghost use Rattle.meaning.specs.Reading.{child, childStep, readNumber, readMaybe, elements as elementsIn, elementsTo};
+ghost use Rattle.meaning.specs.Padding.{Aligns};
+ghost use Rattle.byte_order.specs.Standing.{numberAt};
+ghost use Rattle.container_depths.specs.Opening.{depthsOf};
+ghost use Rattle.framing_offsets.specs.Tables.{tableIn};
+ghost use Rattle.reader_basic.specs.Answers.{Done};
+ghost use Rattle.reader_basic.specs.Parts.{Stands};
+ghost use Rattle.reader_basic.specs.Runs.{countedOf, numbersFrom};
+
+// How many events there are with so many more.
+fn plus(n: usize, more: usize) -> usize
+    ensures { λ r. ⌜ (r ≡ min (n + more) 18446744073709551615) × (n ≤ 18446744073709551615) ⌝ }
+{
+    if 18446744073709551615 - n < more {
+        return 18446744073709551615;
+    }
+    n + more
+}
+
+// Numbers of a width in so many bytes, from event n on: counted, and not read.
+fn counted(left: usize, width: usize, n: usize) -> Answer
+    requires { ⌜ 0 < width ⌝ }
+    ensures { λ r. ⌜ (r ≡ countedOf left width n) × (n ≤ 18446744073709551615) ⌝ }
+{
+    let over = left % width;
+    let count = plus(n, left / width);
+    if over != 0 {
+        return Answer {
+            refusal: OUT_OF_BOUNDS,
+            used: left - over,
+            count,
+        };
+    }
+    Answer {
+        refusal: 0,
+        used: left,
+        count,
+    }
+}
+
+// Bytes from j to the part's end, as a run of numbers.
+fn byte_run(part: &[u8], j: usize, place: usize, code: u8, out: &mut [u64], n: usize) -> Answer
+    requires { ⌜ (place + length (now part) ≤ 65536) × (j ≤ length (now part)) ⌝ }
+    ensures { λ r. ⌜ ((big : Bool) → Done (numbersFrom big code 1 place (now (part .entry)) j) (length (now (part .entry)) - j) (length (now (part .entry)) - j) n (now (out .entry)) (now (out .exit)) r) ⌝ }
+{
+    let len = part.len();
+    let kind = wide(code);
+    let answer = counted(len - j, 1, n);
+    let mut at = j;
+    let mut count = n;
+    while count < out.len() / 3 {
+        if len <= at {
+            return answer;
+        }
+        count = emit(out, count, kind, place + at, wide(part[at]));
+        at = at + 1;
+    }
+    answer
+}
+
+// Numbers that need no padding, from j to the part's end: all are counted, and those read whose events have room.
+fn run(
+    part: &[u8],
+    j: usize,
+    place: usize,
+    big: bool,
+    code: u8,
+    width: usize,
+    out: &mut [u64],
+    n: usize,
+) -> Answer
+    requires { ⌜ (place + length (now part) ≤ 65536) × (j ≤ length (now part)) × Aligns width ⌝ }
+    ensures { λ r. ⌜ Done (numbersFrom big code width place (now (part .entry)) j) (length (now (part .entry)) - j) (length (now (part .entry)) - j) n (now (out .entry)) (now (out .exit)) r ⌝ }
+{
+    if width == 1 {
+        return byte_run(part, j, place, code, out, n);
+    }
+    let len = part.len();
+    let kind = wide(code);
+    let answer = counted(len - j, width, n);
+    let mut at = j;
+    let mut count = n;
+    while count < out.len() / 3 {
+        if len - at < width {
+            return answer;
+        }
+        let found = number_at(part, at, big, width);
+        count = emit(out, count, kind, place + at, found.value as u64);
+        at = at + width;
+    }
+    answer
+}
+
+// Numbers one behind another to the part's end. Behind the first none needs padding.
+pub fn numbers(
+    part: &[u8],
+    lead: usize,
+    place: usize,
+    context: Context,
+    code: u8,
+    width: usize,
+    out: &mut [u64],
+    n: usize,
+) -> Answer
+    requires { ⌜ (place + length (now part) ≤ 65536) × (context .position ≤ 65536) × (lead ≤ length (now part)) × Aligns width ⌝ }
+    ensures { λ r. ⌜ ((d : Depths) (b : ℕ) → Done (elementsIn (length (now (part .entry))) (childStep (readNumber (context .position) (context .big) code width) d place (now (part .entry)) b) (length (now (part .entry))) lead) (length (now (part .entry)) - lead) (length (now (part .entry)) - lead) n (now (out .entry)) (now (out .exit)) r) ⌝ }
+{
+    if part.len() <= lead {
+        return Answer {
+            refusal: 0,
+            used: 0,
+            count: n,
+        };
+    }
+    let first = number(&part[lead..], place + lead, context, code, width, out, n);
+    let refusal = first.refusal;
+    let used = first.used;
+    if refusal != 0 {
+        return first;
+    }
+    let r = run(
+        part,
+        lead + used,
+        place,
+        context.big,
+        code,
+        width,
+        out,
+        first.count,
+    );
+    Answer {
+        refusal: r.refusal,
+        used: used + r.used,
+        count: r.count,
+    }
+}
+
+// The number of a reading. The wall's readings have two bytes.
+fn reading_number(part: &[u8], place: usize, big: bool, width: usize) -> utils::Checked
+    ensures { λ r. ⌜ (Aligns width → r ≡ numberAt width big (now (part .entry)) place) ⌝ }
+{
+    if width == 2 {
+        return two_at(part, place, big);
+    }
+    number_at(part, place, big, width)
+}
+
+// A reading. Where it is present, one more container is open.
+fn reading(
+    part: &[u8],
+    place: usize,
+    context: Context,
+    code: u8,
+    width: usize,
+    out: &mut [u64],
+    n: usize,
+) -> Answer
+    requires { ⌜ (place + length (now part) ≤ 65536) × (context .position ≤ 65536) × Aligns width ⌝ }
+    ensures { λ r. ⌜ Done (readMaybe (context .position) width true (readNumber (context .position) (context .big) code width) (depthsOf (context .depths)) place (now (part .entry))) (length (now (part .entry))) (length (now (part .entry))) n (now (out .entry)) (now (out .exit)) r ⌝ }
+{
+    let padding = parse_padding(context.position + place, 0, width, part);
+    let refusal = padding.refusal;
+    let lead = padding.value;
+    if refusal != 0 {
+        return Answer {
+            refusal,
+            used: 0,
+            count: n,
+        };
+    }
+    if part.len() <= lead {
+        let count = emit(out, n, NOTHING_LETTER, place + lead, 0);
+        return Answer {
+            refusal: 0,
+            used: lead,
+            count,
+        };
+    }
+    let raised = context.depths.inc_maybe();
+    let deep = raised.refusal;
+    if deep != 0 {
+        return Answer {
+            refusal: deep,
+            used: lead,
+            count: n,
+        };
+    }
+    let m = emit(out, n, MAYBE_LETTER, place + lead, 0);
+    let found = reading_number(part, lead, context.big, width);
+    let short = found.refusal;
+    if short != 0 {
+        return Answer {
+            refusal: OUT_OF_BOUNDS,
+            used: lead,
+            count: m,
+        };
+    }
+    let count = emit(out, m, wide(code), place + lead, found.value as u64);
+    Answer {
+        refusal: 0,
+        used: lead + width,
+        count,
+    }
+}
+
+// A reading from j to e of an array's part.
+fn child_reading(
+    part: &[u8],
+    j: usize,
+    e: usize,
+    place: usize,
+    context: Context,
+    code: u8,
+    width: usize,
+    out: &mut [u64],
+    n: usize,
+) -> Answer
+    requires { ⌜ (place + length (now part) ≤ 65536) × (context .position ≤ 65536) × (j ≤ length (now part)) × Aligns width ⌝ }
+    ensures { λ r. ⌜ Done (child (readMaybe (context .position) width true (readNumber (context .position) (context .big) code width) (depthsOf (context .depths))) place (now (part .entry)) j e) (e - j) (length (now (part .entry)) - j) n (now (out .entry)) (now (out .exit)) r ⌝ }
+{
+    if e < j {
+        return Answer {
+            refusal: OUT_OF_BOUNDS,
+            used: 0,
+            count: n,
+        };
+    }
+    if part.len() < e {
+        return Answer {
+            refusal: OUT_OF_BOUNDS,
+            used: 0,
+            count: n,
+        };
+    }
+    reading(&part[j..e], place + j, context, code, width, out, n)
+}
+
+// Readings, each up to the end that the table gives; then the table.
+pub fn readings(
+    offsets: FramingOffsets,
+    part: &[u8],
+    lead: usize,
+    place: usize,
+    context: Context,
+    code: u8,
+    width: usize,
+    out: &mut [u64],
+    n: usize,
+) -> Answer
+    requires { ⌜ (place + length (now part) ≤ 65536) × (context .position ≤ 65536) × (lead ≤ length (now part)) × Aligns width × Stands (tableIn offsets) (drop lead (now part)) ⌝ }
+    ensures { λ r. ⌜ Done (chain (elementsTo (childStep (readMaybe (context .position) width true (readNumber (context .position) (context .big) code width)) (depthsOf (context .depths)) place (now (part .entry)) (lead + offsets .start)) lead (endsOf (tableIn offsets) (drop lead (now (part .entry)))) lead) (passing (length (now (part .entry)) - (lead + offsets .start)))) (length (now (part .entry)) - lead) (length (now (part .entry)) - lead) n (now (out .entry)) (now (out .exit)) r ⌝ }
+{
+    let table = &part[lead..];
+    let many = offsets.count;
+    let body_end = lead + offsets.start;
+    let mut i = 0;
+    let mut u = 0;
+    let mut count = n;
+    while i < many {
+        let end = next(table, offsets, i);
+        let r = child_reading(
+            part,
+            lead + u,
+            lead + end.value,
+            place,
+            context,
+            code,
+            width,
+            out,
+            count,
+        );
+        let refusal = r.refusal;
+        let used = r.used;
+        count = r.count;
+        if refusal != 0 {
+            return Answer {
+                refusal,
+                used: u + used,
+                count,
+            };
+        }
+        u = u + used;
+        i = i + 1;
+    }
+    Answer {
+        refusal: 0,
+        used: u + (part.len() - body_end),
+        count,
+    }
+}

@@ -1,0 +1,349 @@
+-- A law for each way out of value, container, maybe and the child of a part. Assumes nothing.
+use mathlib.Core.Path.{_≡_, refl, ap, sym, _∙_, subst, subst⁻¹}
+use types.Run.{OneOf, miss}
+use denote.Enum.Declared.{tagOf}
+use mathlib.Core.List.{List, [], _∷_}
+use mathlib.Core.Bool.{Bool, true, false}
+use Prim.Native.Nat.{ℕ, zero, suc, _+_, _-_, _≤_, _<_}
+use native.Mathlib.Omega.{arith}
+use lib.Dec.{ltb, eqb}
+use lib.ListN.{length, take, drop, getD, length-take, length-drop}
+use borrow.Author.Tests.{eq-eqb, ne-eqb, le-leb, lt-leb, ltb-false}
+use Rattle.meaning.specs.Choice.{pick}
+use Rattle.meaning.specs.Depths as Depth
+use Rattle.meaning.specs.Depths.{Depths, Opened, total, depthRefusal, opened}
+use Rattle.meaning.specs.Types.{Number as NumberType, Text as TextType, numberWidth, Basic, bool, number, text, Tree, basic, variant, maybe, array, dictionary, structure, alignment, fixed}
+use Rattle.meaning.specs.Letters.{numberLetter, textLetter}
+use Rattle.meaning.specs.TypeText.{firstType}
+use Rattle.meaning.specs.Events.{event, present, nothing, opening}
+use Rattle.meaning.specs.Offsets.{encodedWidth}
+use Rattle.meaning.specs.Outcome.{Outcome, done, after, chain, closingAt, enclosed}
+use Rattle.meaning.specs.Reading.{arrayIn, fieldsIn, structureBody, structureIn, Reader, child, within, readBool, readNumber, readText, readBasic, endByte, presentIn, maybeIn, pad, readMaybe, readTree, readVariant, readArray, readStructure, reading}
+use Rattle.meaning.specs.Padding.{Aligns}
+use Rattle.meaning.proofs.TypeLaws.{number-aligned as aligned-number}
+use Rattle.container_depths.specs.Opening.{depthsOf, Raises}
+use Rattle.de.specs.Parts.{paddingAt}
+use Rattle.utils.specs.declared.Checked as leafs
+use Rattle.container_depths.specs.declared.ContainerDepths.{ContainerDepths}
+use Rattle.container_depths.specs.declared.Raised.{Raised}
+use Rattle.signature.specs.Places.{basicKind, letterAt}
+use Rattle.signature.specs.declared.Letter.{Letter}
+use Rattle.signature.specs.declared.Letter.the-variants.{Boolean, Number, Text, Variant, Maybe, Array, OpenStructure}
+use Rattle.signature.specs.declared.shapes.Shape.{Shape}
+use Rattle.signature.specs.Trees.{treeAt, behindBy, Typed, fieldsAt, Described}
+use Rattle.signature.proofs.TreeLaws.{described-alignment, described-aligned, maybe-tree, structure-tree, structure-fixed, structure-alignment}
+use Rattle.signature.proofs.Letter.{the-type}
+use Rattle.signature.proofs.Dispatch.{Shown, shown, is-boolean, is-number, is-text, is-variant}
+use Rattle.events.specs.Slices.{nextEvent, put}
+use Rattle.reader_basic.specs.Answers.{Done}
+use Rattle.reader_cycle.specs.Places.{Contains, readerOf, readersOf, bodyIn}
+use Rattle.reader_basic.specs.Parts.{Within}
+use Rattle.reader_basic.specs.declared.Answer.{Answer}
+use Rattle.reader_basic.proofs.Answers.{answer, refusing, single, wider, after-event, both, stopped, ended, ended-refused}
+use Rattle.reader_basic.proofs.Leaves.{Pads, pads-first, pads-done}
+
+-- ---- depths
+
+pub total-most : (d : Depths) → depthRefusal d ≡ 0 → total d ≤ 64
+unfolding depthRefusal
+total-most d h = go (ltb 32 (d .structure)) (ltb 32 (d .array)) (ltb 64 (total d)) refl h
+  where
+    go : (x y z : Bool) → ltb 64 (total d) ≡ z → _≡_ {A = ℕ} (pick x 10 (pick y 11 (pick z 12 0))) 0 → total d ≤ 64
+    go true y z e h = absurd (omega arith)
+    go false true z e h = absurd (omega arith)
+    go false false true e h = absurd (omega arith)
+    go false false false e h = ltb-false 64 (total d) e
+
+pub few-variants : {len place position : ℕ} {d : ContainerDepths} → Within len place position d → d .variant ≤ 64
+few-variants {d = d} w = omega (arith, total-most (depthsOf d) (w .shallow))
+
+-- what is left of the depth
+abbrev pub level : ContainerDepths → ℕ
+level d = 64 - total (depthsOf d)
+
+-- a raise that is done: the record is the raised one
+pub raised-to : (x : Opened) (d : ContainerDepths) (r : Raised) → Raises (depthsOf d) (opened x (depthsOf d)) r → r .refusal ≡ 0 → depthsOf (r .depths) ≡ opened x (depthsOf d)
+raised-to x d r h z =
+    let e : eqb (depthRefusal (opened x (depthsOf d))) 0 ≡ true = eq-eqb _ 0 (sym (h .refusal) ∙ z) in
+    h .depths ∙ rw e
+
+pub raised-shallow : (x : Opened) (d : ContainerDepths) (r : Raised) → Raises (depthsOf d) (opened x (depthsOf d)) r → r .refusal ≡ 0 → depthRefusal (depthsOf (r .depths)) ≡ 0
+raised-shallow x d r h z = rw (raised-to x d r h z) (sym (h .refusal) ∙ z)
+
+-- ---- the reading of a type, one step
+
+pub reading-basic : (position : ℕ) (big : Bool) (n : ℕ) (b : Basic) → reading position big n (basic b) ≡ readBasic position big b
+unfolding reading readTree
+reading-basic position big zero b = refl
+reading-basic position big (suc n) b = refl
+
+pub number-by : (position : ℕ) (big : Bool) (n c w : ℕ) (t : Tree) (it : NumberType) → t ≡ basic (number it) → c ≡ numberLetter it → w ≡ numberWidth it → reading position big n t ≡ readNumber position big c w
+unfolding readBasic
+number-by position big n c w t it e f g = rw (e, f, g) (reading-basic position big n (number it))
+
+text-by : (position : ℕ) (big : Bool) (n c : ℕ) (t : Tree) (it : TextType) → t ≡ basic (text it) → c ≡ textLetter it → reading position big n t ≡ readText c
+unfolding readBasic
+text-by position big n c t it e f = rw (e, f) (reading-basic position big n (text it))
+
+bool-by : (position : ℕ) (big : Bool) (n : ℕ) (t : Tree) → t ≡ basic bool → reading position big n t ≡ readBool
+unfolding readBasic
+bool-by position big n t e = rw e (reading-basic position big n bool)
+
+pub width-by : (w : ℕ) (it : NumberType) → w ≡ numberWidth it → Aligns w
+width-by w it e = rw e (aligned-number it)
+
+-- by the letter that stands there
+module _ (text : List ℕ) (at : ℕ) (t : Typed text at) (position : ℕ) (big : Bool) (nested : ℕ) where
+  pub reads-bool : letterAt text at ≡ Boolean → readerOf position big nested (treeAt text at) ≡ readBool
+  reads-bool e = bool-by position big (65 - nested) (treeAt text at) (is-boolean text at _ _ (t .found) e .0)
+
+  pub reads-number : (c w : ℕ) → letterAt text at ≡ Number c w → readerOf position big nested (treeAt text at) ≡ readNumber position big c w
+  reads-number c w e = let n = is-number text at _ _ c w (t .found) e in number-by position big (65 - nested) c w (treeAt text at) (n .it) (n .type) (n .code-is) (n .width-is)
+
+  pub reads-text : (c : ℕ) → letterAt text at ≡ Text c → readerOf position big nested (treeAt text at) ≡ readText c
+  reads-text c e = let n = is-text text at _ _ c (t .found) e in text-by position big (65 - nested) c (treeAt text at) (n .it) (n .type) (n .code-is)
+
+  pub number-aligned : (c w : ℕ) → letterAt text at ≡ Number c w → Aligns w
+  number-aligned c w e = let n = is-number text at _ _ c w (t .found) e in width-by w (n .it) (n .width-is)
+
+-- a container: padding, and what stands in it
+body-at : (position : ℕ) (big : Bool) (v m n : ℕ) (d : ContainerDepths) (t : Tree) (k : ℕ) (l : List ℕ) → Contains t → m ≡ suc n → m ≡ 65 - v → n ≡ 64 - v
+    → reading position big m t (depthsOf d) k l ≡ chain (pad position (alignment t) k l) (bodyIn position big v t d k l)
+unfolding reading readTree readMaybe readArray readStructure readVariant bodyIn alignment chain
+body-at position big v m n d (basic b) k l c e f g = absurd c
+body-at position big v m n d variant k l c e f g = rw (e, ← g) refl
+body-at position big v m n d (maybe t) k l c e f g = rw (← f, e) refl
+body-at position big v m n d (array t) k l c e f g = rw (← f, e) refl
+body-at position big v m n d (dictionary b t) k l c e f g = rw (← f, e) refl
+body-at position big v m n d (structure ts) k l c e f g = rw (e, ← g) refl
+
+pub container-reads : (position : ℕ) (big : Bool) (d : ContainerDepths) (t : Tree) (k : ℕ) (l : List ℕ) → Contains t → d .variant ≤ 64
+    → readerOf position big (d .variant) t (depthsOf d) k l ≡ chain (pad position (alignment t) k l) (bodyIn position big (d .variant) t d k l)
+container-reads position big d t k l c h = body-at position big (d .variant) (65 - d .variant) (64 - d .variant) d t k l c (omega arith) refl refl
+
+-- the ways out of container
+module _ (text shapes : List ℕ) (s : Shape) (part : List ℕ) (place position : ℕ) (big : Bool) (d : ContainerDepths) (n : ℕ) (l : List ℕ) (p : leafs.Checked)
+    (t : Described text shapes s) (w : Within (length part) place position d) (c : Contains (treeAt text (s .at))) (q : p ≡ paddingAt (position + place) 0 (s .alignment) part) where
+  container-pads : Pads (pad position (alignment (treeAt text (s .at))) place part) (length part) p
+  container-pads =
+      let a = w .in-frame in
+      let b = w .near in
+      rw (← described-alignment t) (pads-first position place (s .alignment) part p (described-aligned t) (omega arith) q)
+
+  pub lead-fits : p .value ≤ length part
+  lead-fits = container-pads .fits
+
+  pub container-stop : (p .refusal ≡ 0 → ⊥) → Done (readerOf position big (d .variant) (treeAt text (s .at)) (depthsOf d) place part) (length part) (length part) n l l (answer (p .refusal) 0 n)
+  container-stop z =
+      rw (container-reads position big d (treeAt text (s .at)) place part c (few-variants w))
+      (let g = pads-done n l container-pads in
+      let e = container-pads .none-used z in
+      stopped (length part) (length part) (length part) (length part) n l l _ (bodyIn position big (d .variant) (treeAt text (s .at)) d place part) (answer (p .refusal) 0 n) z (omega arith) (rw e at g))
+
+  pub container-on : (l′ : List ℕ) (r : Answer) → p .refusal ≡ 0 → Done (bodyIn position big (d .variant) (treeAt text (s .at)) d place part (p .value)) (length part - p .value) (length part - p .value) n l l′ r
+      → Done (readerOf position big (d .variant) (treeAt text (s .at)) (depthsOf d) place part) (length part) (length part) n l l′ (answer (r .refusal) (p .value + r .used) (r .count))
+  container-on l′ r z g =
+      let f = container-pads .fits in
+      rw (container-reads position big d (treeAt text (s .at)) place part c (few-variants w))
+      (both (length part) (length part) (length part - p .value) (length part) (length part) (length part - p .value) n l l l′ _ (bodyIn position big (d .variant) (treeAt text (s .at)) d place part) (answer (p .refusal) (p .value) n) r z (omega arith) (omega arith)
+      (pads-done n l container-pads) g)
+
+-- the ways out of a child of a part, over any reader
+module _ (R : ℕ → List ℕ → Outcome) (place : ℕ) (part : List ℕ) (j e n : ℕ) (l : List ℕ) where
+  pub child-before : e < j → Done (child R place part j e) (e - j) (length part - j) n l l (answer 3 0 n)
+  unfolding child
+  child-before h = rw (lt-leb j e h) (refusing 3 (place + j) _ _ n l (λ z. omega arith))
+
+  pub child-past : j ≤ e → length part < e → Done (child R place part j e) (e - j) (length part - j) n l l (answer 3 0 n)
+  unfolding child
+  child-past g h = rw (le-leb j e g, lt-leb e (length part) h) (refusing 3 (place + j) _ _ n l (λ z. omega arith))
+
+  pub child-here : (l′ : List ℕ) (r : Answer) → j ≤ e → e ≤ length part → Done (R (place + j) (take (e - j) (drop j part))) (length (take (e - j) (drop j part))) (length (take (e - j) (drop j part))) n l l′ r
+      → Done (child R place part j e) (e - j) (length part - j) n l l′ r
+  unfolding child
+  child-here l′ r g h d =
+      let m : length (take (e - j) (drop j part)) ≤ e - j = simp (length-take, length-drop) (omega arith) in
+      rw (le-leb j e g, le-leb e (length part) h) (wider _ (e - j) _ (length part - j) n l l′ _ r m (omega arith) d)
+
+-- within a raised depth
+pub within-deep : (x : Opened) (d : ContainerDepths) (r : Raised) (p : ℕ) (inside : Depths → Outcome) (end len n : ℕ) (l : List ℕ) → Raises (depthsOf d) (opened x (depthsOf d)) r → (r .refusal ≡ 0 → ⊥)
+    → Done (within (opened x (depthsOf d)) p inside) end len n l l (answer (r .refusal) 0 n)
+unfolding within
+within-deep x d r p inside end len n l h z =
+    let e : eqb (depthRefusal (opened x (depthsOf d))) 0 ≡ false = ne-eqb _ 0 (λ q. z (h .refusal ∙ q)) in
+    rw (e, h .refusal) (refusing (depthRefusal (opened x (depthsOf d))) p end len n l (λ q. z (h .refusal ∙ q)))
+
+pub within-open : (x : Opened) (d : ContainerDepths) (r : Raised) (p : ℕ) (inside : Depths → Outcome) → Raises (depthsOf d) (opened x (depthsOf d)) r → r .refusal ≡ 0
+    → within (opened x (depthsOf d)) p inside ≡ inside (depthsOf (r .depths))
+unfolding within
+within-open x d r p inside h z =
+    let e : eqb (depthRefusal (opened x (depthsOf d))) 0 ≡ true = eq-eqb _ 0 (sym (h .refusal) ∙ z) in
+    rw (e, raised-to x d r h z)
+
+pub level-falls : (x : Opened) (d : ContainerDepths) (r : Raised) → Raises (depthsOf d) (opened x (depthsOf d)) r → r .refusal ≡ 0 → level (r .depths) + 1 ≡ level d
+level-falls x d r h z =
+    let a = raised-shallow x d r h z in
+    let b = raised-to x d r h z in
+    omega (arith, ap total b, total-opened x (depthsOf d), total-most (depthsOf (r .depths)) a)
+  where
+    total-opened : (x : Opened) (d : Depths) → total (opened x d) ≡ total d + 1
+    total-opened Depth.structure d = omega arith
+    total-opened Depth.array d = omega arith
+    total-opened Depth.variant d = omega arith
+    total-opened Depth.maybe d = omega arith
+
+-- ---- the ways out of maybe
+module _ (text : List ℕ) (at : ℕ) (t : Typed text at) (e : letterAt text at ≡ Maybe) (x : ℕ) (there : x ≡ at + 1) where
+  module _ (part : List ℕ) (lead place position : ℕ) (big : Bool) (d : ContainerDepths) (n : ℕ) (l : List ℕ) where
+    maybe-body : bodyIn position big (d .variant) (treeAt text at) d place part lead
+        ≡ maybeIn (fixed (treeAt text x)) (readerOf position big (d .variant) (treeAt text x)) (depthsOf d) place part lead
+    unfolding bodyIn
+    maybe-body = rw (maybe-tree text at t e ∙ ap (λ (y : ℕ). maybe (treeAt text y)) (sym there))
+
+    pub maybe-none : (m : ℕ) (l′ : List ℕ) → length part ≤ lead → m ≡ nextEvent n → l′ ≡ put l n (event 78 (place + lead) 0)
+        → Done (bodyIn position big (d .variant) (treeAt text at) d place part lead) (length part - lead) (length part - lead) n l l′ (answer 0 0 m)
+    unfolding maybeIn
+    maybe-none m l′ h p q = rw maybe-body (rw (le-leb (length part) lead h) (single 0 _ _ n m l l′ (nothing (place + lead)) (omega arith) (omega arith) p q))
+
+    module _ (h : lead < length part) (r : Raised) (u : Raises (depthsOf d) (opened Depth.maybe (depthsOf d)) r) where
+      pub maybe-deep : (r .refusal ≡ 0 → ⊥) → Done (bodyIn position big (d .variant) (treeAt text at) d place part lead) (length part - lead) (length part - lead) n l l (answer (r .refusal) 0 n)
+      unfolding maybeIn
+      maybe-deep z = rw maybe-body (rw (lt-leb (length part) lead h) (within-deep Depth.maybe d r (place + lead) _ _ _ n l u z))
+
+      module _ (z : r .refusal ≡ 0) (m : ℕ) (l₁ : List ℕ) (p : m ≡ nextEvent n) (q : l₁ ≡ put l n (event 109 (place + lead) 0)) where
+        -- the child as it is read, deeper
+        abbrev of : ℕ → List ℕ → Outcome
+        of = readerOf position big (r .depths .variant) (treeAt text x) (depthsOf (r .depths))
+
+        as-read : (s : Answer) (l′ : List ℕ) → Done (after 0 (present (place + lead) ∷ []) (pick (fixed (treeAt text x)) (child of place part lead (length part))
+            (chain (child of place part lead (length part - 1)) (endByte place part lead)))) (length part - lead) (length part - lead) n l l′ s
+            → Done (bodyIn position big (d .variant) (treeAt text at) d place part lead) (length part - lead) (length part - lead) n l l′ s
+        unfolding maybeIn presentIn
+        as-read s l′ g =
+            let v : r .depths .variant ≡ d .variant = ap (λ (x : Depths). x .variant) (raised-to Depth.maybe d r u z) in
+            rw maybe-body (rw (lt-leb (length part) lead h, within-open Depth.maybe d r (place + lead) _ u z, ← v) g)
+
+        pub maybe-fixed : (s : Answer) (l′ : List ℕ) → fixed (treeAt text x) ≡ true → Done (child of place part lead (length part)) (length part - lead) (length part - lead) m l₁ l′ s
+            → Done (bodyIn position big (d .variant) (treeAt text at) d place part lead) (length part - lead) (length part - lead) n l l′ s
+        maybe-fixed s l′ f g = as-read s l′ (rw f (after-event _ _ n m l l₁ l′ (present (place + lead)) _ s p q g))
+
+        module _ (f : fixed (treeAt text x) ≡ false) (s : Answer) (l′ : List ℕ) (g : Done (child of place part lead (length part - 1)) (length part - 1 - lead) (length part - lead) m l₁ l′ s) where
+          pub maybe-stop : (s .refusal ≡ 0 → ⊥) → Done (bodyIn position big (d .variant) (treeAt text at) d place part lead) (length part - lead) (length part - lead) n l l′ s
+          maybe-stop y = as-read s l′ (rw f (after-event _ _ n m l l₁ l′ (present (place + lead)) _ s p q (stopped _ _ _ _ m l₁ l′ _ (endByte place part lead) s y (omega arith) g)))
+
+          pub maybe-seven : s .refusal ≡ 0 → (getD part (lead + s .used) 1 ≡ 0 → ⊥) → Done (bodyIn position big (d .variant) (treeAt text at) d place part lead) (length part - lead) (length part - lead) n l l′ (answer 7 (s .used) (s .count))
+          unfolding endByte
+          maybe-seven y b = as-read _ l′ (rw f (after-event _ _ n m l l₁ l′ (present (place + lead)) _ _ p q
+              (ended-refused _ _ _ _ m 7 (place + (lead + s .used)) l₁ l′ _ (endByte place part lead) s y (rw (ne-eqb (getD part (lead + s .used) 1) 0 b)) (λ w. omega arith) (g .fits) g)))
+
+          pub maybe-closed : s .refusal ≡ 0 → getD part (lead + s .used) 1 ≡ 0 → Done (bodyIn position big (d .variant) (treeAt text at) d place part lead) (length part - lead) (length part - lead) n l l′ (answer 0 (s .used + 1) (s .count))
+          unfolding endByte
+          maybe-closed y b =
+              let i = g .ends y in
+              as-read _ l′ (rw f (after-event _ _ n m l l₁ l′ (present (place + lead)) _ _ p q
+              (ended _ _ _ _ m 1 (s .used + 1) l₁ l′ _ (endByte place part lead) s y (rw (eq-eqb (getD part (lead + s .used) 1) 0 b)) refl (omega arith) (omega arith) g)))
+
+-- ---- the ways out of value, by the letter
+
+module _ (text : List ℕ) (at : ℕ) (t : Typed text at) (position : ℕ) (big : Bool) (nested : ℕ) (D : Depths) (k : ℕ) (part : List ℕ) (end len n : ℕ) (l l′ : List ℕ) (r : Answer) where
+  pub value-bool : letterAt text at ≡ Boolean → ((d : Depths) → Done (readBool d k part) end len n l l′ r) → Done (readerOf position big nested (treeAt text at) D k part) end len n l l′ r
+  value-bool e g = subst⁻¹ (λ (R : Reader). Done (R D k part) end len n l l′ r) (reads-bool text at t position big nested e) (g D)
+
+  pub value-number : (c w : ℕ) → letterAt text at ≡ Number c w → ((d : Depths) → Done (readNumber position big c w d k part) end len n l l′ r) → Done (readerOf position big nested (treeAt text at) D k part) end len n l l′ r
+  value-number c w e g = subst⁻¹ (λ (R : Reader). Done (R D k part) end len n l l′ r) (reads-number text at t position big nested c w e) (g D)
+
+  pub value-text : (c : ℕ) → letterAt text at ≡ Text c → ((d : Depths) → Done (readText c d k part) end len n l l′ r) → Done (readerOf position big nested (treeAt text at) D k part) end len n l l′ r
+  value-text c e g = subst⁻¹ (λ (R : Reader). Done (R D k part) end len n l l′ r) (reads-text text at t position big nested c e) (g D)
+
+-- the numbers of the letters that are no basic one, and of those that begin no maybe, array or structure
+abbrev notBasic : List ℕ
+notBasic = 0 ∷ 1 ∷ 5 ∷ 6 ∷ 7 ∷ 8 ∷ 9 ∷ 10 ∷ 11 ∷ []
+
+abbrev notNested : List ℕ
+notNested = 0 ∷ 1 ∷ 2 ∷ 3 ∷ 4 ∷ 9 ∷ 10 ∷ 11 ∷ []
+
+-- a letter that is no basic one begins a container
+basic-not : (b : Basic) → OneOf notBasic (tagOf the-type (basicKind b)) → ⊥
+basic-not bool h = miss notBasic 2 tt h
+basic-not (number c) h = miss notBasic 3 tt h
+basic-not (text c) h = miss notBasic 4 tt h
+
+pub contains-by : (signature : List ℕ) (at : ℕ) (k : Letter) → Typed signature at → k ≡ letterAt signature at → OneOf notBasic (tagOf the-type k) → Contains (treeAt signature at)
+contains-by signature at k t e h = go (treeAt signature at) (shown signature at _ _ (t .found))
+  where
+    go : (s : Tree) → Shown signature at s (behindBy (firstType (drop at signature))) → Contains s
+    go (basic b) w = absurd (basic-not b (subst (λ (x : Letter). OneOf notBasic (tagOf the-type x)) (e ∙ w .letter) h))
+    go variant w = tt
+    go (maybe s) w = tt
+    go (array s) w = tt
+    go (dictionary b s) w = tt
+    go (structure ts) w = tt
+
+-- and one that begins no maybe, array or structure begins a variant
+pub variant-by : (signature : List ℕ) (at : ℕ) (k : Letter) → Typed signature at → k ≡ letterAt signature at → Contains (treeAt signature at) → OneOf notNested (tagOf the-type k) → treeAt signature at ≡ variant
+variant-by signature at k t e c h = go (treeAt signature at) (shown signature at _ _ (t .found)) c
+  where
+    tags : (x : Letter) → letterAt signature at ≡ x → OneOf notNested (tagOf the-type x)
+    tags x q = subst (λ (x : Letter). OneOf notNested (tagOf the-type x)) (e ∙ q) h
+
+    go : (s : Tree) → Shown signature at s (behindBy (firstType (drop at signature))) → Contains s → s ≡ variant
+    go (basic b) w c = absurd c
+    go variant w c = refl
+    go (maybe s) w c = absurd (miss notNested 6 tt (tags Maybe (w .letter)))
+    go (array s) w c = absurd (miss notNested 7 tt (tags Array (w .letter)))
+    go (dictionary b s) w c = absurd (miss notNested 7 tt (tags Array (w .letter)))
+    go (structure ts) w c = absurd (miss notNested 8 tt (tags OpenStructure (w .letter)))
+
+pub reads-variant : (signature : List ℕ) (at : ℕ) → Typed signature at → letterAt signature at ≡ Variant → treeAt signature at ≡ variant
+reads-variant signature at t e = is-variant signature at _ _ (t .found) e .0
+
+pub body-variant : (signature : List ℕ) (at position : ℕ) (big : Bool) (d : ContainerDepths) (k : ℕ) (part : List ℕ) (lead end len n : ℕ) (l l′ : List ℕ) (r : Answer) → treeAt signature at ≡ variant
+    → Done (bodyIn position big (d .variant) variant d k part lead) end len n l l′ r → Done (bodyIn position big (d .variant) (treeAt signature at) d k part lead) end len n l l′ r
+body-variant signature at position big d k part lead end len n l l′ r e g = rw e g
+
+-- ---- what callees ask
+
+pub within-raised : {len place position : ℕ} (x : Opened) (d : ContainerDepths) (r : Raised) → Within len place position d → Raises (depthsOf d) (opened x (depthsOf d)) r → r .refusal ≡ 0 → Within len place position (r .depths)
+within-raised x d r w h z = record { in-frame = w .in-frame; near = w .near; shallow = raised-shallow x d r h z }
+
+pub within-child : {place position : ℕ} {d : ContainerDepths} (part : List ℕ) (j e : ℕ) → Within (length part) place position d → j ≤ e → e ≤ length part → Within (length (take (e - j) (drop j part))) (place + j) position d
+within-child {place} part j e w g h =
+    let a = w .in-frame in
+    record { in-frame = simp (length-take, length-drop) (omega arith); near = w .near; shallow = w .shallow }
+
+-- the array or dictionary at a letter of one: too deep, whichever it is
+pub sequence-deep : (signature : List ℕ) (at : ℕ) (t : Typed signature at) → letterAt signature at ≡ Array → (part : List ℕ) (lead place position : ℕ) (big : Bool) (d : ContainerDepths) (n : ℕ) (l : List ℕ) (r : Raised)
+    → Raises (depthsOf d) (opened Depth.array (depthsOf d)) r → (r .refusal ≡ 0 → ⊥) → Done (bodyIn position big (d .variant) (treeAt signature at) d place part lead) (length part - lead) (length part - lead) n l l (answer (r .refusal) 0 n)
+sequence-deep signature at t e part lead place position big d n l r u z = go (treeAt signature at) (shown signature at _ _ (t .found))
+  where
+    no : {A : Type 0} (x : Letter) (ks : List ℕ) → letterAt signature at ≡ x → (Array ≡ x → ⊥) → A
+    no x ks q f = absurd (f (sym e ∙ q))
+
+    basic-no : (b : Basic) → Array ≡ basicKind b → ⊥
+    basic-no bool q = let y : _≡_ {A = ℕ} 0 1 = cc in omega arith
+    basic-no (number c) q = let y : _≡_ {A = ℕ} 0 1 = cc in omega arith
+    basic-no (text c) q = let y : _≡_ {A = ℕ} 0 1 = cc in omega arith
+
+    go : (s : Tree) → Shown signature at s (behindBy (firstType (drop at signature))) → Done (bodyIn position big (d .variant) s d place part lead) (length part - lead) (length part - lead) n l l (answer (r .refusal) 0 n)
+    go (basic b) w = no (basicKind b) [] (w .letter) (basic-no b)
+    go variant w = no Variant [] (w .letter) (λ q. let y : _≡_ {A = ℕ} 0 1 = cc in omega arith)
+    go (maybe s) w = no Maybe [] (w .letter) (λ q. let y : _≡_ {A = ℕ} 0 1 = cc in omega arith)
+    go (array s) w = unfold bodyIn arrayIn in within-deep Depth.array d r (place + lead) _ _ _ n l u z
+    go (dictionary b s) w = unfold bodyIn arrayIn in within-deep Depth.array d r (place + lead) _ _ _ n l u z
+    go (structure ts) w = no OpenStructure [] (w .letter) (λ q. let y : _≡_ {A = ℕ} 0 1 = cc in omega arith)
+
+-- ---- the ways out of structure
+module _ {text shapes : List ℕ} {s : Shape} (t : Described text shapes s) (e : letterAt text (s .at) ≡ OpenStructure) where
+  module _ (part : List ℕ) (lead place position : ℕ) (big : Bool) (d : ContainerDepths) (n : ℕ) (l : List ℕ) (r : Raised) (u : Raises (depthsOf d) (opened Depth.structure (depthsOf d)) r) where
+    pub structure-deep : (r .refusal ≡ 0 → ⊥) → Done (bodyIn position big (d .variant) (treeAt text (s .at)) d place part lead) (length part - lead) (length part - lead) n l l (answer (r .refusal) 0 n)
+    unfolding bodyIn structureIn
+    structure-deep z = rw (structure-tree t e) (within-deep Depth.structure d r (place + lead) _ _ _ n l u z)
+
+    pub structure-on : (m : ℕ) (l₁ l′ : List ℕ) (a : Answer) → r .refusal ≡ 0 → m ≡ nextEvent n → l₁ ≡ put l n (event 40 (place + lead) 0)
+        → Done (chain (fieldsIn position (s .fixed) (s .alignment) place part lead (encodedWidth (length part - lead)) (depthsOf (r .depths)) (readersOf position big (r .depths .variant) (fieldsAt text (s .at + 1))) (length part) lead) (closingAt (place + lead))) (length part - lead) (length part - lead) m l₁ l′ a
+        → Done (bodyIn position big (d .variant) (treeAt text (s .at)) d place part lead) (length part - lead) (length part - lead) n l l′ a
+    unfolding bodyIn structureIn structureBody enclosed
+    structure-on m l₁ l′ a z p q g =
+        let v : r .depths .variant ≡ d .variant = ap (λ (x : Depths). x .variant) (raised-to Depth.structure d r u z) in
+        rw (structure-tree t e) (rw (within-open Depth.structure d r (place + lead) _ u z, ← structure-fixed t e, ← structure-alignment t e, ← v)
+        (after-event _ _ n m l l₁ l′ (opening 40 (place + lead)) _ a p q g))

@@ -1,0 +1,97 @@
+-- What a reader is asked to read: a type by its place in a text, at a depth. Assumes nothing: these are definitions.
+use mathlib.Core.Path.{_≡_}
+use mathlib.Core.List.{List}
+use mathlib.Core.Bool.{Bool, true, false, _&&_}
+use Prim.Native.Nat.{ℕ, _-_, _≤_, _<_, max}
+use lib.ListN.{length}
+use Rattle.meaning.specs.Choice.{pick}
+use Rattle.meaning.specs.Depths.{Depths}
+use Rattle.meaning.specs.Types.{Tree, Fields, basic, variant, maybe, array, dictionary, structure, alignment, largestAlignment, fixed, allFixed, basicAlignment, basicFixed}
+use Rattle.meaning.specs.Outcome as outcome
+use Rattle.meaning.specs.Outcome.{Outcome}
+use Rattle.meaning.specs.Reading.{Reader, Step, Field, readNumber, readBasic, readMaybe, maybeIn, arrayIn, childStep, entryStep, structureIn, variantIn, readers, readVariant, reading}
+use Rattle.meaning.specs.Padding.{Aligns}
+use Rattle.container_depths.specs.Opening.{depthsOf}
+use Rattle.container_depths.specs.declared.ContainerDepths.{ContainerDepths}
+use Rattle.signature.specs.Trees.{treeAt, Described}
+use Rattle.signature.specs.declared.Letter.the-variants.{Number}
+use Rattle.reader_basic.specs.Parts.{keyReader, KeyAligned, itemKind}
+use Rattle.signature.specs.declared.items.Item.{Item}
+use Rattle.reader_basic.specs.declared.Context.{Context}
+
+-- the reading of a type where so many variants are nested
+abbrev pub readerOf : ℕ → Bool → ℕ → Tree → Reader
+readerOf position big nested t = reading position big (65 - nested) t
+
+abbrev pub readersOf : ℕ → Bool → ℕ → Fields → List Field
+readersOf position big nested ts = readers position big (readVariant position (λ u. reading position big (64 - nested) u)) ts
+
+-- what stands in a container of a type, behind n bytes of padding
+unfoldable pub bodyIn : ℕ → Bool → ℕ → Tree → ContainerDepths → ℕ → List ℕ → ℕ → Outcome
+bodyIn position big nested (basic b) d k l n = outcome.refused 1 0
+bodyIn position big nested variant d k l n = variantIn (λ u. reading position big (64 - nested) u) (depthsOf d) k l n
+bodyIn position big nested (maybe t) d k l n = maybeIn (fixed t) (readerOf position big nested t) (depthsOf d) k l n
+bodyIn position big nested (array t) d k l n = arrayIn 97 (fixed t) (childStep (readerOf position big nested t)) (depthsOf d) k l n
+bodyIn position big nested (dictionary b t) d k l n =
+    arrayIn 123 (basicFixed b && fixed t)
+    (entryStep position (max (basicAlignment b) (alignment t)) (basicFixed b) (basicFixed b && fixed t) (readBasic position big b) (readerOf position big nested t))
+    (depthsOf d) k l n
+bodyIn position big nested (structure ts) d k l n = structureIn position (largestAlignment ts) (allFixed ts) (readersOf position big nested ts) (depthsOf d) k l n
+
+-- what is repeated in an array or a dictionary: its step
+abbrev pub itemStep : ℕ → Bool → ℕ → List ℕ → Item → Step
+itemStep position big nested text i =
+    pick (i .entry)
+    (entryStep position (i .alignment) (i .keyed) (i .fixed) (keyReader position big (i .key)) (readerOf position big nested (treeAt text (i .child .at))))
+    (childStep (readerOf position big nested (treeAt text (i .child .at))))
+
+-- what is repeated is a number: plain where it is fixed, in a maybe where it is not
+pub record NumberStep (text : List ℕ) (i : Item) (c w : ℕ) : Type 0 where
+  pub aligned : Aligns w
+  pub plain : i .fixed ≡ true → (position : ℕ) (big : Bool) (nested : ℕ) → itemStep position big nested text i ≡ childStep (readNumber position big c w)
+  pub held : i .fixed ≡ false → (position : ℕ) (big : Bool) (nested : ℕ) → itemStep position big nested text i ≡ childStep (readMaybe position w true (readNumber position big c w))
+
+-- what is known of what is repeated: its type stands in the text, its alignment is one; where it is fixed, so is its key, and a step
+-- that is done uses a byte
+pub record Repeated (text shapes : List ℕ) (i : Item) : Type 0 where
+  pub child : Described text shapes (i .child)
+  pub aligned : Aligns (i .alignment)
+  pub key : KeyAligned (i .key)
+  pub keyed : i .fixed ≡ true → i .entry ≡ true → i .keyed ≡ true
+  pub number : (c w : ℕ) → i .number ≡ Number c w → NumberStep text i c w
+  pub pays : i .fixed ≡ true → (position : ℕ) (big : Bool) (nested : ℕ) (d : Depths) (k : ℕ) (l : List ℕ) (b j : ℕ) → j ≤ length l
+      → itemStep position big nested text i d k l b j (length l) .refusal ≡ 0 → 0 < itemStep position big nested text i d k l b j (length l) .used
+
+-- and that it is what the array or dictionary at a place repeats
+pub record ItemAt (text shapes : List ℕ) (at : ℕ) (i : Item) : Type 0 where
+  pub repeated : Repeated text shapes i
+  pub body : (position : ℕ) (big : Bool) (nested : ℕ) (d : ContainerDepths) (k : ℕ) (l : List ℕ) (n : ℕ)
+      → bodyIn position big nested (treeAt text at) d k l n ≡ arrayIn (itemKind i) (i .fixed) (itemStep position big nested text i) (depthsOf d) k l n
+
+-- the same by what rides along: a value, the fields of a structure, what stands in a container, a step of what is repeated
+abbrev pub valueAt : Context → Tree → Reader
+valueAt c t = readerOf (c .position) (c .big) (c .depths .variant) t
+
+abbrev pub valueIn : Context → Tree → ℕ → List ℕ → Outcome
+valueIn c t = valueAt c t (depthsOf (c .depths))
+
+abbrev pub readersIn : Context → Fields → List Field
+readersIn c ts = readersOf (c .position) (c .big) (c .depths .variant) ts
+
+abbrev pub insideOf : Context → Tree → ℕ → List ℕ → ℕ → Outcome
+insideOf c t k l n = bodyIn (c .position) (c .big) (c .depths .variant) t (c .depths) k l n
+
+abbrev pub stepIn : Context → List ℕ → Item → ℕ → List ℕ → ℕ → ℕ → ℕ → Outcome
+stepIn c text i = itemStep (c .position) (c .big) (c .depths .variant) text i (depthsOf (c .depths))
+
+-- a container's type
+abbrev pub Contains : Tree → Type 0
+Contains (basic b) = ⊥
+Contains variant = Unit {0}
+Contains (maybe t) = Unit {0}
+Contains (array t) = Unit {0}
+Contains (dictionary b t) = Unit {0}
+Contains (structure ts) = Unit {0}
+
+abbrev pub variantTree : Tree
+variantTree = variant

@@ -1,0 +1,33 @@
+-- Each public contract leaves one answer. Assumes nothing.
+use mathlib.Core.Path.{refl, sym, _∙_}
+use Rattle.meaning.specs.OneAnswer.{OneAnswer}
+use Rattle.signature.proofs.judge.Kinds as judge-kinds
+use Rattle.signature.proofs.judge.Reads as judge
+use Rattle.signature.proofs.letter_at.Kinds as letter-at-kinds
+use Rattle.signature.proofs.letter_at.Reads as letter-at
+use Rattle.signature.proofs.key_alignment.Kinds as key-alignment-kinds
+use Rattle.signature.proofs.key_alignment.Reads as key-alignment
+use Rattle.signature.proofs.key_fixed.Kinds as key-fixed-kinds
+use Rattle.signature.proofs.key_fixed.Reads as key-fixed
+use Rattle.signature.proofs.shapes.shape_in.Kinds as shape-in-kinds
+use Rattle.signature.proofs.shapes.shape_in.Reads as shape-in
+use Rattle.signature.proofs.items.item_of.Kinds as item-of-kinds
+use Rattle.signature.proofs.items.item_of.Reads as item-of
+
+pub judge-unique : OneAnswer judge-kinds.ps judge-kinds.r judge.Learnt
+judge-unique κs a z z′ w w′ p q = (p ∙ sym q, refl)
+
+pub letter-at-unique : OneAnswer letter-at-kinds.ps letter-at-kinds.r letter-at.Learnt
+letter-at-unique κs a z z′ w w′ p q = (p ∙ sym q, refl)
+
+pub key-alignment-unique : OneAnswer key-alignment-kinds.ps key-alignment-kinds.r key-alignment.Learnt
+key-alignment-unique κs a z z′ w w′ p q = (p ∙ sym q, refl)
+
+pub key-fixed-unique : OneAnswer key-fixed-kinds.ps key-fixed-kinds.r key-fixed.Learnt
+key-fixed-unique κs a z z′ w w′ p q = (p ∙ sym q, refl)
+
+pub shape-in-unique : OneAnswer shape-in-kinds.ps shape-in-kinds.r shape-in.Learnt
+shape-in-unique κs a z z′ w w′ p q = (p ∙ sym q, refl)
+
+pub item-of-unique : OneAnswer item-of-kinds.ps item-of-kinds.r item-of.Learnt
+item-of-unique κs a z z′ w w′ p q = (p ∙ sym q, refl)

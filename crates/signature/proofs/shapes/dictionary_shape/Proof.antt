@@ -1,0 +1,103 @@
+-- `dictionary_shape` meets its contract: a law of ShapeLaws or of signature's Children for each way out. Assumes nothing.
+use mathlib.Core.Path.{_≡_, refl, sym, ap, _∙_}
+use Prim.Native.Nat.{ℕ, _+_, _-_, _*_, _/_, _%_, _≤_, _<_, max}
+use native.Mathlib.Omega.{arith}
+use lib.ListN.{length, length-set}
+use Rattle.signature.specs.Places.{letterAt, childAt}
+use Rattle.signature.specs.declared.Letter.the-variants.{CloseEntry}
+use mathlib.Core.Bool.{true, false}
+use Rattle.meaning.proofs.TypeLaws.{aligns-most}
+use Rattle.signature.specs.Steps.{keyAlignment}
+use Rattle.signature.proofs.Letters.{apart-from}
+use Rattle.signature.proofs.Children.{entry-no-key, entry-no-value, entry-open}
+use Rattle.signature.specs.Shapes.{packed}
+use Rattle.signature.proofs.ShapeLaws.{known, absent, key-most, fits, no-dictionary, shape-dictionary}
+use borrow.Author.Needs.{needs}
+use Rattle.signature.proofs.shapes.dictionary_shape.Statement.{statement}
+use Rattle.signature.proofs.shapes.dictionary_shape.Tie as tie
+use Rattle.signature.proofs.shapes.dictionary_shape.Reads as reads
+use Rattle.signature.proofs.shapes.dictionary_shape.Lts as lts
+use Rattle.signature.proofs.shapes.alignment_of.Reads as alignment-of-reads
+use Rattle.signature.proofs.shapes.larger.Reads as larger-reads
+use Rattle.signature.proofs.shapes.next_of.Reads as next-of-reads
+use Rattle.signature.proofs.shapes.pack.Reads as pack-reads
+use Rattle.signature.proofs.shapes.seen.Reads as seen-reads
+use Rattle.signature.proofs.key_alignment.Reads as key-alignment-reads
+use Rattle.signature.proofs.letter_at.Reads as letter-at-reads
+
+add-letter-at : tie.Need-add-letter-at
+add-letter-at c =
+    omega (arith, c .before .before .pre .0 .inside, c .before .before .pre .0 .few)
+
+letter-at-requires : tie.Need-letter-at-requires
+letter-at-requires c κs = search needs
+
+key-alignment-requires : tie.Need-key-alignment-requires
+key-alignment-requires c κs = search needs
+
+returns : tie.Need-returns
+returns c =
+    no-dictionary (c .before .before .before .before .before .args .text .now) (c .before .before .before .before .before .args .at) (c .before .before .before .before .before .pre .0 .few) (c .before .before .before .before .before .pre .1) (c .before .before .before .before .before .pre .2) (entry-no-key (c .before .before .before .before .before .args .text .now) (c .before .before .before .before .before .args .at) (c .before .before .before .before .before .pre .0 .few) (c .before .before .before .before .before .pre .1) (c .before .before .before .before .before .pre .2) (sym (c .before .key-alignment .ensures ∙ ap keyAlignment (c .before .before .letter-at .ensures)) ∙ (c .if1 .taken)))
+
+add-seen : tie.Need-add-seen
+add-seen c =
+    omega (arith, c .before .before .before .before .before .pre .0 .inside, c .before .before .before .before .before .pre .0 .few)
+
+seen-requires : tie.Need-seen-requires
+seen-requires c κs =
+    ((c .before .before .before .before .before .pre .0 .few), (c .before .before .before .before .before .pre .0 .room))
+
+returns-2 : tie.Need-returns-2
+returns-2 c =
+    no-dictionary (c .before .before .before .before .before .before .before .args .text .now) (c .before .before .before .before .before .before .before .args .at) (c .before .before .before .before .before .before .before .pre .0 .few) (c .before .before .before .before .before .before .before .pre .1) (c .before .before .before .before .before .before .before .pre .2) (entry-no-value (c .before .before .before .before .before .before .before .args .text .now) (c .before .before .before .before .before .before .before .args .at) (c .before .before .before .before .before .before .before .pre .0 .few) (c .before .before .before .before .before .before .before .pre .1) (c .before .before .before .before .before .before .before .pre .2) (λ z. (c .before .before .if1 .left) ((c .before .before .before .key-alignment .ensures ∙ ap keyAlignment (c .before .before .before .before .letter-at .ensures)) ∙ z)) (absent (c .before .before .before .before .before .before .before .args .text .now) ((c .before .before .before .before .before .before .before .args .at) + 3) (c .before .seen .result) (c .before .seen .ensures ((c .before .before .before .before .before .before .before .args .at) + 1) (omega arith) (c .before .before .before .before .before .before .before .pre .0 .table)) (c .if2 .taken)))
+
+next-of-requires : tie.Need-next-of-requires
+next-of-requires c κs = search needs
+
+alignment-of-requires : tie.Need-alignment-of-requires
+alignment-of-requires c κs = search needs
+
+larger-requires : tie.Need-larger-requires
+larger-requires c κs = search needs
+
+letter-at-requires-2 : tie.Need-letter-at-requires-2
+letter-at-requires-2 c κs = search needs
+
+enum-told : tie.Need-enum-told
+enum-told c = search needs
+
+add-pack : tie.Need-add-pack
+add-pack c = search needs
+
+pack-requires : tie.Need-pack-requires
+pack-requires c κs =
+    let k = (known (c .before .before .before .before .before .before .before .before .before .before .before .before .before .args .text .now) ((c .before .before .before .before .before .before .before .before .before .before .before .before .before .args .at) + 3) (c .before .before .before .before .before .before .before .seen .result) (c .before .before .before .before .before .before .before .seen .ensures ((c .before .before .before .before .before .before .before .before .before .before .before .before .before .args .at) + 1) (omega arith) (c .before .before .before .before .before .before .before .before .before .before .before .before .before .pre .0 .table)) (c .before .before .before .before .before .before .if2 .left)) in let m = key-most (c .before .before .before .before .before .before .before .before .before .before .before .before .before .args .text .now) ((c .before .before .before .before .before .before .before .before .before .before .before .before .before .args .at) + 2) (λ z. (c .before .before .before .before .before .before .before .before .if1 .left) ((c .before .before .before .before .before .before .before .before .before .key-alignment .ensures ∙ ap keyAlignment (c .before .before .before .before .before .before .before .before .before .before .letter-at .ensures)) ∙ z)) in let e = (c .before .before .before .before .before .before .before .before .before .key-alignment .ensures ∙ ap keyAlignment (c .before .before .before .before .before .before .before .before .before .before .letter-at .ensures)) in (fits (c .before .before .before .before .before .before .before .before .before .before .before .before .before .args .text .now) (c .before .before .before .before .before .next-of .result) CloseEntry 125 (c .before .before .before .before .before .before .before .before .before .before .before .before .before .pre .0 .few) (sym (c .before .before .letter-at2 .ensures) ∙ (c .enum-told .given .1)) refl, omega (arith, c .before .before .before .larger .ensures, c .before .before .before .before .alignment-of .ensures, k .alignment, aligns-most (k .stands .aligns)))
+
+returns-3 : tie.Need-returns-3
+returns-3 c =
+    let k = (known (c .before .before .before .before .before .before .before .before .before .before .before .before .before .before .args .text .now) ((c .before .before .before .before .before .before .before .before .before .before .before .before .before .before .args .at) + 3) (c .before .before .before .before .before .before .before .before .seen .result) (c .before .before .before .before .before .before .before .before .seen .ensures ((c .before .before .before .before .before .before .before .before .before .before .before .before .before .before .args .at) + 1) (omega arith) (c .before .before .before .before .before .before .before .before .before .before .before .before .before .before .pre .0 .table)) (c .before .before .before .before .before .before .before .if2 .left)) in c .pack .ensures ∙ rw (c .before .before .before .before .before .before .next-of .ensures, c .before .before .before .before .larger .ensures, c .before .before .before .before .before .alignment-of .ensures) (rw (c .before .before .before .before .before .before .before .before .before .before .key-alignment .ensures ∙ ap keyAlignment (c .before .before .before .before .before .before .before .before .before .before .before .letter-at .ensures)) (shape-dictionary (c .before .before .before .before .before .before .before .before .before .before .before .before .before .before .args .text .now) (c .before .before .before .before .before .before .before .before .before .before .before .before .before .before .args .at) (c .before .before .before .before .before .before .before .before .before .before .before .before .before .before .pre .0 .few) (c .before .before .before .before .before .before .before .before .before .before .before .before .before .before .pre .1) (c .before .before .before .before .before .before .before .before .before .before .before .before .before .before .pre .2) (c .before .before .before .before .before .before .before .before .seen .result) k (λ z. (c .before .before .before .before .before .before .before .before .before .if1 .left) ((c .before .before .before .before .before .before .before .before .before .before .key-alignment .ensures ∙ ap keyAlignment (c .before .before .before .before .before .before .before .before .before .before .before .letter-at .ensures)) ∙ z)) (sym (ap (λ (x : ℕ). letterAt (c .before .before .before .before .before .before .before .before .before .before .before .before .before .before .args .text .now) x) (c .before .before .before .before .before .before .next-of .ensures)) ∙ sym (c .before .before .before .letter-at2 .ensures) ∙ (c .before .enum-told .given .1))))
+
+returns-4 : tie.Need-returns-4
+returns-4 c =
+    let k = (known (c .before .before .before .before .before .before .before .before .before .before .before .before .args .text .now) ((c .before .before .before .before .before .before .before .before .before .before .before .before .args .at) + 3) (c .before .before .before .before .before .before .seen .result) (c .before .before .before .before .before .before .seen .ensures ((c .before .before .before .before .before .before .before .before .before .before .before .before .args .at) + 1) (omega arith) (c .before .before .before .before .before .before .before .before .before .before .before .before .pre .0 .table)) (c .before .before .before .before .before .if2 .left)) in no-dictionary (c .before .before .before .before .before .before .before .before .before .before .before .before .args .text .now) (c .before .before .before .before .before .before .before .before .before .before .before .before .args .at) (c .before .before .before .before .before .before .before .before .before .before .before .before .pre .0 .few) (c .before .before .before .before .before .before .before .before .before .before .before .before .pre .1) (c .before .before .before .before .before .before .before .before .before .before .before .before .pre .2) (entry-open (c .before .before .before .before .before .before .before .before .before .before .before .before .args .text .now) (c .before .before .before .before .before .before .before .before .before .before .before .before .args .at) (c .before .before .before .before .before .before .before .before .before .before .before .before .pre .0 .few) (c .before .before .before .before .before .before .before .before .before .before .before .before .pre .1) (c .before .before .before .before .before .before .before .before .before .before .before .before .pre .2) (λ z. (c .before .before .before .before .before .before .before .if1 .left) ((c .before .before .before .before .before .before .before .before .key-alignment .ensures ∙ ap keyAlignment (c .before .before .before .before .before .before .before .before .before .letter-at .ensures)) ∙ z)) (k .stands) (λ q. apart-from CloseEntry (c .before .letter-at2 .result) (c .match .keys2) (c .before .letter-at2 .ensures ∙ ap (λ (x : ℕ). letterAt (c .before .before .before .before .before .before .before .before .before .before .before .before .args .text .now) x) (c .before .before .before .before .next-of .ensures ∙ k .next) ∙ q)))
+
+pub dictionary-shape-spec : {M : Type 1} → statement M
+dictionary-shape-spec =
+    tie.close
+    (tie.spec
+    add-letter-at
+    letter-at-requires
+    key-alignment-requires
+    returns
+    add-seen
+    seen-requires
+    returns-2
+    next-of-requires
+    alignment-of-requires
+    larger-requires
+    letter-at-requires-2
+    enum-told
+    add-pack
+    pack-requires
+    returns-3
+    returns-4)

@@ -1,0 +1,28 @@
+-- `seen` meets its contract: behind the text no type begins. Assumes nothing.
+use mathlib.Core.Path.{_≡_, refl, sym, ap, _∙_}
+use Prim.Native.Nat.{ℕ, _+_, _-_, _*_, _/_, _%_, _≤_, _<_, max}
+use native.Mathlib.Omega.{arith}
+use lib.ListN.{length, length-set}
+use Rattle.signature.specs.Places.{letterAt, childAt}
+use Rattle.signature.proofs.ShapeLaws.{shape-end}
+use borrow.Author.Needs.{needs}
+use Rattle.signature.proofs.shapes.seen.Statement.{statement}
+use Rattle.signature.proofs.shapes.seen.Tie as tie
+use Rattle.signature.proofs.shapes.seen.Reads as reads
+use Rattle.signature.proofs.shapes.seen.Lts as lts
+
+returns : tie.Need-returns
+returns c =
+    λ from h w. shape-end (c .before .args .text .now) (c .before .args .at) (c .before .pre .0) (c .if1 .taken)
+
+mul-result : tie.Need-mul-result
+mul-result c = search needs
+
+shared-slice-read-result : tie.Need-shared-slice-read-result
+shared-slice-read-result c = search needs
+
+returns-2 : tie.Need-returns-2
+returns-2 c = search needs
+
+pub seen-spec : {M : Type 1} → statement M
+seen-spec = tie.close (tie.spec returns mul-result shared-slice-read-result returns-2)

@@ -1,0 +1,116 @@
+-- `structure_shape` meets its contract. The loop keeps `Fielded`, that what is left answers the whole; the measure is what is left of the text. Assumes nothing.
+use mathlib.Core.Path.{_≡_, refl, sym, ap, _∙_}
+use Prim.Native.Nat.{ℕ, _+_, _-_, _*_, _/_, _%_, _≤_, _<_, max}
+use native.Mathlib.Omega.{arith}
+use lib.ListN.{length, length-set}
+use Rattle.signature.specs.Places.{letterAt, childAt}
+use Rattle.signature.specs.declared.Letter.the-variants.{CloseStructure}
+use mathlib.Core.Bool.{Bool, true, false, _&&_}
+use borrow.Author.Needs.{needs}
+use Rattle.signature.proofs.Letters.{apart-from}
+use Rattle.signature.proofs.ShapeLaws.{Fielded, fielded-begin, fielded-missing, fielded-next, fielded-last, fielded-most, fielded-onward, known, fits}
+use Rattle.signature.proofs.shapes.structure_shape.Statement.{statement}
+use Rattle.signature.proofs.shapes.structure_shape.Tie as tie
+use Rattle.signature.proofs.shapes.structure_shape.Reads as reads
+use Rattle.signature.proofs.shapes.structure_shape.Lts as lts
+use Rattle.signature.proofs.shapes.alignment_of.Reads as alignment-of-reads
+use Rattle.signature.proofs.shapes.both.Reads as both-reads
+use Rattle.signature.proofs.shapes.fixed_of.Reads as fixed-of-reads
+use Rattle.signature.proofs.shapes.larger.Reads as larger-reads
+use Rattle.signature.proofs.shapes.next_of.Reads as next-of-reads
+use Rattle.signature.proofs.shapes.pack.Reads as pack-reads
+use Rattle.signature.proofs.shapes.seen.Reads as seen-reads
+use Rattle.signature.proofs.letter_at.Reads as letter-at-reads
+
+abbrev Inv-loop : tie.InvT-loop
+Inv-loop text at shapes place₀ alignment₀ fixed₀ place alignment fixed = Fielded text at place alignment fixed
+
+abbrev μ-loop : tie.MeasureT-loop
+μ-loop text at shapes place₀ alignment₀ fixed₀ place alignment fixed = length text - place
+
+add-place : tie.Need-add-place Inv-loop μ-loop
+add-place c =
+    omega (arith, c .before .before .pre .0 .inside, c .before .before .pre .0 .few)
+
+loop-holds : tie.Need-loop-holds Inv-loop μ-loop
+loop-holds c =
+    fielded-begin (c .before .before .args .text .now) (c .before .before .args .at) (c .before .before .pre .0 .few) (c .before .before .pre .1)
+
+seen-requires : tie.Need-seen-requires Inv-loop μ-loop
+seen-requires c κs =
+    ((c .before .before .before .pre .0 .few), (c .before .before .before .pre .0 .room))
+
+returns : tie.Need-returns Inv-loop μ-loop
+returns c =
+    fielded-missing (c .before .before .before .before .before .args .text .now) (c .before .before .before .before .before .args .at) (c .before .before .loop .place) (c .before .before .loop .alignment) (c .before .before .loop .fixed) (c .before .before .before .before .before .pre .0 .few) (c .before .before .loop .inv) (c .before .seen .result) (c .before .seen .ensures ((c .before .before .before .before .before .args .at) + 1) (omega (arith, c .before .before .loop .inv .fielding .onward)) (c .before .before .before .before .before .pre .0 .table)) (c .if1 .taken)
+
+alignment-of-requires : tie.Need-alignment-of-requires Inv-loop μ-loop
+alignment-of-requires c κs =
+    search needs
+
+larger-requires : tie.Need-larger-requires Inv-loop μ-loop
+larger-requires c κs =
+    search needs
+
+fixed-of-requires : tie.Need-fixed-of-requires Inv-loop μ-loop
+fixed-of-requires c κs =
+    search needs
+
+both-requires : tie.Need-both-requires Inv-loop μ-loop
+both-requires c κs =
+    search needs
+
+next-of-requires : tie.Need-next-of-requires Inv-loop μ-loop
+next-of-requires c κs =
+    search needs
+
+letter-at-requires : tie.Need-letter-at-requires Inv-loop μ-loop
+letter-at-requires c κs =
+    search needs
+
+enum-told : tie.Need-enum-told Inv-loop μ-loop
+enum-told c =
+    search needs
+
+add-pack : tie.Need-add-pack Inv-loop μ-loop
+add-pack c =
+    omega (arith, fits (c .before .before .before .before .before .before .before .before .before .before .before .before .before .args .text .now) (c .before .before .before .next-of .result) CloseStructure 41 (c .before .before .before .before .before .before .before .before .before .before .before .before .before .pre .0 .few) (sym (c .before .before .letter-at .ensures) ∙ (c .enum-told .given .1)) refl)
+
+pack-requires : tie.Need-pack-requires Inv-loop μ-loop
+pack-requires c κs =
+    (fits (c .before .before .before .before .before .before .before .before .before .before .before .before .before .args .text .now) (c .before .before .before .next-of .result) CloseStructure 41 (c .before .before .before .before .before .before .before .before .before .before .before .before .before .pre .0 .few) (sym (c .before .before .letter-at .ensures) ∙ (c .enum-told .given .1)) refl, fielded-most (c .before .before .before .before .before .before .before .before .before .before .before .before .before .args .text .now) (c .before .before .before .before .before .before .before .before .before .before .before .before .before .args .at) (c .before .before .before .before .before .before .before .before .before .before .loop .place) (c .before .before .before .before .before .before .before .before .before .before .loop .alignment) (c .before .before .before .before .before .before .before .before .before .before .loop .fixed) (c .before .before .before .before .before .before .before .before .before .before .before .before .before .pre .0 .few) (c .before .before .before .before .before .before .before .before .before .before .loop .inv) (c .before .before .before .before .before .before .before .before .before .seen .result) (known (c .before .before .before .before .before .before .before .before .before .before .before .before .before .args .text .now) (c .before .before .before .before .before .before .before .before .before .before .loop .place) (c .before .before .before .before .before .before .before .before .before .seen .result) (c .before .before .before .before .before .before .before .before .before .seen .ensures ((c .before .before .before .before .before .before .before .before .before .before .before .before .before .args .at) + 1) (omega (arith, c .before .before .before .before .before .before .before .before .before .before .loop .inv .fielding .onward)) (c .before .before .before .before .before .before .before .before .before .before .before .before .before .pre .0 .table)) (c .before .before .before .before .before .before .before .before .if1 .left)) (c .before .before .before .next-of .result) (c .before .before .before .before .before .before .larger .result) (c .before .before .before .before .both .result) (c .before .before .before .next-of .ensures) (c .before .before .before .before .before .before .larger .ensures ∙ ap (λ (x : ℕ). max (c .before .before .before .before .before .before .before .before .before .before .loop .alignment) x) (c .before .before .before .before .before .before .before .alignment-of .ensures)) (c .before .before .before .before .both .ensures ∙ ap (λ (x : Bool). (c .before .before .before .before .before .before .before .before .before .before .loop .fixed) && x) (c .before .before .before .before .before .fixed-of .ensures)))
+
+returns-2 : tie.Need-returns-2 Inv-loop μ-loop
+returns-2 c =
+    c .pack .ensures ∙ fielded-last (c .before .before .before .before .before .before .before .before .before .before .before .before .before .before .args .text .now) (c .before .before .before .before .before .before .before .before .before .before .before .before .before .before .args .at) (c .before .before .before .before .before .before .before .before .before .before .before .loop .place) (c .before .before .before .before .before .before .before .before .before .before .before .loop .alignment) (c .before .before .before .before .before .before .before .before .before .before .before .loop .fixed) (c .before .before .before .before .before .before .before .before .before .before .before .before .before .before .pre .0 .few) (c .before .before .before .before .before .before .before .before .before .before .before .loop .inv) (c .before .before .before .before .before .before .before .before .before .before .seen .result) (known (c .before .before .before .before .before .before .before .before .before .before .before .before .before .before .args .text .now) (c .before .before .before .before .before .before .before .before .before .before .before .loop .place) (c .before .before .before .before .before .before .before .before .before .before .seen .result) (c .before .before .before .before .before .before .before .before .before .before .seen .ensures ((c .before .before .before .before .before .before .before .before .before .before .before .before .before .before .args .at) + 1) (omega (arith, c .before .before .before .before .before .before .before .before .before .before .before .loop .inv .fielding .onward)) (c .before .before .before .before .before .before .before .before .before .before .before .before .before .before .pre .0 .table)) (c .before .before .before .before .before .before .before .before .before .if1 .left)) (c .before .before .before .before .next-of .result) (c .before .before .before .before .before .before .before .larger .result) (c .before .before .before .before .before .both .result) (c .before .before .before .before .next-of .ensures) (c .before .before .before .before .before .before .before .larger .ensures ∙ ap (λ (x : ℕ). max (c .before .before .before .before .before .before .before .before .before .before .before .loop .alignment) x) (c .before .before .before .before .before .before .before .before .alignment-of .ensures)) (c .before .before .before .before .before .both .ensures ∙ ap (λ (x : Bool). (c .before .before .before .before .before .before .before .before .before .before .before .loop .fixed) && x) (c .before .before .before .before .before .before .fixed-of .ensures)) (sym (c .before .before .before .letter-at .ensures) ∙ (c .before .enum-told .given .1))
+
+loop-less : tie.Need-loop-less Inv-loop μ-loop
+loop-less c =
+    omega (arith, fielded-onward (c .before .before .before .before .before .before .before .before .before .before .before .before .args .text .now) (c .before .before .before .before .before .before .before .before .before .before .before .before .args .at) (c .before .before .before .before .before .before .before .before .before .loop .place) (c .before .before .before .before .before .before .before .before .before .loop .alignment) (c .before .before .before .before .before .before .before .before .before .loop .fixed) (c .before .before .before .before .before .before .before .before .before .before .before .before .pre .0 .few) (c .before .before .before .before .before .before .before .before .before .loop .inv) (c .before .before .before .before .before .before .before .before .seen .result) (known (c .before .before .before .before .before .before .before .before .before .before .before .before .args .text .now) (c .before .before .before .before .before .before .before .before .before .loop .place) (c .before .before .before .before .before .before .before .before .seen .result) (c .before .before .before .before .before .before .before .before .seen .ensures ((c .before .before .before .before .before .before .before .before .before .before .before .before .args .at) + 1) (omega (arith, c .before .before .before .before .before .before .before .before .before .loop .inv .fielding .onward)) (c .before .before .before .before .before .before .before .before .before .before .before .before .pre .0 .table)) (c .before .before .before .before .before .before .before .if1 .left)) (c .before .before .next-of .result) (c .before .before .before .before .before .larger .result) (c .before .before .before .both .result) (c .before .before .next-of .ensures) (c .before .before .before .before .before .larger .ensures ∙ ap (λ (x : ℕ). max (c .before .before .before .before .before .before .before .before .before .loop .alignment) x) (c .before .before .before .before .before .before .alignment-of .ensures)) (c .before .before .before .both .ensures ∙ ap (λ (x : Bool). (c .before .before .before .before .before .before .before .before .before .loop .fixed) && x) (c .before .before .before .before .fixed-of .ensures)))
+
+loop-again : tie.Need-loop-again Inv-loop μ-loop
+loop-again c =
+    fielded-next (c .before .before .before .before .before .before .before .before .before .before .before .before .args .text .now) (c .before .before .before .before .before .before .before .before .before .before .before .before .args .at) (c .before .before .before .before .before .before .before .before .before .loop .place) (c .before .before .before .before .before .before .before .before .before .loop .alignment) (c .before .before .before .before .before .before .before .before .before .loop .fixed) (c .before .before .before .before .before .before .before .before .before .before .before .before .pre .0 .few) (c .before .before .before .before .before .before .before .before .before .loop .inv) (c .before .before .before .before .before .before .before .before .seen .result) (known (c .before .before .before .before .before .before .before .before .before .before .before .before .args .text .now) (c .before .before .before .before .before .before .before .before .before .loop .place) (c .before .before .before .before .before .before .before .before .seen .result) (c .before .before .before .before .before .before .before .before .seen .ensures ((c .before .before .before .before .before .before .before .before .before .before .before .before .args .at) + 1) (omega (arith, c .before .before .before .before .before .before .before .before .before .loop .inv .fielding .onward)) (c .before .before .before .before .before .before .before .before .before .before .before .before .pre .0 .table)) (c .before .before .before .before .before .before .before .if1 .left)) (c .before .before .next-of .result) (c .before .before .before .before .before .larger .result) (c .before .before .before .both .result) (c .before .before .next-of .ensures) (c .before .before .before .before .before .larger .ensures ∙ ap (λ (x : ℕ). max (c .before .before .before .before .before .before .before .before .before .loop .alignment) x) (c .before .before .before .before .before .before .alignment-of .ensures)) (c .before .before .before .both .ensures ∙ ap (λ (x : Bool). (c .before .before .before .before .before .before .before .before .before .loop .fixed) && x) (c .before .before .before .before .fixed-of .ensures)) (λ q. apart-from CloseStructure (c .before .letter-at .result) (c .match .keys2) (c .before .letter-at .ensures ∙ q))
+
+pub structure-shape-spec : {M : Type 1} → statement M
+structure-shape-spec =
+    tie.close
+    (tie.spec
+    Inv-loop
+    μ-loop
+    add-place
+    loop-holds
+    seen-requires
+    returns
+    alignment-of-requires
+    larger-requires
+    fixed-of-requires
+    both-requires
+    next-of-requires
+    letter-at-requires
+    enum-told
+    add-pack
+    pack-requires
+    returns-2
+    loop-less
+    loop-again)

@@ -1,13 +1,13 @@
 #!/usr/bin/env python3
-"""Writes the frames of the benchmark or of the stack's measure, by the oracle's writer, which is none of our code.
+"""Writes the frames of the benchmark, by the oracle's writer, which is none of our code.
 
-Usage: bench/frames.py speed|stack FOLDER
+Usage: bench/frames.py FOLDER
 
 Each frame goes to FOLDER/NAME, at position 0 and little-endian, and FOLDER/list has a line for each:
-`NAME TYPE LENGTH EVENTS LEAVES SUM`, parted by single tabs. EVENTS is the number of document 01's events; LEAVES counts
-numbers, texts and nothings; SUM adds the bits of all numbers and the lengths of all texts, the types of variants among them,
-modulo 2^64. They are computed from the value, not from the frame, and every program that is measured must find the same. For a
-frame that is meant to be refused they are `-`.
+`NAME TYPE LENGTH REFUSAL EVENTS LEAVES SUM`, parted by single tabs. REFUSAL is the number that is to be given; EVENTS is the
+number of document 01's events; LEAVES counts numbers, texts and nothings; SUM adds the bits of all numbers and the lengths of
+all texts, the types of variants among them, modulo 2^64. They are computed from the value, not from the frame, and every
+program that is measured must find the same. For a frame that is meant to be refused the last three are 0.
 """
 import os
 import sys
@@ -68,17 +68,20 @@ def counted(tree, value):
 
 
 def good(name, text, value):
-    """A frame that is read: name, type, bytes, events, leaves, sum."""
+    """A frame that is read."""
     tree = tree_of(text)
-    data = gen.written(tree, value, "little")
+    return made(name, text, gen.written(tree, value, "little"), *counted(tree, value))
+
+
+def made(name, text, data, events, leaves, total):
     assert len(data) <= LIMIT, (name, len(data))
-    events, leaves, total = counted(tree, value)
-    return name, text, data, str(events), str(leaves), str(total % 2**64)
+    return name, text, data, 0, events, leaves, total % 2**64
 
 
-def bad(name, text, data):
+def bad(name, text, data, refusal):
     """A frame that is refused."""
-    return name, text, data, "-", "-", "-"
+    assert len(data) <= LIMIT, (name, len(data))
+    return name, text, data, refusal, 0, 0, 0
 
 
 # The benchmark's frames.
@@ -93,11 +96,16 @@ def gappy(count):
     return [None if i % 4 == 3 else reading for i, reading in enumerate(readings(count))]
 
 
+def texts(count):
+    return [b"reading %05d" % i for i in range(count)]
+
+
+def variant(text, value):
+    return (tree_of(text), value)
+
+
 def station():
     """A dictionary of settings that holds dictionaries of settings."""
-    def variant(text, value):
-        return (tree_of(text), value)
-
     def sensor(number):
         return [(b"unit", variant("s", b"tenths of a degree")), (b"offset", variant("n", 65536 - number)),
                 (b"span", variant("(nn)", (65536 - 400, 600))), (b"last", variant("amn", gappy(4)))]
@@ -108,130 +116,78 @@ def station():
             (b"raw", variant("ay", list(range(32))))]
 
 
+# What is measured at three lengths: of each type the name of what it holds many of, how many, and the value with so many.
+GROWTH = {
+    "amn": ("readings", (40, 400, 4000), readings),
+    "as": ("texts", (41, 410, 4095), texts),
+    "a{sv}": ("settings", (10, 100, 1000), lambda count: [(b"setting %04d" % i, variant("n", i)) for i in range(count)]),
+    "a(tamn)": ("frames of 40 readings", (3, 30, 300), lambda count: [(1783771200 + 2 * i, readings(40)) for i in range(count)]),
+    "av": ("numbers", (10, 100, 1000), lambda count: [variant("n", i) for i in range(count)]),
+}
+
+
+def grown(text, count):
+    """The name of a frame of GROWTH; the benchmark's names begin with the type."""
+    return "%s, %s %s" % (text, format(count, ","), GROWTH[text][0])
+
+
+def masts():
+    """Dictionaries of structures in a dictionary of structures."""
+    def sensors(mast):
+        return [(b"sensor %d" % i, (i, (mast + i,), 0x4018000000000000)) for i in range(10)]
+
+    return [(b"mast %02d" % mast, (1783771200 + mast, sensors(mast))) for mast in range(40)]
+
+
+def slowest():
+    """An array of 32,640 elements that take no byte: 31 structures around a nothing, of a type that is long to walk."""
+    text = "a" + "(" * 31 + "m" * 190 + "y" + ")" * 31
+    return made("v, 31 structures around 190 maybes, 32,640 times", "v", bytes(2 * 32640) + b"\0" + text.encode(),
+                32640 * 63 + 5, 32640, len(text))
+
+
+def deepest():
+    """The most events: 65 for each byte."""
+    text = "a" + "(" * 32 + "y" + ")" * 32
+    return made("a, 32 structures around a byte, 65,536 times", text, b"\7" * LIMIT, 65 * LIMIT + 2, LIMIT, 7 * LIMIT)
+
+
+def refused_last():
+    """Structures with a byte of padding at the end of each; the last byte is not 0."""
+    data = gen.written(tree_of("a(ny)"), [(i, i % 256) for i in range(LIMIT // 4)], "little")
+    return bad("a(ny), 16,384 structures, refused at the last byte", "a(ny)", data[:-1] + b"\1", 4)
+
+
 def speed():
-    texts = [b"reading %05d" % i for i in range(4095)]
     return [
-        good("amn-40", "amn", readings(40)),
-        good("amn-40-gaps", "amn", gappy(40)),
-        good("tamn-40", "(tamn)", (1783771200, readings(40))),
-        good("asv-nested", "a{sv}", station()),
-        good("as-64K", "as", texts),
-        good("ay-64K", "ay", [i * 7 % 256 for i in range(LIMIT)]),
-        good("amn-400", "amn", readings(400)),
-        good("amn-4000", "amn", readings(4000)),
-    ]
-
-
-# The frames for the stack: the most elements, bytes, fields and containers that the limits allow.
-
-def nest(kinds, innermost):
-    """A tree and a value with so many containers in one another, from the outside in, one of `a m ( v { [` each.
-    The key of the one entry of a dictionary is the text k; that of one written [ is the number 1."""
-    tree, value = innermost
-    for kind in reversed(kinds):
-        if kind == "v":
-            tree, value = "v", (tree, value)
-        elif kind == "{":
-            tree, value = ("{", "s", tree), [(b"k", value)]
-        elif kind == "[":
-            tree, value = ("{", "q", tree), [(1, value)]
-        elif kind == "(":
-            tree, value = ("(", [tree]), (value,)
-        elif kind == "a":
-            tree, value = ("a", tree), [value]
-        else:
-            tree, value = ("m", tree), (value,)
-    return tree, value
-
-
-def nested(name, kinds, innermost=("y", 5)):
-    tree, value = nest(kinds, innermost)
-    return good(name, gen.type_text(tree), value)
-
-
-def many(count, what, text, value):
-    """An array or dictionary of so many elements."""
-    assert len(value) in (1, count), what
-    return good("%s %s" % (format(count, ","), what), text, value * (count // len(value)))
-
-
-# Types that are deep to walk: an array that holds none, one container; and a maybe that holds nothing, no container.
-DEEP_ARRAY = (tree_of("a" * 254 + "y"), [])
-DEEP_BRACKETS = (tree_of("a" + "(" * 126 + "y" + ")" * 126), [])
-DEEP_MAYBE = (tree_of("m" * 254 + "y"), None)
-
-
-def refused_inside(name, kinds):
-    """Containers in one another, the last a variant whose type is as many brackets that open as fit."""
-    tree, value = nest(kinds + "v", DEEP_ARRAY)
-    data = gen.written(tree, value, "little").replace(b"a" * 254 + b"y", b"(" * 255)
-    return bad(name, gen.type_text(tree), data)
-
-
-def stack():
-    brackets = "(" * 127 + "y" + ")" * 127
-    return [
-        many(65536, "bytes in an array", "ay", [i % 256 for i in range(65536)]),
-        many(32768, "numbers in an array", "an", [i for i in range(32768)]),
-        many(32767, "nothings in an array", "amy", [None]),
-        many(21844, "present maybes in an array", "amy", [(5,)]),
-        many(21844, "empty texts in an array", "as", [b""]),
-        many(6552, "variants in an array", "av", [("y", 5)]),
-        many(10922, "entries of a dictionary", "a{sy}", [(b"k", 1)]),
-        many(32768, "structures in an array", "a(yy)", [(1, 2)]),
-        good("a text of 65,536 bytes", "s", b"a" * 65535),
-        good("a text of 65,536 bytes, 3 a character", "s", "\u20ac".encode() * 21845),
-        good("250 fields of y", "(" + "y" * 250 + ")", (7,) * 250),
-        good("250 fields of s", "(" + "s" * 250 + ")", (b"text",) * 250),
-        nested("64 maybes", "m" * 64),
-        nested("64 maybes of s", "m" * 64, ("s", b"text")),
-        nested("64 variants", "v" * 64),
-        nested("32 structures, each in an array", "a(" * 32),
-        nested("32 arrays, each in a structure", "(a" * 32),
-        nested("32 arrays in 32 structures", "(" * 32 + "a" * 32),
-        nested("32 structures in 32 arrays", "a" * 32 + "(" * 32),
-        nested("32 dictionaries, each in a variant", "v{" * 32),
-        nested("32 dictionaries in 32 maybes", "m" * 32 + "{" * 32),
-        nested("32 dictionaries in 32 structures", "(" * 32 + "{" * 32),
-        nested("32 dictionaries, each in a structure", "({" * 32),
-        nested("32 dictionaries of numbers, each in a structure", "([" * 32),
-        nested("32 structures, each in a variant", "v(" * 32),
-        nested("variant, maybe, array, structure, 16 times", "vma(" * 16),
-        nested("structure, array, maybe, variant, 16 times", "(amv" * 16),
-        nested("maybe, dictionary, variant, structure, 16 times", "m{v(" * 16),
-        nested("63 variants, then 126 brackets in an array of none", "v" * 63, DEEP_BRACKETS),
-        nested("63 variants, then 254 arrays of none", "v" * 63, DEEP_ARRAY),
-        nested("31 structures, each around a dictionary; a variant; 126 brackets in an array of none", "({" * 31 + "v", DEEP_BRACKETS),
-        nested("31 structures, each around a dictionary; a variant; 254 arrays of none", "({" * 31 + "v", DEEP_ARRAY),
-        nested("31 structures and 32 dictionaries; a variant; 254 maybes of nothing", "({" * 31 + "{v", DEEP_MAYBE),
-        refused_inside("31 structures and 32 dictionaries; a variant's type of 255 brackets that open", "({" * 31 + "{"),
-        refused_inside("31 structures and 32 dictionaries of numbers; a variant's type of 255 brackets that open", "([" * 31 + "["),
-        nested("32 dictionaries and 32 variants; 254 maybes of nothing", "{v" * 32, DEEP_MAYBE),
-        refused_inside("32 dictionaries and 32 variants; the last one's type of 255 brackets that open", "{v" * 31 + "{"),
-        bad("65 maybes", "m" * 65 + "y", b"\5" + bytes(64)),
-        bad("65 variants", "v", gen.written(*nest("v" * 65, ("y", 5)), "little")),
-        bad("127 brackets, a byte", brackets, b"\5"),
-        bad("127 brackets, no bytes", brackets, b""),
-        good("126 brackets in an array of none", gen.type_text(DEEP_BRACKETS[0]), []),
-        good("254 arrays, no bytes", "a" * 254 + "y", []),
-        good("254 maybes, no bytes", "m" * 254 + "y", None),
-        bad("255 brackets that open", "(" * 255, b"\5"),
-        bad("a variant's type of 127 brackets", "v", b"\5\0" + brackets.encode()),
-        bad("a variant's type of 255 brackets that open", "v", b"\5\0" + b"(" * 255),
-    ]
+        good(grown("amn", 40), "amn", readings(40)),
+        good("amn, 40 readings, 10 of them nothing", "amn", gappy(40)),
+        good("(tamn), 40 readings", "(tamn)", (1783771200, readings(40))),
+        good("a{sv}, nested", "a{sv}", station()),
+        good("ay, 65,536 bytes", "ay", [i * 7 % 256 for i in range(LIMIT)]),
+        good("a{s(ta{s(nmnd)})}, 40 of 10", "a{s(ta{s(nmnd)})}", masts()),
+        good("a{sas}, 100 of 20 texts", "a{sas}", [(b"list %03d" % i, texts(20)) for i in range(100)]),
+        good("av, 2,520 types of 20 characters", "av", [variant("m" * 19 + "y", None)] * 2520),
+        good("s, 60,000 ASCII characters", "s", b"weather " * 7500),
+        good("s, 20,000 characters of 3 bytes", "s", "\u20ac".encode() * 20000),
+        refused_last(),
+        slowest(),
+        deepest(),
+    ] + [good(grown(text, count), text, value(count)) for text, (_, counts, value) in GROWTH.items()
+         for count in counts if (text, count) != ("amn", 40)]
 
 
 def main():
-    if len(sys.argv) != 3 or sys.argv[1] not in ("speed", "stack"):
-        print("usage: bench/frames.py speed|stack FOLDER", file=sys.stderr)
+    if len(sys.argv) != 2:
+        print("usage: bench/frames.py FOLDER", file=sys.stderr)
         return 2
-    folder = sys.argv[2]
+    folder = sys.argv[1]
     os.makedirs(folder, exist_ok=True)
     with open(os.path.join(folder, "list"), "w", encoding="utf-8") as listed:
-        for name, text, data, events, leaves, total in {"speed": speed, "stack": stack}[sys.argv[1]]():
+        for name, text, data, *numbers in speed():
             with open(os.path.join(folder, name), "wb") as file:
                 file.write(data)
-            listed.write("\t".join([name, text, str(len(data)), events, leaves, total]) + "\n")
+            listed.write("\t".join([name, text] + [str(number) for number in [len(data)] + numbers]) + "\n")
     return 0
 
 

@@ -1,16 +1,20 @@
 #!/usr/bin/env python3
 """Measures the programs of the benchmark on its frames and prints the tables. Called by bench/run, which builds them.
 
-Usage: bench/measure.py --frames FOLDER --rust PROGRAM --glib PROGRAM [--ours PROGRAM [--emulator PROGRAM]]
+Usage: bench/measure.py --frames FOLDER --ours PROGRAM --rust PROGRAM --glib PROGRAM --costs FILE [--before FILE]
+                        [--emulator PROGRAM --plugin FILE]
 
-First every program must answer every frame alike: not refused, all bytes used, and events, leaves and sum as bench/frames.py
-has computed them from the value, as far as the program can know them. Otherwise nothing is measured.
+First every program must answer every frame alike: the refusal, the bytes used, and events, leaves and sum as bench/frames.py has
+computed them from the value, as far as the program can know them. Otherwise nothing is measured.
 
-Instructions are those of one call: a run of 2n calls less a run of n calls, by n, so that start and end of the program cancel.
-They are counted by valgrind's callgrind. Where our program runs on an emulator, that runs it one instruction at a
-time and says so for each, and those lines are counted. Time is the best of seven runs, without valgrind.
+Instructions are those of one call: a run of some calls more less a run, by the calls more, so that start and end of the program
+cancel. They are counted by valgrind's callgrind; or, with --emulator, of all three programs, by a plugin of the emulator.
+Time is the best of seven runs, without valgrind; there is none on an emulator.
+
+The instructions go to the file --costs. A file of an earlier run, --before, is set beside them.
 """
 import argparse
+import json
 import os
 import platform
 import re
@@ -18,37 +22,53 @@ import subprocess
 import sys
 from collections import namedtuple
 
-Frame = namedtuple("Frame", "name type file length events leaves sum")
-Side = namedtuple("Side", "title words emulator")
+sys.dont_write_bytecode = True
+import frames as made  # noqa: E402
+
+Frame = namedtuple("Frame", "name type file length refusal events leaves sum")
+Side = namedtuple("Side", "title words")
 
 LARGE = 8000            # from so many bytes on, fewer calls are counted
+HUGE = 500000           # from so many events on, one
 RUN_NANOSECONDS = 4e7   # how long a timed run takes, about
 ROUNDS = 7              # timed runs of each program on each frame
-NAMES = {"amn-40": "`amn`, 40 readings", "amn-40-gaps": "`amn`, 40 readings, 10 of them nothing", "tamn-40": "`(tamn)`, 40 readings",
-         "asv-nested": "`a{sv}`, nested", "as-64K": "`as`, 4,095 texts", "ay-64K": "`ay`, 65,536 bytes",
-         "amn-400": "`amn`, 400 readings", "amn-4000": "`amn`, 4,000 readings"}
-GROWTH = {"amn-40": 40, "amn-400": 400, "amn-4000": 4000}
+TITLES = ["size", "Rust ignoring", "GLib normal form", "read", "Rust recording", "GLib walk"]
+SIZE, IGNORING, NORMAL, READ, RECORDING, WALK = range(6)
+
+# What GLib does not read: a type with more than 128 containers in one another, and what is not in normal form.
+UNREAD_BY_GLIB = ("v, 31 structures around 190 maybes, 32,640 times", "a(ny), 16,384 structures, refused at the last byte")
+
+# What size may cost beside the Rust ignoring, and read beside the Rust recording; by instructions.
+BARS = {"amn, 40 readings": (0.22, 0.28), "(tamn), 40 readings": (0.25, 0.30), "a{sv}, nested": (0.40, 0.55),
+        "as, 4,095 texts": (0.60, 0.70), "ay, 65,536 bytes": (0.01, 0.03)}
+READ_BAR = 1.00         # of all other frames
+EACH_BAR = 200          # instructions of size or read for each byte and event together
 
 
 def fail(message):
     sys.exit("bench/measure.py: " + message)
 
 
+def say(message):
+    print("bench/measure.py: " + message, file=sys.stderr)
+
+
 def frames_of(folder):
     with open(os.path.join(folder, "list"), encoding="utf-8") as listed:
         for line in listed:
             name, text, *numbers = line.rstrip("\n").split("\t")
-            yield Frame(name, text, os.path.join(folder, name), *numbers)
+            yield Frame(name, text, os.path.join(folder, name), *(int(number) for number in numbers))
 
 
 def sides_of(arguments):
-    """In the order of the columns: what judges only, then what hands the values over."""
-    run = [arguments.emulator] if arguments.emulator else []
-    ours = lambda mode: arguments.ours and Side(mode, run + [arguments.ours, mode], arguments.emulator)
-    rust = lambda title, mode: Side(title, [arguments.rust, "--bench", mode], None)
-    glib = lambda title, mode: Side(title, [arguments.glib, mode], None)
-    return [ours("size"), rust("Rust ignoring", "ignore"), glib("GLib normal form", "normal"),
-            ours("read"), rust("Rust recording", "record"), glib("GLib walk", "walk")]
+    """In the order of TITLES: what judges only, then what hands the values over."""
+    programs = [[arguments.ours, "size"], [arguments.rust, "--bench", "ignore"], [arguments.glib, "normal"],
+                [arguments.ours, "read"], [arguments.rust, "--bench", "record"], [arguments.glib, "walk"]]
+    return [Side(title, words) for title, words in zip(TITLES, programs, strict=True)]
+
+
+def sees(place, frame):
+    return place not in (NORMAL, WALK) or frame.name not in UNREAD_BY_GLIB
 
 
 def command(side, frame, calls):
@@ -63,10 +83,12 @@ def answer(words):
     return done.stdout.split()
 
 
-def check(side, frame):
-    """Holds a program to what the frame's maker computed; - is what the program can't know."""
-    expected = ["0", frame.length, frame.events, frame.leaves, frame.sum]
-    given = answer(command(side, frame, 1))[:5]
+def check(side, frame, emulator):
+    """Holds a program to what the frame's maker computed; - is what the program can't know. Of a refused frame only the
+    refusal and no bytes are looked at, since the Rust's list keeps what came before."""
+    expected = [frame.refusal, 0] if frame.refusal else [0, frame.length, frame.events, frame.leaves, frame.sum]
+    expected = [str(number) for number in expected]
+    given = answer(emulator + command(side, frame, 1))[:len(expected)]
     if any(word not in ("-", wanted) for word, wanted in zip(given, expected, strict=True)):
         fail("%s does not see %s as it is: %s, not %s" % (side.title, frame.name, given, expected))
 
@@ -83,41 +105,33 @@ def calls_to_time(side, frame):
 
 def nanoseconds(sides, frame):
     """The time of one call, for each side; the sides take turns, so that what else the machine does falls on all."""
-    timed = {place: calls_to_time(side, frame) for place, side in enumerate(sides) if side and not side.emulator}
+    timed = {place: calls_to_time(side, frame) for place, side in enumerate(sides) if sees(place, frame)}
     rounds = [{place: int(answer(command(sides[place], frame, calls))[5]) / calls for place, calls in timed.items()} for _ in range(ROUNDS)]
     return [min(times[place] for times in rounds) if place in timed else None for place in range(len(sides))]
 
 
-def callgrind(words):
-    valgrind = ["valgrind", "--tool=callgrind", "--callgrind-out-file=/dev/null"]
-    done = subprocess.run(valgrind + words, capture_output=True, text=True)
-    found = re.search(r"Collected : (\d+)", done.stderr)
+def counter_of(arguments):
+    """The words that run and count a program, and how the count is found in what they say."""
+    if arguments.emulator:
+        return [arguments.emulator, "-plugin", arguments.plugin], r"^instructions (\d+)$"
+    return ["valgrind", "--tool=callgrind", "--callgrind-out-file=/dev/null"], r"Collected : (\d+)"
+
+
+def counted(counter, words):
+    runs, count = counter
+    done = subprocess.run(runs + words, capture_output=True, text=True)
+    found = re.search(count, done.stderr, re.MULTILINE)
     if done.returncode != 0 or not found:
-        fail("callgrind of %s: %s" % (" ".join(words), done.stderr[-500:]))
+        fail("no count of %s: %s" % (" ".join(words), done.stderr[-500:]))
     return int(found.group(1))
 
 
-def traced(words):
-    """The instructions of a program on the emulator: a line of its log for each. None if this emulator can't."""
-    emulator, *program = words
-    for single in ("-one-insn-per-tb", "-singlestep"):
-        log, end = os.pipe()
-        run = subprocess.Popen([emulator, single, "-d", "nochain,exec", "-D", "/dev/fd/%d" % end] + program, pass_fds=[end],
-                               stdout=subprocess.DEVNULL, stderr=subprocess.DEVNULL)
-        os.close(end)
-        with os.fdopen(log, "rb", 1 << 20) as lines:
-            count = sum(1 for line in lines if line.startswith(b"Trace"))
-        if run.wait() == 0 and count:
-            return count
-    return None
-
-
-def instructions(side, frame):
-    """The instructions of one call."""
-    count, few, many = (traced, 1, 5) if side.emulator else (callgrind, 2, 20)
-    calls = few if int(frame.length) >= LARGE else many
-    once, twice = (count(command(side, frame, times)) for times in (calls, 2 * calls))
-    return None if once is None or twice is None else (twice - once) / calls
+def instructions(counter, place, side, frame):
+    """The instructions of one call. Ours keeps nothing from call to call; of the others the first calls are not counted."""
+    more = 1 if frame.events >= HUGE else 2 if frame.length >= LARGE else 20
+    first = 0 if place in (SIZE, READ) else more
+    less, all_calls = (counted(counter, command(side, frame, calls)) for calls in (first, first + more))
+    return (all_calls - less) / more
 
 
 def number(value):
@@ -128,7 +142,14 @@ def ratio(above, below):
     return "-" if above is None or below is None else "%.2f" % (above / below)
 
 
-def print_table(heads, rows):
+def title(name):
+    """A frame's name, with its type as a type."""
+    text, rest = name.split(", ", 1)
+    return "`%s`, %s" % (text, rest)
+
+
+def print_table(name, heads, rows):
+    print("## %s\n" % name)
     print("| " + " | ".join(heads) + " |")
     print("|---|" + "---:|" * (len(heads) - 1))
     for row in rows:
@@ -136,28 +157,53 @@ def print_table(heads, rows):
     print()
 
 
-def print_costs(title, frames, sides, costs, comparable):
-    print("## %s\n" % title)
-    heads = ["Frame", "bytes", "events", "size", "Rust ignoring", "GLib normal form", "size / Rust", "size / GLib",
-             "read", "Rust recording", "GLib walk", "read / Rust", "read / GLib"]
+def print_costs(name, frames, costs):
+    heads = ["Frame", "bytes", "events"] + TITLES[:3] + ["size / Rust", "size / GLib"] + TITLES[3:] + ["read / Rust", "read / GLib"]
     rows = []
     for frame in frames:
-        size, ignoring, normal, read, recording, walk = (costs[frame.name, place] for place in range(len(sides)))
-        ratios = [ratio(*pair) if comparable else "-" for pair in ((size, ignoring), (size, normal), (read, recording), (read, walk))]
-        rows.append([NAMES[frame.name], number(int(frame.length)), number(int(frame.events))] + list(map(number, (size, ignoring, normal)))
-                    + ratios[:2] + list(map(number, (read, recording, walk))) + ratios[2:])
-    print_table(heads, rows)
+        found = costs[frame.name]
+        ratios = [ratio(found[ours], found[theirs]) for ours, theirs in ((SIZE, IGNORING), (SIZE, NORMAL), (READ, RECORDING), (READ, WALK))]
+        numbers = [number(cost) for cost in found]
+        rows.append([title(frame.name), number(frame.length), number(frame.events)] + numbers[:3] + ratios[:2] + numbers[3:] + ratios[2:])
+    print_table(name, heads, rows)
 
 
-def print_growth(title, sides, costs):
-    """The cost of a reading, where there are more and more of them."""
-    print("## %s\n" % title)
-    heads = ["`amn`"] + [side.title if side else name for side, name in zip(sides, ("size", "", "", "read", "", ""))]
+def print_bars(frames, costs):
+    """What a frame may cost, and what it does; a figure above its bar is bold."""
+    def beside(value, bar, form="%.2f"):
+        shown = form % value
+        return [shown if float(shown) <= bar else "**%s**" % shown, form % bar]
+
     rows = []
-    for name, count in GROWTH.items():
-        found = [costs[name, place] for place in range(len(sides))]
-        rows.append(["%s readings" % format(count, ",")] + ["-" if cost is None else "%.1f" % (cost / count) for cost in found])
-    print_table(heads, rows)
+    for frame in frames:
+        found, work = costs[frame.name], frame.length + frame.events
+        size_bar, read_bar = BARS.get(frame.name, (None, READ_BAR))
+        sized = found[SIZE] / found[IGNORING]
+        rows.append([title(frame.name)] + (beside(sized, size_bar) if size_bar else ["%.2f" % sized, "-"])
+                    + beside(found[READ] / found[RECORDING], read_bar)
+                    + beside(found[SIZE] / work, EACH_BAR, "%.0f")[:1] + beside(found[READ] / work, EACH_BAR, "%.0f"))
+    print_table("The bars", ["Frame", "size / Rust ignoring", "at most", "read / Rust recording", "at most",
+                             "size, each byte and event", "read, each byte and event", "at most"], rows)
+
+
+def print_before(frames, costs, before):
+    rows = []
+    for frame in frames:
+        if frame.name in before:
+            old, new = before[frame.name], costs[frame.name]
+            rows.append([title(frame.name)] + [word for place in (SIZE, READ)
+                                               for word in (number(old[place]), number(new[place]), ratio(new[place], old[place]))])
+    print_table("Before and after", ["Frame", "size before", "size", "after / before", "read before", "read", "after / before"], rows)
+
+
+def print_growth(costs):
+    """The cost of one of the things that a frame holds, where there are more and more of them."""
+    rows = []
+    for text, (_, counts, _) in made.GROWTH.items():
+        for count in counts:
+            name = made.grown(text, count)
+            rows.append([title(name)] + ["-" if cost is None else "%.1f" % (cost / count) for cost in costs[name]])
+    print_table("Instructions for one more", ["Frame"] + TITLES, rows)
 
 
 def first_line(words):
@@ -176,37 +222,49 @@ def processor():
 
 
 def print_machine(arguments):
-    print("%s, %s; GLib %s; %s; %s; %s." % (platform.machine(), processor(), first_line(["pkg-config", "--modversion", "glib-2.0"]),
-                                          first_line(["rustc", "--version"]), first_line(["cc", "--version"]), first_line(["valgrind", "--version"])))
-    if not arguments.ours:
-        print("Our archive, which is for x86-64, can't be built or run on this machine: its columns are empty.")
-    elif arguments.emulator:
-        print("Our archive is for x86-64 and was run on an emulator: its instructions are those of x86-64, the others' are this machine's,\n"
-              "so no ratio is formed, and its time would be the emulator's.")
+    print("%s, %s; GLib %s; %s; %s." % (platform.machine(), processor(), first_line(["pkg-config", "--modversion", "glib-2.0"]),
+                                      first_line(["rustc", "--version"]), first_line(["cc", "--version"])))
+    if arguments.emulator:
+        print("All three programs are x86-64's; their instructions were counted by the plugin of `bench/count.c` in %s.\n"
+              "There is no time: it would be the emulator's." % first_line([arguments.emulator, "--version"]))
+    else:
+        print("The instructions were counted by the callgrind of %s." % first_line(["valgrind", "--version"]))
     print()
 
 
-def main():
+def arguments_of():
     parser = argparse.ArgumentParser(usage=__doc__.split("\n\n")[1].replace("Usage: ", ""))
-    for option, needed in (("--frames", True), ("--rust", True), ("--glib", True), ("--ours", False), ("--emulator", False)):
-        parser.add_argument(option, required=needed)
-    arguments = parser.parse_args()
-    frames, sides = list(frames_of(arguments.frames)), sides_of(arguments)
+    for option in ("--frames", "--ours", "--rust", "--glib", "--costs"):
+        parser.add_argument(option, required=True)
+    for option in ("--before", "--emulator", "--plugin"):
+        parser.add_argument(option)
+    return parser.parse_args()
+
+
+def main():
+    arguments = arguments_of()
+    frames, sides, counter = list(frames_of(arguments.frames)), sides_of(arguments), counter_of(arguments)
+    emulator = [arguments.emulator] if arguments.emulator else []
     for frame in frames:
-        for side in filter(None, sides):
-            check(side, frame)
-    counted, timed = {}, {}
-    for frame in frames:
-        print("bench/measure.py: measuring %s" % frame.name, file=sys.stderr)
-        times = nanoseconds(sides, frame)
         for place, side in enumerate(sides):
-            counted[frame.name, place] = side and instructions(side, frame)
-            timed[frame.name, place] = times[place]
-    native = not arguments.emulator
+            if sees(place, frame):
+                check(side, frame, emulator)
+    costs, times = {}, {}
+    for frame in frames:
+        say("measuring " + frame.name)
+        costs[frame.name] = [instructions(counter, place, side, frame) if sees(place, frame) else None for place, side in enumerate(sides)]
+        times[frame.name] = None if emulator else nanoseconds(sides, frame)
+    with open(arguments.costs, "w", encoding="utf-8") as file:
+        json.dump(costs, file, indent=1)
     print_machine(arguments)
-    print_costs("Instructions for a frame", frames, sides, counted, native)
-    print_costs("Nanoseconds for a frame", frames, sides, timed, native)
-    print_growth("Instructions for a reading", sides, counted)
+    print_costs("Instructions for a frame", frames, costs)
+    print_bars(frames, costs)
+    if arguments.before:
+        with open(arguments.before, encoding="utf-8") as file:
+            print_before(frames, costs, json.load(file))
+    print_growth(costs)
+    if not emulator:
+        print_costs("Nanoseconds for a frame", frames, times)
     return 0
 
 

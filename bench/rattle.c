@@ -9,13 +9,6 @@
 #include "bogtassel.h"
 #include "frame.h"
 
-struct question {
-    const uint8_t *type;
-    size_t type_length;
-    const uint8_t *frame;
-    size_t length;
-};
-
 static void size_all(const struct question *q, unsigned long calls) {
     uint8_t refusal = 0;
     size_t used = 0, count = 0;
@@ -68,7 +61,7 @@ int main(int argc, char **argv) {
         fputs("usage: rattle size|read TYPE FRAME_FILE CALLS\n", stderr);
         return 2;
     }
-    q.type = (const uint8_t *)argv[2];
+    q.type = (uint8_t *)argv[2];
     q.type_length = strlen(argv[2]);
     q.frame = frame_of(argv[3], &q.length);
     (strcmp(argv[1], "size") == 0 ? size_all : read_all)(&q, calls_of(argv[4]));

@@ -1,16 +1,16 @@
 /*
- * The stack that one call of the archive uses on one frame.
+ * The stack that the archive's calls use on frames. Called by bench/stack.py.
  *
- * Usage: stack paint|thread TYPE FRAME_FILE
+ * Usage: stack paint|thread < QUESTIONS      (frame.h says what a question is)
  *
- * paint prints `REFUSAL EVENTS SIZE READ`: what bogtassel_size returned, the number of events, and the bytes of stack of
- * bogtassel_size and of bogtassel_read. Each call runs on a stack of its own, of which every byte was painted. The deepest byte
- * that is no longer paint is as deep as the call wrote. This is done with two colours, since a call may write the one that
- * stands there. From it goes what a call of an empty function with the same parameters takes: so what the caller lays down, the
- * parameters and the return address, is not counted.
+ * For each question paint prints `REFUSAL EVENTS SIZE READ`: what bogtassel_size returned, the number of events, and the bytes
+ * of stack of bogtassel_size and of bogtassel_read. Each call runs on a stack of its own, of which every byte was painted. The
+ * deepest byte that is no longer paint is as deep as the call wrote. This is done with two colours, since a call may write the
+ * one that stands there. From it goes what a call of an empty function with the same parameters takes: so what the caller lays
+ * down, the parameters and the return address, is not counted.
  *
- * thread runs both calls in a thread whose stack has 128 KiB, and prints `REFUSAL EVENTS`. A stack that does not do kills the
- * program.
+ * thread runs both calls of each question in a thread whose stack has 128 KiB, and prints `REFUSAL EVENTS`. A stack that does
+ * not do kills the program.
  */
 #define _GNU_SOURCE
 #include "bogtassel.h"
@@ -20,15 +20,12 @@
 #include <sys/mman.h>
 #include <ucontext.h>
 
-enum { STACK = 1 << 20, THREAD_STACK = 128 << 10 };
+enum { STACK = 512 << 10, PAGE = 4096, THREAD_STACK = 128 << 10 };
 
 /* One call, and its answer. A call of `size` is handed the room too, so that all are called alike. */
 struct call {
     uint8_t (*function)(const struct call *call, size_t *used, size_t *count);
-    const uint8_t *type;
-    size_t type_length;
-    const uint8_t *frame;
-    size_t length;
+    struct question question;
     uint64_t *out;
     size_t room;
     uint8_t refusal;
@@ -56,11 +53,15 @@ static size_function *volatile size_target;
 static read_function *volatile read_target;
 
 static uint8_t call_size(const struct call *call, size_t *used, size_t *count) {
-    return size_target(call->type, call->type_length, false, 0, call->frame, call->length, used, count);
+    const struct question *const q = &call->question;
+
+    return size_target(q->type, q->type_length, false, 0, q->frame, q->length, used, count);
 }
 
 static uint8_t call_read(const struct call *call, size_t *used, size_t *count) {
-    return read_target(call->type, call->type_length, false, 0, call->frame, call->length, call->out, call->room, used, count);
+    const struct question *const q = &call->question;
+
+    return read_target(q->type, q->type_length, false, 0, q->frame, q->length, call->out, call->room, used, count);
 }
 
 static void make(struct call *call) {
@@ -78,10 +79,24 @@ static void make_painted(void) {
     make(painted_call);
 }
 
+/* The bytes at the deep end that are still of this colour. */
+static size_t clean_bytes(const unsigned char *stack, unsigned char colour) {
+    unsigned char page[PAGE];
+    size_t clean = 0;
+
+    memset(page, colour, PAGE);
+    while (clean < STACK && memcmp(stack + clean, page, PAGE) == 0) {
+        clean += PAGE;
+    }
+    while (clean < STACK && stack[clean] == colour) {
+        clean++;
+    }
+    return clean;
+}
+
 /* The bytes from the top of a stack of this colour down to the deepest one that the call changed. */
 static size_t depth_in(struct call *call, unsigned char *stack, unsigned char colour) {
     static ucontext_t here, there;
-    size_t clean;
 
     memset(stack, colour, STACK);
     if (getcontext(&there) != 0) {
@@ -95,9 +110,7 @@ static size_t depth_in(struct call *call, unsigned char *stack, unsigned char co
     if (swapcontext(&here, &there) != 0) {
         give_up("swapcontext");
     }
-    for (clean = 0; clean < STACK && stack[clean] == colour; clean++) {
-    }
-    return STACK - clean;
+    return STACK - clean_bytes(stack, colour);
 }
 
 static size_t depth(struct call *call, unsigned char *stack) {
@@ -125,19 +138,23 @@ static void run_small(struct call *call) {
 
 /* What bogtassel_size takes; sets the number of events. */
 static size_t painted_size(struct call *size, unsigned char *stack) {
-    size_t bare;
+    static size_t bare;
 
-    size_target = empty_size;
-    bare = depth(size, stack);
+    if (bare == 0) {
+        size_target = empty_size;
+        bare = depth(size, stack);
+    }
     size_target = bogtassel_size;
     return depth(size, stack) - bare;
 }
 
 static size_t painted_read(struct call *read, unsigned char *stack) {
-    size_t bare;
+    static size_t bare;
 
-    read_target = empty_read;
-    bare = depth(read, stack);
+    if (bare == 0) {
+        read_target = empty_read;
+        bare = depth(read, stack);
+    }
     read_target = bogtassel_read;
     return depth(read, stack) - bare;
 }
@@ -163,10 +180,13 @@ static void must_agree(const struct call *size, const struct call *read) {
 }
 
 static void paint(struct call *size) {
-    unsigned char *const stack = mmap(NULL, STACK, PROT_READ | PROT_WRITE, MAP_PRIVATE | MAP_ANONYMOUS, -1, 0);
+    static unsigned char *stack;
     struct call read;
     size_t size_bytes, read_bytes;
 
+    if (stack == NULL) {
+        stack = mmap(NULL, STACK, PROT_READ | PROT_WRITE, MAP_PRIVATE | MAP_ANONYMOUS, -1, 0);
+    }
     if (stack == MAP_FAILED) {
         give_up("a stack");
     }
@@ -194,13 +214,14 @@ static void thread(struct call *size) {
 int main(int argc, char **argv) {
     struct call size = {.function = call_size};
 
-    if (argc != 4 || (strcmp(argv[1], "paint") != 0 && strcmp(argv[1], "thread") != 0)) {
-        fputs("usage: stack paint|thread TYPE FRAME_FILE\n", stderr);
+    if (argc != 2 || (strcmp(argv[1], "paint") != 0 && strcmp(argv[1], "thread") != 0)) {
+        fputs("usage: stack paint|thread < QUESTIONS\n", stderr);
         return 2;
     }
-    size.type = (const uint8_t *)argv[2];
-    size.type_length = strlen(argv[2]);
-    size.frame = frame_of(argv[3], &size.length);
-    (strcmp(argv[1], "paint") == 0 ? paint : thread)(&size);
+    while (next_question(&size.question)) {
+        (strcmp(argv[1], "paint") == 0 ? paint : thread)(&size);
+        fflush(stdout);
+        drop_question(&size.question);
+    }
     return 0;
 }

@@ -93,5 +93,5 @@ lay_out "$folder"
 for file in $given_files; do
     cmp "$folder/$file" "$crate/src/given/$file"
 done
-cp "$room/build/$profile/oracle" "$room/$program"
+cp "$room/build/${CARGO_BUILD_TARGET:+$CARGO_BUILD_TARGET/}$profile/oracle" "$room/$program"
 echo "built target/oracle/$program"

@@ -1,0 +1,35 @@
+# Sourced, after tests/c/x86-64.sh, by the scripts of this folder, with `top` set to the project and `room` to a folder.
+#
+# `archive_ready` proves and builds the archive and sets `archive` to it.
+# `counting_ready` builds the plugin of count.c and sets `counting` to the words that run a program for x86-64 and count it.
+# `amd64_ready` installs, on Arm, Debian's packages of x86-64 by which the Rust and GLib are built and run.
+# Each fails where it can't.
+# shellcheck shell=bash disable=SC2034,SC2154
+
+c_flags=(-std=c11 -O2 -Wall -Wextra -Wpedantic -Werror)
+
+archive_ready() {
+    mkdir -p "$room"
+    (cd "$top" && RT_JOBS=${RT_JOBS:-1} rt staticlib bogtassel) >&2 </dev/null && archive=$top/target/staticlib/libbogtassel.a
+}
+
+# Debian's emulator; the kit's takes no plugin.
+takes_plugins() {
+    command -v qemu-x86_64 >/dev/null && qemu-x86_64 -h | grep -q -e '^-plugin'
+}
+
+counting_ready() {
+    takes_plugins || debian_install qemu-user || return 1
+    command -v cc >/dev/null || debian_install gcc libc6-dev || return 1
+    cc "${c_flags[@]}" -shared -fPIC "$top/bench/count.c" -o "$room/count.so" || return 1
+    counting=(qemu-x86_64 -plugin "$room/count.so")
+}
+
+amd64_ready() {
+    local be=() packages=(libglib2.0-dev:amd64 rustc-web cargo-web libstd-rust-web-dev:amd64 librust-serde-dev)
+    if dpkg -s "${packages[@]}" >/dev/null 2>&1; then
+        return 0
+    fi
+    [ "$(id -u)" = 0 ] || be=(sudo -n)
+    "${be[@]}" dpkg --add-architecture amd64 && debian_install "${packages[@]}"
+}

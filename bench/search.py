@@ -1,0 +1,208 @@
+#!/usr/bin/env python3
+"""Hunts for the frames that cost the most instructions for each byte and event, and prints the worst. Called by bench/search.
+
+Usage: bench/search.py SEED ROUNDS BYTES WORD..
+
+The words run the program of bench/search.c and count it. All is random and follows from the seed. There are two hunts:
+
+- Frames of the oracle's generator, of all its modes. Short frames are judged with their type's characters added to bytes and
+  events, since a call judges the type too.
+- Types and ways to fill a frame, which breed for so many rounds: the costliest are kept, and changed. They are counted on frames of
+  TRIED bytes; the worst of them again on frames of BYTES.
+"""
+import itertools
+import os
+import random
+import struct
+import subprocess
+import sys
+from collections import namedtuple
+
+sys.path.insert(0, os.path.join(os.path.dirname(os.path.abspath(__file__)), "..", "oracle"))
+sys.dont_write_bytecode = True
+import gen  # noqa: E402
+
+Cost = namedtuple("Cost", "type frame refusal events size read")
+Way = namedtuple("Way", "tree fill seed wrapped")   # how a frame of any length is made
+
+TRIED = 2048            # bytes of the frames that are bred
+KEPT, BRED = 12, 48     # ways kept, and ways tried, in a round
+SHOWN = 5
+GENERATED = 4000        # frames of the oracle's generator
+FILLS = ("zeros", "bytes", "written", "damaged", "table")
+
+
+def costs_of(words, questions):
+    """What size and read cost on each type and frame."""
+    asked = b"".join(struct.pack("<II", len(text), len(frame)) + text + frame for text, frame in questions)
+    done = subprocess.run(words, input=asked, capture_output=True, check=True)
+    answers = [line.split() for line in done.stdout.decode().splitlines()]
+    marks = [int(line.split()[1]) for line in done.stderr.decode().splitlines() if line.startswith("mark ")]
+    assert len(answers) == len(questions) and len(marks) == 4 * len(questions)
+    return [Cost(text, frame, int(refusal), int(events), size, read)
+            for (text, frame), (refusal, events), size, read in zip(questions, answers, marks[1::4], marks[3::4], strict=True)]
+
+
+def each(cost, characters=True):
+    """Instructions for each byte and event, and, where told, each character of the type."""
+    return max(cost.size, cost.read) / max(1, len(cost.frame) + cost.events + (len(cost.type) if characters else 0))
+
+
+def generated(rng):
+    """Frames of the oracle's generator, all read little-endian and at position 0."""
+    return [(text, frame) for text, _, _, frame in itertools.islice(gen.frames(rng, "mix"), GENERATED) if len(frame) <= gen.LIMIT]
+
+
+# Trees of types.
+
+def chain(rng):
+    """Containers in one another, in runs, around a random type."""
+    tree = gen.random_type(rng, 1)
+    for _ in range(rng.randrange(1, 5)):
+        kind = rng.choice("am({")
+        for _ in range(rng.choice((1, 1, 2, 5, 20, 60, 120))):
+            tree = wrapped(rng, kind, tree)
+    return tree
+
+
+def wrapped(rng, kind, tree):
+    if kind == "(":
+        return ("(", [tree] + [gen.random_type(rng, 0) for _ in range(rng.choice((0, 0, 0, 1, 3)))])
+    return ("{", rng.choice("ysn"), tree) if kind == "{" else (kind, tree)
+
+
+def changed_tree(rng, tree):
+    """The tree with one place changed."""
+    if isinstance(tree, str) or rng.random() < 0.15:
+        return rng.choice((lambda: wrapped(rng, rng.choice("am({"), tree), lambda: gen.random_type(rng, 2), lambda: chain(rng),
+                           lambda: tree if isinstance(tree, str) else children(tree)[-1]))()
+    if tree[0] == "(":
+        place = rng.randrange(len(tree[1]))
+        return ("(", tree[1][:place] + [changed_tree(rng, tree[1][place])] + tree[1][place + 1:])
+    return tree[:-1] + (changed_tree(rng, tree[-1]),)
+
+
+def children(tree):
+    return tree[1] if tree[0] == "(" else list(tree[1:])
+
+
+# Frames.
+
+def elements(rng, tree, length):
+    """A written array or dictionary with as many of a few random elements as fit; of any other type one value."""
+    if isinstance(tree, str) or tree[0] not in "a{":
+        return gen.written(tree, gen.random_value(rng, tree, 3), "little")[:length]
+    some = [gen.random_value(rng, tree, 2) for _ in range(6)]
+    few = [element for value in some for element in value][:6]
+    if not few:
+        return bytes(length)
+    times = max(1, length // max(1, len(gen.written(tree, few, "little"))))
+    while times > 1 and len(gen.written(tree, few * times, "little")) > length:
+        times = times * 9 // 10
+    return gen.written(tree, few * times, "little")
+
+
+def filled(way, length):
+    """The value's bytes."""
+    rng = random.Random(way.seed)
+    if way.fill == "zeros":
+        return bytes(length)
+    if way.fill == "bytes":
+        return bytes([rng.randrange(256)]) * length
+    if way.fill == "table":     # a body of zeros, and a table of rising ends, all widths of the type's making
+        count = length // rng.choice((3, 4, 6, 11))
+        body = length - 2 * count
+        return bytes(body) + b"".join(struct.pack("<H", body * (i + 1) // count) for i in range(count))
+    data = elements(rng, way.tree, length)
+    return data if way.fill == "written" else gen.damage(rng, data)
+
+
+def frame_of(way, length):
+    """The type and the frame; a wrapped one is a variant, with its type in the frame."""
+    text = gen.type_text(way.tree).encode()
+    if way.wrapped:
+        return b"v", (filled(way, max(0, length - len(text) - 1)) + b"\0" + text)[-gen.LIMIT:]
+    return text, filled(way, length)[:gen.LIMIT]
+
+
+def fits(way):
+    return len(gen.type_text(way.tree)) <= 255
+
+
+def new_way(rng):
+    tree = ("a", chain(rng)) if rng.random() < 0.7 else chain(rng)
+    return Way(tree, rng.choice(FILLS), rng.randrange(1 << 30), rng.random() < 0.3)
+
+
+def changed_way(rng, way):
+    what = rng.randrange(6)
+    if what == 0:
+        return way._replace(fill=rng.choice(FILLS))
+    if what == 1:
+        return way._replace(seed=rng.randrange(1 << 30))
+    if what == 2:
+        return way._replace(wrapped=not way.wrapped)
+    return way._replace(tree=changed_tree(rng, way.tree))
+
+
+def breed(rng, words, rounds):
+    """The ways that were kept last, the costliest first."""
+    kept = []
+    for turn in range(rounds):
+        ways = []
+        while len(ways) < BRED:
+            way = changed_way(rng, rng.choice(kept)[1]) if kept and rng.random() < 0.7 else new_way(rng)
+            if fits(way):
+                ways.append(way)
+        costs = costs_of(words, [frame_of(way, TRIED) for way in ways])
+        best = {}
+        for cost, way in sorted(kept + [(each(cost), way) for cost, way in zip(costs, ways, strict=True)], key=lambda pair: -pair[0]):
+            best.setdefault((gen.type_text(way.tree), way.fill), (cost, way))
+        kept = list(best.values())[:KEPT]
+        print("bench/search.py: round %d, %.0f" % (turn + 1, kept[0][0]), file=sys.stderr)
+    return [way for _, way in kept]
+
+
+# What is printed.
+
+def short(text):
+    """A type with its runs counted, to be read: a 31 ( 190 m y 31 )."""
+    runs, shown = [], text.decode("ascii", "replace")
+    for letter in shown:
+        if runs and runs[-1][0] == letter:
+            runs[-1][1] += 1
+        else:
+            runs.append([letter, 1])
+    return " ".join(letter if count == 1 else "%d%s" % (count, letter) for letter, count in runs) or "-"
+
+
+def print_worst(title, rows, characters):
+    print("## %s\n" % title)
+    print("| Type | frame | bytes | events | refusal | size | read | each |")
+    print("|---|---|---:|---:|---:|---:|---:|---:|")
+    for cost, what in rows:
+        print("| `%s` | %s | %s | %s | %d | %s | %s | %.0f |" % (
+            short(cost.type)[:100], what, format(len(cost.frame), ","), format(cost.events, ","), cost.refusal,
+            format(cost.size, ","), format(cost.read, ","), each(cost, characters)))
+    print()
+
+
+def described(way):
+    return way.fill if not way.wrapped else "%s, and the variant's type `%s`" % (way.fill, short(gen.type_text(way.tree).encode())[:100])
+
+
+def main():
+    seed, rounds, length = (int(word) for word in sys.argv[1:4])
+    words, rng = sys.argv[4:], random.Random(seed)
+    worst = sorted(costs_of(words, generated(rng)), key=each, reverse=True)
+    print_worst("The worst of %s generated frames, for each byte, event and character of the type" % format(GENERATED, ","),
+                [(cost, "`%s`" % (cost.frame[:16].hex(" ") or "-")) for cost in worst[:SHOWN]], True)
+    ways = breed(rng, words, rounds)[:SHOWN]
+    full = zip(costs_of(words, [frame_of(way, length) for way in ways]), map(described, ways), strict=True)
+    print_worst("The worst of %s ways bred, for each byte and event" % format(rounds * BRED, ","),
+                sorted(full, key=lambda row: -each(row[0], False)), False)
+    return 0
+
+
+if __name__ == "__main__":
+    sys.exit(main())

@@ -41,7 +41,7 @@ static inline unsigned long calls_of(const char *text) {
     char *end;
     const unsigned long calls = strtoul(text, &end, 10);
 
-    if (end == text || *end != '\0') {
+    if (calls == 0 || *end != '\0') {
         fprintf(stderr, "no number of calls: %s\n", text);
         exit(2);
     }

@@ -7,8 +7,8 @@ Usage: bench/measure.py --frames FOLDER --ours PROGRAM --rust PROGRAM --glib PRO
 First every program must answer every frame alike: the refusal, the bytes used, and events, leaves and sum as bench/frames.py has
 computed them from the value, as far as the program can know them. Otherwise nothing is measured.
 
-Instructions are those of one call: a run of some calls more less a run, by the calls more, so that start and end of the program
-cancel. They are counted by valgrind's callgrind; or, with --emulator, of all three programs, by a plugin of the emulator.
+Instructions are those of one call: a run of 2n calls less a run of n calls, by n, so that start and end of the program cancel.
+They are counted by valgrind's callgrind; or, with --emulator, of all three programs, by a plugin of the emulator.
 Time is the best of seven runs, without valgrind; there is none on an emulator.
 
 The instructions go to the file --costs. A file of an earlier run, --before, is set beside them.
@@ -126,12 +126,11 @@ def counted(counter, words):
     return int(found.group(1))
 
 
-def instructions(counter, place, side, frame):
-    """The instructions of one call. Ours keeps nothing from call to call; of the others the first calls are not counted."""
-    more = 1 if frame.events >= HUGE else 2 if frame.length >= LARGE else 20
-    first = 0 if place in (SIZE, READ) else more
-    less, all_calls = (counted(counter, command(side, frame, calls)) for calls in (first, first + more))
-    return (all_calls - less) / more
+def instructions(counter, side, frame):
+    """The instructions of one call."""
+    calls = 1 if frame.events >= HUGE else 2 if frame.length >= LARGE else 20
+    once, twice = (counted(counter, command(side, frame, times)) for times in (calls, 2 * calls))
+    return (twice - once) / calls
 
 
 def number(value):
@@ -252,7 +251,7 @@ def main():
     costs, times = {}, {}
     for frame in frames:
         say("measuring " + frame.name)
-        costs[frame.name] = [instructions(counter, place, side, frame) if sees(place, frame) else None for place, side in enumerate(sides)]
+        costs[frame.name] = [instructions(counter, side, frame) if sees(place, frame) else None for place, side in enumerate(sides)]
         times[frame.name] = None if emulator else nanoseconds(sides, frame)
     with open(arguments.costs, "w", encoding="utf-8") as file:
         json.dump(costs, file, indent=1)

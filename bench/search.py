@@ -9,6 +9,9 @@ The words run the program of bench/search.c and count it. All is random and foll
   events, since a call judges the type too.
 - Types and ways to fill a frame, which breed for so many rounds: the costliest are kept, and changed. They are counted on frames of
   TRIED bytes; the worst of them again on frames of BYTES.
+
+Frames that are read and frames that are refused are kept and shown apart: a refused one has no events to count, though there were
+some before its refusal, up to 65 for a byte.
 """
 import itertools
 import os
@@ -92,14 +95,15 @@ def elements(rng, tree, length):
     """A written array or dictionary with as many of a few random elements as fit; of any other type one value."""
     if isinstance(tree, str) or tree[0] not in "a{":
         return gen.written(tree, gen.random_value(rng, tree, 3), "little")[:length]
-    some = [gen.random_value(rng, tree, 2) for _ in range(6)]
-    few = [element for value in some for element in value][:6]
-    if not few:
-        return bytes(length)
-    times = max(1, length // max(1, len(gen.written(tree, few, "little"))))
-    while times > 1 and len(gen.written(tree, few * times, "little")) > length:
-        times = times * 9 // 10
-    return gen.written(tree, few * times, "little")
+    element = tree[1] if tree[0] == "a" else ("(", list(tree[1:]))
+    parts, align = [gen.written(element, gen.random_value(rng, element, 2), "little") for _ in range(4)], gen.alignment(element)
+    body, ends = bytearray(), []
+    for part in itertools.cycle(parts):
+        if len(body) + align + len(part) + 2 * len(ends) + 2 > length:
+            break
+        body += bytes(-len(body) % align) + part
+        ends.append(len(body))
+    return bytes(body) if gen.fixed(element) else gen.with_offsets(bytes(body), ends)
 
 
 def filled(way, length):
@@ -145,22 +149,27 @@ def changed_way(rng, way):
     return way._replace(tree=changed_tree(rng, way.tree))
 
 
+def costliest(pairs):
+    """Of costs and ways the best, one of each type and fill: of frames that are read and of refused ones."""
+    best = {}
+    for cost, way in sorted(pairs, key=lambda pair: -each(pair[0])):
+        best.setdefault((gen.type_text(way.tree), way.fill, cost.refusal != 0), (cost, way))
+    return [[pair for pair in best.values() if (pair[0].refusal != 0) == refused][:KEPT] for refused in (False, True)]
+
+
 def breed(rng, words, rounds):
-    """The ways that were kept last, the costliest first."""
-    kept = []
+    """The ways that were kept last, the costliest first: those whose frames are read, and those whose are refused."""
+    read, refused = [], []
     for turn in range(rounds):
-        ways = []
+        ways, kept = [], read + refused
         while len(ways) < BRED:
             way = changed_way(rng, rng.choice(kept)[1]) if kept and rng.random() < 0.7 else new_way(rng)
             if fits(way):
                 ways.append(way)
         costs = costs_of(words, [frame_of(way, TRIED) for way in ways])
-        best = {}
-        for cost, way in sorted(kept + [(each(cost), way) for cost, way in zip(costs, ways, strict=True)], key=lambda pair: -pair[0]):
-            best.setdefault((gen.type_text(way.tree), way.fill), (cost, way))
-        kept = list(best.values())[:KEPT]
-        print("bench/search.py: round %d, %.0f" % (turn + 1, kept[0][0]), file=sys.stderr)
-    return [way for _, way in kept]
+        read, refused = costliest(kept + list(zip(costs, ways, strict=True)))
+        print("bench/search.py: round %d, %s" % (turn + 1, [round(each(some[0][0])) for some in (read, refused) if some]), file=sys.stderr)
+    return [[way for _, way in some[:SHOWN]] for some in (read, refused)]
 
 
 # What is printed.
@@ -195,12 +204,13 @@ def main():
     seed, rounds, length = (int(word) for word in sys.argv[1:4])
     words, rng = sys.argv[4:], random.Random(seed)
     worst = sorted(costs_of(words, generated(rng)), key=each, reverse=True)
-    print_worst("The worst of %s generated frames, for each byte, event and character of the type" % format(GENERATED, ","),
-                [(cost, "`%s`" % (cost.frame[:16].hex(" ") or "-")) for cost in worst[:SHOWN]], True)
-    ways = breed(rng, words, rounds)[:SHOWN]
-    full = zip(costs_of(words, [frame_of(way, length) for way in ways]), map(described, ways), strict=True)
-    print_worst("The worst of %s ways bred, for each byte and event" % format(rounds * BRED, ","),
-                sorted(full, key=lambda row: -each(row[0], False)), False)
+    for refused, kind in ((False, "read"), (True, "refused")):
+        print_worst("The worst of %s generated frames that are %s, for each byte, event and character" % (format(GENERATED, ","), kind),
+                    [(cost, "`%s`" % (cost.frame[:16].hex(" ") or "-")) for cost in worst if (cost.refusal != 0) == refused][:SHOWN], True)
+    for ways, kind in zip(breed(rng, words, rounds), ("read", "refused"), strict=True):
+        full = list(zip(costs_of(words, [frame_of(way, length) for way in ways]), map(described, ways), strict=True))
+        print_worst("The worst of %s bred frames that are %s, for each byte and event" % (format(rounds * BRED, ","), kind),
+                    sorted(full, key=lambda row: -each(row[0], False)), False)
     return 0
 
 

@@ -213,11 +213,9 @@ def first_line(words):
 
 
 def processor():
-    try:
-        with open("/proc/cpuinfo", encoding="utf-8") as info:
-            return next((line.split(":", 1)[1].strip() for line in info if line.startswith("model name")), "-")
-    except OSError:
-        return "-"
+    said = subprocess.run(["lscpu"], capture_output=True, text=True).stdout
+    found = re.search(r"^Model name: *(.*)$", said, re.MULTILINE)
+    return found.group(1) if found else "processor unknown"
 
 
 def print_machine(arguments):

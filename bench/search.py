@@ -26,13 +26,14 @@ sys.dont_write_bytecode = True
 import gen  # noqa: E402
 
 Cost = namedtuple("Cost", "type frame refusal events size read")
-Way = namedtuple("Way", "tree fill seed wrapped")   # how a frame of any length is made
+Way = namedtuple("Way", "tree fill seed inside")    # how a frame of any length is made; inside nothing, a variant or many
 
 TRIED = 2048            # bytes of the frames that are bred
 KEPT, BRED = 12, 48     # ways kept, and ways tried, in a round
 SHOWN = 5
 GENERATED = 4000        # frames of the oracle's generator
 FILLS = ("zeros", "bytes", "written", "damaged", "table")
+INSIDE = ("", "", "v", "av")
 
 
 def costs_of(words, questions):
@@ -75,18 +76,18 @@ def wrapped(rng, kind, tree):
 
 
 def changed_tree(rng, tree):
-    """The tree with one place changed."""
+    """The tree with one place changed: wrapped, set anew, or its last child put in its place."""
     if isinstance(tree, str) or rng.random() < 0.15:
-        return rng.choice((lambda: wrapped(rng, rng.choice("am({"), tree), lambda: gen.random_type(rng, 2), lambda: chain(rng),
-                           lambda: tree if isinstance(tree, str) else children(tree)[-1]))()
+        change = rng.randrange(4)
+        if change == 0:
+            return wrapped(rng, rng.choice("am({"), tree)
+        if change == 1:
+            return (gen.children(tree) or [tree])[-1]
+        return gen.random_type(rng, 2) if change == 2 else chain(rng)
     if tree[0] == "(":
         place = rng.randrange(len(tree[1]))
         return ("(", tree[1][:place] + [changed_tree(rng, tree[1][place])] + tree[1][place + 1:])
     return tree[:-1] + (changed_tree(rng, tree[-1]),)
-
-
-def children(tree):
-    return tree[1] if tree[0] == "(" else list(tree[1:])
 
 
 # Frames.
@@ -96,14 +97,19 @@ def elements(rng, tree, length):
     if isinstance(tree, str) or tree[0] not in "a{":
         return gen.written(tree, gen.random_value(rng, tree, 3), "little")[:length]
     element = tree[1] if tree[0] == "a" else ("(", list(tree[1:]))
-    parts, align = [gen.written(element, gen.random_value(rng, element, 2), "little") for _ in range(4)], gen.alignment(element)
+    parts = [gen.written(element, gen.random_value(rng, element, 2), "little") for _ in range(4)]
+    return repeated(parts, gen.alignment(element), gen.fixed(element), length)
+
+
+def repeated(parts, align, fixed, length):
+    """As many elements as fit."""
     body, ends = bytearray(), []
     for part in itertools.cycle(parts):
         if len(body) + align + len(part) + 2 * len(ends) + 2 > length:
             break
         body += bytes(-len(body) % align) + part
         ends.append(len(body))
-    return bytes(body) if gen.fixed(element) else gen.with_offsets(bytes(body), ends)
+    return bytes(body) if fixed else gen.with_offsets(bytes(body), ends)
 
 
 def filled(way, length):
@@ -122,11 +128,13 @@ def filled(way, length):
 
 
 def frame_of(way, length):
-    """The type and the frame; a wrapped one is a variant, with its type in the frame."""
+    """The type and the frame; in a variant, or in each of many, the type stands in the frame."""
     text = gen.type_text(way.tree).encode()
-    if way.wrapped:
-        return b"v", (filled(way, max(0, length - len(text) - 1)) + b"\0" + text)[-gen.LIMIT:]
-    return text, filled(way, length)[:gen.LIMIT]
+    if way.inside == "v":
+        return b"v", filled(way, max(0, length - len(text) - 1)) + b"\0" + text
+    if way.inside == "av":
+        return b"av", repeated([filled(way, way.seed % 24) + b"\0" + text], 8, False, length)
+    return text, filled(way, length)
 
 
 def fits(way):
@@ -135,7 +143,7 @@ def fits(way):
 
 def new_way(rng):
     tree = ("a", chain(rng)) if rng.random() < 0.7 else chain(rng)
-    return Way(tree, rng.choice(FILLS), rng.randrange(1 << 30), rng.random() < 0.3)
+    return Way(tree, rng.choice(FILLS), rng.randrange(1 << 30), rng.choice(INSIDE))
 
 
 def changed_way(rng, way):
@@ -145,15 +153,17 @@ def changed_way(rng, way):
     if what == 1:
         return way._replace(seed=rng.randrange(1 << 30))
     if what == 2:
-        return way._replace(wrapped=not way.wrapped)
+        return way._replace(inside=rng.choice(INSIDE))
     return way._replace(tree=changed_tree(rng, way.tree))
 
 
 def costliest(pairs):
-    """Of costs and ways the best, one of each type and fill: of frames that are read and of refused ones."""
+    """Of costs and ways the best, one of each type and fill: of frames that are read and of refused ones. Frames that turned out
+    short are left to the generator."""
     best = {}
     for cost, way in sorted(pairs, key=lambda pair: -each(pair[0])):
-        best.setdefault((gen.type_text(way.tree), way.fill, cost.refusal != 0), (cost, way))
+        if len(cost.frame) >= TRIED // 2:
+            best.setdefault((gen.type_text(way.tree), way.fill, cost.refusal != 0), (cost, way))
     return [[pair for pair in best.values() if (pair[0].refusal != 0) == refused][:KEPT] for refused in (False, True)]
 
 
@@ -197,7 +207,7 @@ def print_worst(title, rows, characters):
 
 
 def described(way):
-    return way.fill if not way.wrapped else "%s, and the variant's type `%s`" % (way.fill, short(gen.type_text(way.tree).encode())[:100])
+    return way.fill if not way.inside else "%s, and a variant's type `%s`" % (way.fill, short(gen.type_text(way.tree).encode())[:100])
 
 
 def main():

@@ -1,4 +1,7 @@
 // How many containers are open, and the limits on them. Ports container_depths.rs.
+use meaning::limits::MOST_ARRAYS;
+use meaning::limits::MOST_CONTAINERS;
+use meaning::limits::MOST_STRUCTURES;
 use meaning::refusals::ARRAYS_TOO_DEEP;
 use meaning::refusals::CONTAINERS_TOO_DEEP;
 use meaning::refusals::STRUCTURES_TOO_DEEP;
@@ -50,11 +53,11 @@ fn check(structure: usize, array: usize, variant: usize, maybe: usize) -> u8
 }
 
 impl ContainerDepths {
-    pub const MAX_STRUCTURE: usize = 32;
+    pub const MAX_STRUCTURE: usize = MOST_STRUCTURES;
 
-    pub const MAX_ARRAY: usize = 32;
+    pub const MAX_ARRAY: usize = MOST_ARRAYS;
 
-    pub const MAX_TOTAL: usize = 64;
+    pub const MAX_TOTAL: usize = MOST_CONTAINERS;
 
     pub fn new() -> Self
         ensures { λ r. ⌜ depthsOf r ≡ noneOpen ⌝ }

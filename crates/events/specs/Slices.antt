@@ -5,10 +5,11 @@ use lib.Dec.{ltb}
 use lib.ListN.{length, set}
 use Rattle.meaning.specs.Choice.{pick}
 use Rattle.meaning.specs.Events.{Event}
+use Rattle.meaning.specs.Limits.{largestNumber}
 
 -- the number of the nextEvent event; it stays at the largest number
 unfoldable pub nextEvent : ℕ → ℕ
-nextEvent n = pick (ltb n 18446744073709551615) (n + 1) n
+nextEvent n = pick (ltb n largestNumber) (n + 1) n
 
 -- event n of a slice, which has room for it or is left as it is
 unfoldable pub put : List ℕ → ℕ → Event → List ℕ

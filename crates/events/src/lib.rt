@@ -16,7 +16,7 @@ pub fn emit(out: &mut [u64], n: usize, kind: u64, place: usize, payload: u64) ->
         out[3 * n + 2] = payload;
         return n + 1;
     }
-    if n < 18446744073709551615 {
+    if n < usize::MAX {
         return n + 1;
     }
     n

@@ -12,7 +12,7 @@ use borrow.Author.Tests.{le-ltb, eqb-true, eqb-false, ne-eqb}
 use Rattle.meaning.specs.Choice.{pick}
 use Rattle.meaning.specs.TypeText.{typeOf}
 use Rattle.meaning.specs.Calls.{counts}
-use Rattle.signature.specs.Places.{present}
+use Rattle.signature.specs.Places.{thereIs}
 use Rattle.lines.specs.Hexadecimal.{digit}
 use Rattle.lines.specs.Lines.{linesFrom, lastLine, lines, Keeps}
 use Rattle.lines.proofs.GatherLaws.{keeps-none, keeps-more}
@@ -71,7 +71,7 @@ module _ (type : List ℕ) (n : ℕ) (p : List ℕ) (m : Machine) (f : InFrame t
   right-answer : answerOf m ≡ answer type p
   unfolding answerOf answer frameOf
   right-answer =
-      ap₂ (λ x y. pick (present x) y (counts 1 0 0)) (f .typed) (same-frame (f .spells) (take (m .state .letters) (m .text)) type (f .typed))
+      ap₂ (λ x y. pick (thereIs x) y (counts 1 0 0)) (f .typed) (same-frame (f .spells) (take (m .state .letters) (m .text)) type (f .typed))
 
   right-line : lineText m ≡ printed n (answer type p)
   unfolding lineText

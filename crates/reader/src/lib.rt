@@ -2,6 +2,7 @@
 use container_depths::ContainerDepths;
 pub use events::event_text;
 use meaning::limits::LARGEST_FRAME;
+use meaning::limits::LONGEST_TYPE;
 use meaning::refusals::OVER_LIMIT;
 use meaning::refusals::ROOM_TOO_SMALL;
 use meaning::refusals::TYPE_REFUSED;
@@ -21,7 +22,7 @@ ghost use Rattle.reader_basic.specs.Answers.{Whole, countsOf};
 pub fn size(signature: &[u8], big: bool, position: usize, frame: &[u8]) -> Answer
     ensures { λ r. ⌜ countsOf r ≡ sizeOf (now (signature .entry)) big position (now (frame .entry)) ⌝ }
 {
-    let mut shapes = [0u16; 255];
+    let mut shapes = [0u16; LONGEST_TYPE];
     if !shapes_of(signature, &mut shapes) {
         return Answer {
             refusal: TYPE_REFUSED,
@@ -37,7 +38,7 @@ pub fn read(signature: &[u8], big: bool, position: usize, frame: &[u8], out: &mu
     ensures answer { λ r. ⌜ countsOf r ≡ readOf (now (signature .entry)) big position (now (frame .entry)) (now (out .entry)) ⌝ }
     ensures slice { λ r. ⌜ now (out .exit) ≡ readSlice (now (signature .entry)) big position (now (frame .entry)) (now (out .entry)) ⌝ }
 {
-    let mut shapes = [0u16; 255];
+    let mut shapes = [0u16; LONGEST_TYPE];
     if !shapes_of(signature, &mut shapes) {
         return Answer {
             refusal: TYPE_REFUSED,

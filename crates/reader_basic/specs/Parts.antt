@@ -10,6 +10,9 @@ use Rattle.meaning.specs.Types.{bool, structure}
 use Rattle.meaning.specs.Offsets.{Table, noneAbove, endsOf}
 use Rattle.meaning.specs.Reading.{Reader, readBool, readNumber, readText, offsetStands, fieldOffset}
 use Rattle.meaning.specs.Padding.{Aligns}
+use Rattle.meaning.specs.Limits.{largestFrame}
+use Rattle.meaning.specs.Letters.{arrayLetter, dictionaryLetter}
+use Rattle.meaning.specs.Refusals.{outOfBounds}
 use Rattle.utils.specs.Checks.{passed, failed}
 use Rattle.utils.specs.declared.Checked.{Checked}
 use Rattle.container_depths.specs.Opening.{depthsOf}
@@ -21,8 +24,8 @@ use Rattle.signature.specs.declared.Letter.the-variants.{End, Bad, Boolean, Num
 
 -- a part of a frame and where it stands, within the limits; so many containers are nested, within theirs
 pub record Within (len place position : ℕ) (d : ContainerDepths) : Type 0 where
-  pub in-frame : place + len ≤ 65536
-  pub near : position ≤ 65536
+  pub in-frame : place + len ≤ largestFrame
+  pub near : position ≤ largestFrame
   pub shallow : depthRefusal (depthsOf d) ≡ 0
 
 abbrev pub Inside : ℕ → ℕ → Context → Type 0
@@ -67,8 +70,8 @@ pub record Stands (t : Table) (l : List ℕ) : Type 0 where
 
 -- the offset before an end of a structure's table
 unfoldable pub offsetAnswer : ℕ → ℕ → ℕ → List ℕ → Checked
-offsetAnswer n w e l = pick (offsetStands n w e) (passed (fieldOffset n w e l)) (failed 3)
+offsetAnswer n w e l = pick (offsetStands n w e) (passed (fieldOffset n w e l)) (failed outOfBounds)
 
 -- the kind of an array's first event, or of a dictionary's
 abbrev pub itemKind : Item → ℕ
-itemKind i = pick (i .entry) 123 97
+itemKind i = pick (i .entry) dictionaryLetter arrayLetter

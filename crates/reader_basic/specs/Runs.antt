@@ -8,6 +8,8 @@ use Rattle.meaning.specs.Choice.{pick}
 use Rattle.meaning.specs.Numbers.{spelled}
 use Rattle.meaning.specs.Events.{Event, event}
 use Rattle.meaning.specs.Outcome.{Outcome, outcome}
+use Rattle.meaning.specs.Limits.{largestNumber}
+use Rattle.meaning.specs.Refusals.{outOfBounds}
 use Rattle.reader_basic.specs.declared.Answer.{Answer}
 
 -- so many numbers from j on of a part that begins at the place k
@@ -17,13 +19,13 @@ numberEvents big kind w k l (suc m) j = event kind (k + j) (spelled big w j l) �
 
 -- in so many bytes: what is left over is 3
 abbrev pub leftOver : ℕ → ℕ → ℕ
-leftOver left w = pick (eqb (left % w) 0) 0 3
+leftOver left w = pick (eqb (left % w) 0) 0 outOfBounds
 
 abbrev pub countedOf : ℕ → ℕ → ℕ → Answer
 countedOf left w n = record {
   refusal = leftOver left w;
   used = left - left % w;
-  count = min (n + left / w) 18446744073709551615;
+  count = min (n + left / w) largestNumber;
 }
 
 -- from j to the part's end; the place of a refusal is not told

@@ -24,6 +24,7 @@ ghost use Rattle.meaning.specs.Depths.{Depths};
 ghost use Rattle.meaning.specs.Outcome.{Outcome, chain, closingAt};
 ghost use Rattle.meaning.specs.Reading.{child, readBool, readNumber, readText, endPadding, separator as separatorOf};
 ghost use Rattle.meaning.specs.Padding.{Aligns};
+ghost use Rattle.meaning.specs.Limits.{largestFrame};
 ghost use Rattle.byte_order.specs.Standing.{numberAt};
 ghost use Rattle.framing_offset_size.specs.Widths.{widthOf};
 ghost use Rattle.reader_basic.specs.Answers.{Done};
@@ -37,7 +38,7 @@ pub fn wide(code: u8) -> u64
 
 // Closes a container that is done: its last event stands where reading stands.
 pub fn close(r: Answer, place: usize, out: &mut [u64]) -> Answer
-    requires { ⌜ place + r .used ≤ 65536 ⌝ }
+    requires { ⌜ place + r .used ≤ largestFrame ⌝ }
     ensures { λ s. ⌜ ((o : Outcome) (end len n : ℕ) (l : List ℕ) → Done o end len n l (now (out .entry)) r → Done (chain o (closingAt place)) end len n l (now (out .exit)) s) ⌝ }
 {
     let refusal = r.refusal;
@@ -119,7 +120,7 @@ pub fn number(
     out: &mut [u64],
     n: usize,
 ) -> Answer
-    requires { ⌜ (place + length (now part) ≤ 65536) × (context .position ≤ 65536) × Aligns width ⌝ }
+    requires { ⌜ (place + length (now part) ≤ largestFrame) × (context .position ≤ largestFrame) × Aligns width ⌝ }
     ensures { λ r. ⌜ ((d : Depths) → Done (readNumber (context .position) (context .big) code width d place (now (part .entry))) (length (now (part .entry))) (length (now (part .entry))) n (now (out .entry)) (now (out .exit)) r) ⌝ }
 {
     let padding = parse_padding(context.position + place, 0, width, part);
@@ -178,7 +179,7 @@ pub fn key_value(
     out: &mut [u64],
     n: usize,
 ) -> Answer
-    requires { ⌜ (place + length (now part) ≤ 65536) × (context .position ≤ 65536) × KeyAligned key ⌝ }
+    requires { ⌜ (place + length (now part) ≤ largestFrame) × (context .position ≤ largestFrame) × KeyAligned key ⌝ }
     ensures { λ r. ⌜ ((d : Depths) → Done (keyReader (context .position) (context .big) key d place (now (part .entry))) (length (now (part .entry))) (length (now (part .entry))) n (now (out .entry)) (now (out .exit)) r) ⌝ }
 {
     match key {
@@ -199,7 +200,7 @@ pub fn child_key(
     out: &mut [u64],
     n: usize,
 ) -> Answer
-    requires { ⌜ (place + length (now part) ≤ 65536) × (context .position ≤ 65536) × (j ≤ length (now part)) × KeyAligned key ⌝ }
+    requires { ⌜ (place + length (now part) ≤ largestFrame) × (context .position ≤ largestFrame) × (j ≤ length (now part)) × KeyAligned key ⌝ }
     ensures { λ r. ⌜ ((d : Depths) → Done (child (keyReader (context .position) (context .big) key d) place (now (part .entry)) j e) (e - j) (length (now (part .entry)) - j) n (now (out .entry)) (now (out .exit)) r) ⌝ }
 {
     if e < j {
@@ -228,7 +229,7 @@ pub fn end_padding(
     alignment: usize,
     r: Answer,
 ) -> Answer
-    requires { ⌜ (place + length (now part) ≤ 65536) × (position ≤ 65536) × (j + r .used ≤ length (now part)) × Aligns alignment ⌝ }
+    requires { ⌜ (place + length (now part) ≤ largestFrame) × (position ≤ largestFrame) × (j + r .used ≤ length (now part)) × Aligns alignment ⌝ }
     ensures { λ s. ⌜ ((o : Outcome) (end len n : ℕ) (l l′ : List ℕ) → len ≡ length (now (part .entry)) - j → Done o end len n l l′ r → Done (endPadding position true alignment place (now (part .entry)) j o) len len n l l′ s) ⌝ }
 {
     let at = j + r.used;

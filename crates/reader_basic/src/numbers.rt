@@ -21,6 +21,7 @@ ghost use Rattle.meaning.specs.Offsets.{endsOf};
 ghost use Rattle.meaning.specs.Outcome.{chain, passing};
 ghost use Rattle.meaning.specs.Reading.{child, childStep, readNumber, readMaybe, elements as elementsIn, elementsTo};
 ghost use Rattle.meaning.specs.Padding.{Aligns};
+ghost use Rattle.meaning.specs.Limits.{largestFrame, largestNumber};
 ghost use Rattle.byte_order.specs.Standing.{numberAt};
 ghost use Rattle.container_depths.specs.Opening.{depthsOf};
 ghost use Rattle.framing_offsets.specs.Tables.{tableIn};
@@ -30,10 +31,10 @@ ghost use Rattle.reader_basic.specs.Runs.{countedOf, numbersFrom};
 
 // How many events there are with so many more.
 fn plus(n: usize, more: usize) -> usize
-    ensures { λ r. ⌜ (r ≡ min (n + more) 18446744073709551615) × (n ≤ 18446744073709551615) ⌝ }
+    ensures { λ r. ⌜ (r ≡ min (n + more) largestNumber) × (n ≤ largestNumber) ⌝ }
 {
-    if 18446744073709551615 - n < more {
-        return 18446744073709551615;
+    if usize::MAX - n < more {
+        return usize::MAX;
     }
     n + more
 }
@@ -41,7 +42,7 @@ fn plus(n: usize, more: usize) -> usize
 // Numbers of a width in so many bytes, from event n on: counted, and not read.
 fn counted(left: usize, width: usize, n: usize) -> Answer
     requires { ⌜ 0 < width ⌝ }
-    ensures { λ r. ⌜ (r ≡ countedOf left width n) × (n ≤ 18446744073709551615) ⌝ }
+    ensures { λ r. ⌜ (r ≡ countedOf left width n) × (n ≤ largestNumber) ⌝ }
 {
     let over = left % width;
     let count = plus(n, left / width);
@@ -61,7 +62,7 @@ fn counted(left: usize, width: usize, n: usize) -> Answer
 
 // Bytes from j to the part's end, as a run of numbers.
 fn byte_run(part: &[u8], j: usize, place: usize, code: u8, out: &mut [u64], n: usize) -> Answer
-    requires { ⌜ (place + length (now part) ≤ 65536) × (j ≤ length (now part)) ⌝ }
+    requires { ⌜ (place + length (now part) ≤ largestFrame) × (j ≤ length (now part)) ⌝ }
     ensures { λ r. ⌜ ((big : Bool) → Done (numbersFrom big code 1 place (now (part .entry)) j) (length (now (part .entry)) - j) (length (now (part .entry)) - j) n (now (out .entry)) (now (out .exit)) r) ⌝ }
 {
     let len = part.len();
@@ -90,7 +91,7 @@ fn run(
     out: &mut [u64],
     n: usize,
 ) -> Answer
-    requires { ⌜ (place + length (now part) ≤ 65536) × (j ≤ length (now part)) × Aligns width ⌝ }
+    requires { ⌜ (place + length (now part) ≤ largestFrame) × (j ≤ length (now part)) × Aligns width ⌝ }
     ensures { λ r. ⌜ Done (numbersFrom big code width place (now (part .entry)) j) (length (now (part .entry)) - j) (length (now (part .entry)) - j) n (now (out .entry)) (now (out .exit)) r ⌝ }
 {
     if width == 1 {
@@ -123,7 +124,7 @@ pub fn numbers(
     out: &mut [u64],
     n: usize,
 ) -> Answer
-    requires { ⌜ (place + length (now part) ≤ 65536) × (context .position ≤ 65536) × (lead ≤ length (now part)) × Aligns width ⌝ }
+    requires { ⌜ (place + length (now part) ≤ largestFrame) × (context .position ≤ largestFrame) × (lead ≤ length (now part)) × Aligns width ⌝ }
     ensures { λ r. ⌜ ((d : Depths) (b : ℕ) → Done (elementsIn (length (now (part .entry))) (childStep (readNumber (context .position) (context .big) code width) d place (now (part .entry)) b) (length (now (part .entry))) lead) (length (now (part .entry)) - lead) (length (now (part .entry)) - lead) n (now (out .entry)) (now (out .exit)) r) ⌝ }
 {
     if part.len() <= lead {
@@ -176,7 +177,7 @@ fn reading(
     out: &mut [u64],
     n: usize,
 ) -> Answer
-    requires { ⌜ (place + length (now part) ≤ 65536) × (context .position ≤ 65536) × Aligns width ⌝ }
+    requires { ⌜ (place + length (now part) ≤ largestFrame) × (context .position ≤ largestFrame) × Aligns width ⌝ }
     ensures { λ r. ⌜ Done (readMaybe (context .position) width true (readNumber (context .position) (context .big) code width) (depthsOf (context .depths)) place (now (part .entry))) (length (now (part .entry))) (length (now (part .entry))) n (now (out .entry)) (now (out .exit)) r ⌝ }
 {
     let padding = parse_padding(context.position + place, 0, width, part);
@@ -236,7 +237,7 @@ fn child_reading(
     out: &mut [u64],
     n: usize,
 ) -> Answer
-    requires { ⌜ (place + length (now part) ≤ 65536) × (context .position ≤ 65536) × (j ≤ length (now part)) × Aligns width ⌝ }
+    requires { ⌜ (place + length (now part) ≤ largestFrame) × (context .position ≤ largestFrame) × (j ≤ length (now part)) × Aligns width ⌝ }
     ensures { λ r. ⌜ Done (child (readMaybe (context .position) width true (readNumber (context .position) (context .big) code width) (depthsOf (context .depths))) place (now (part .entry)) j e) (e - j) (length (now (part .entry)) - j) n (now (out .entry)) (now (out .exit)) r ⌝ }
 {
     if e < j {
@@ -268,7 +269,7 @@ pub fn readings(
     out: &mut [u64],
     n: usize,
 ) -> Answer
-    requires { ⌜ (place + length (now part) ≤ 65536) × (context .position ≤ 65536) × (lead ≤ length (now part)) × Aligns width × Stands (tableIn offsets) (drop lead (now part)) ⌝ }
+    requires { ⌜ (place + length (now part) ≤ largestFrame) × (context .position ≤ largestFrame) × (lead ≤ length (now part)) × Aligns width × Stands (tableIn offsets) (drop lead (now part)) ⌝ }
     ensures { λ r. ⌜ Done (chain (elementsTo (childStep (readMaybe (context .position) width true (readNumber (context .position) (context .big) code width)) (depthsOf (context .depths)) place (now (part .entry)) (lead + offsets .start)) lead (endsOf (tableIn offsets) (drop lead (now (part .entry)))) lead) (passing (length (now (part .entry)) - (lead + offsets .start)))) (length (now (part .entry)) - lead) (length (now (part .entry)) - lead) n (now (out .entry)) (now (out .exit)) r ⌝ }
 {
     let table = &part[lead..];

@@ -6,11 +6,14 @@ use Prim.Native.Nat.{ℕ, _-_, _≤_, _<_, max}
 use lib.ListN.{length}
 use Rattle.meaning.specs.Choice.{pick}
 use Rattle.meaning.specs.Depths.{Depths}
-use Rattle.meaning.specs.Types.{Tree, Fields, basic, variant, maybe, array, dictionary, structure, alignment, largestAlignment, fixed, allFixed, basicAlignment, basicFixed}
+use Rattle.meaning.specs.Types.{Tree, Fields, basic, variant, maybe, array, dictionary, structure, alignment, largestAlignment, fixed, allFixed, basicFixed, entryAlignment, entryFixed}
 use Rattle.meaning.specs.Outcome as outcome
 use Rattle.meaning.specs.Outcome.{Outcome}
 use Rattle.meaning.specs.Reading.{Reader, Step, Field, readNumber, readBasic, readMaybe, maybeIn, arrayIn, childStep, entryStep, structureIn, variantIn, readers, readVariant, reading}
 use Rattle.meaning.specs.Padding.{Aligns}
+use Rattle.meaning.specs.Limits.{mostVariants, mostContainers}
+use Rattle.meaning.specs.Letters.{arrayLetter, dictionaryLetter}
+use Rattle.meaning.specs.Refusals.{typeRefused}
 use Rattle.container_depths.specs.Opening.{depthsOf}
 use Rattle.container_depths.specs.declared.ContainerDepths.{ContainerDepths}
 use Rattle.signature.specs.Trees.{treeAt, Described}
@@ -21,20 +24,20 @@ use Rattle.reader_basic.specs.declared.Context.{Context}
 
 -- the reading of a type where so many variants are nested
 abbrev pub readerOf : ℕ → Bool → ℕ → Tree → Reader
-readerOf position big nested t = reading position big (65 - nested) t
+readerOf position big nested t = reading position big (mostVariants - nested) t
 
 abbrev pub readersOf : ℕ → Bool → ℕ → Fields → List Field
-readersOf position big nested ts = readers position big (readVariant position (λ u. reading position big (64 - nested) u)) ts
+readersOf position big nested ts = readers position big (readVariant position (λ u. reading position big (mostContainers - nested) u)) ts
 
 -- what stands in a container of a type, behind n bytes of padding
 unfoldable pub bodyIn : ℕ → Bool → ℕ → Tree → ContainerDepths → ℕ → List ℕ → ℕ → Outcome
-bodyIn position big nested (basic b) d k l n = outcome.refused 1 0
-bodyIn position big nested variant d k l n = variantIn (λ u. reading position big (64 - nested) u) (depthsOf d) k l n
+bodyIn position big nested (basic b) d k l n = outcome.refused typeRefused 0
+bodyIn position big nested variant d k l n = variantIn (λ u. reading position big (mostContainers - nested) u) (depthsOf d) k l n
 bodyIn position big nested (maybe t) d k l n = maybeIn (fixed t) (readerOf position big nested t) (depthsOf d) k l n
-bodyIn position big nested (array t) d k l n = arrayIn 97 (fixed t) (childStep (readerOf position big nested t)) (depthsOf d) k l n
+bodyIn position big nested (array t) d k l n = arrayIn arrayLetter (fixed t) (childStep (readerOf position big nested t)) (depthsOf d) k l n
 bodyIn position big nested (dictionary b t) d k l n =
-    arrayIn 123 (basicFixed b && fixed t)
-    (entryStep position (max (basicAlignment b) (alignment t)) (basicFixed b) (basicFixed b && fixed t) (readBasic position big b) (readerOf position big nested t))
+    arrayIn dictionaryLetter (entryFixed b t)
+    (entryStep position (entryAlignment b t) (basicFixed b) (entryFixed b t) (readBasic position big b) (readerOf position big nested t))
     (depthsOf d) k l n
 bodyIn position big nested (structure ts) d k l n = structureIn position (largestAlignment ts) (allFixed ts) (readersOf position big nested ts) (depthsOf d) k l n
 

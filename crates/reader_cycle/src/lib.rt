@@ -12,6 +12,7 @@ use meaning::letters::NOTHING_LETTER;
 use meaning::letters::SIGNATURE_LETTER;
 use meaning::letters::STRUCTURE_LETTER;
 use meaning::letters::VARIANT_LETTER;
+use meaning::limits::LONGEST_TYPE;
 use meaning::refusals::MAYBE_END_NOT_ZERO;
 use meaning::refusals::NO_SEPARATOR;
 use meaning::refusals::OUT_OF_BOUNDS;
@@ -816,7 +817,7 @@ fn variant(
         };
     }
     let g = emit(out, m, SIGNATURE_LETTER, place + from, letters.len() as u64);
-    let mut shapes = [0u16; 255];
+    let mut shapes = [0u16; LONGEST_TYPE];
     if !shapes_of(signature, &mut shapes) {
         return Answer {
             refusal: VARIANT_TYPE_REFUSED,

@@ -12,7 +12,7 @@ use Rattle.meaning.specs.Choice.{pick}
 use Rattle.meaning.specs.Types.{Tree, last}
 use Rattle.meaning.specs.TypeText.{basicAmong, Found, found, firstType, nothingBehind, typeOf}
 use Rattle.meaning.proofs.TypeTextLaws.{typeOf-sound}
-use Rattle.signature.specs.Places.{present, isType, letterOf, letterBy, letterIn, letterAt, typeAt, noChild, childBy, childAt, closedBy, fieldAt}
+use Rattle.signature.specs.Places.{thereIs, isType, letterOf, letterBy, letterIn, letterAt, typeAt, noChild, childBy, childAt, closedBy, fieldAt}
 use Rattle.signature.specs.Places.{Field}
 use Rattle.signature.specs.declared.Letter.the-variants.{CloseStructure}
 use Rattle.signature.proofs.Letters.{cut}
@@ -30,7 +30,7 @@ pub judge-missing : (l : List ℕ) → childAt l 0 .found ≡ false → false �
 unfolding childAt typeAt childBy typeOf nothingBehind
 judge-missing l h = go (leb (length l) 255) (firstType l) h
   where
-    go : (q : Bool) (x : Found Tree) → childBy (letterAt l 0) (length l) (pick q x none) .found ≡ false → false ≡ present (pick q (nothingBehind x) none)
+    go : (q : Bool) (x : Found Tree) → childBy (letterAt l 0) (length l) (pick q x none) .found ≡ false → false ≡ thereIs (pick q (nothingBehind x) none)
     go false x e = refl
     go true none e = refl
     go true (some g) e = let z : _≡_ {A = ℕ} 0 1 = cc in absurd (omega arith)
@@ -39,16 +39,16 @@ pub judge-found : (l : List ℕ) → Stands l 0 (childAt l 0) → eqb (childAt l
 unfolding typeOf nothingBehind
 judge-found l s = rw (le-leb (length l) 255 (s .few)) (rw (s .type) (go (drop (childAt l 0 .next) l) (length-drop (childAt l 0 .next) l)))
   where
-    go : (r : List ℕ) → length r ≡ length l - childAt l 0 .next → eqb (childAt l 0 .next) (length l) ≡ present (nothingBehind (found (s .it) r))
+    go : (r : List ℕ) → length r ≡ length l - childAt l 0 .next → eqb (childAt l 0 .next) (length l) ≡ thereIs (nothingBehind (found (s .it) r))
     go [] e = eq-eqb (childAt l 0 .next) (length l) (omega (arith, s .within))
     go (x ∷ r) e = ne-eqb (childAt l 0 .next) (length l) (λ p. omega arith)
 
 -- both ways: the judge says yes exactly of the texts of a type
 pub judged : (l : List ℕ) (t : Tree) → typeOf l ≡ some t → isType l ≡ true
-judged l t h = ap present h
+judged l t h = ap thereIs h
 
 pub not-judged : (l : List ℕ) → typeOf l ≡ none → isType l ≡ false
-not-judged l h = ap present h
+not-judged l h = ap thereIs h
 
 pub record Judged (l : List ℕ) : Type 0 where
   pub it : Tree
@@ -59,14 +59,14 @@ pub record Judged (l : List ℕ) : Type 0 where
 pub judged-type : (l : List ℕ) → isType l ≡ true → Judged l
 judged-type l h = go (typeOf l) refl h
   where
-    go : (x : Option Tree) → typeOf l ≡ x → present x ≡ true → Judged l
+    go : (x : Option Tree) → typeOf l ≡ x → thereIs x ≡ true → Judged l
     go none e p = let z : _≡_ {A = ℕ} 0 1 = cc in absurd (omega arith)
     go (some t) e p = let s = typeOf-sound l t e in record { it = t; type = e; few = s .few; start = s .alone }
 
 pub judged-none : (l : List ℕ) → isType l ≡ false → typeOf l ≡ none
 judged-none l h = go (typeOf l) h
   where
-    go : (x : Option Tree) → present x ≡ false → x ≡ none
+    go : (x : Option Tree) → thereIs x ≡ false → x ≡ none
     go none p = refl
     go (some t) p = let z : _≡_ {A = ℕ} 0 1 = cc in absurd (omega arith)
 

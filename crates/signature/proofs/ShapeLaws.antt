@@ -6,7 +6,7 @@ use mathlib.Core.Bool.{Bool, true, false, _&&_}
 use Prim.Native.Nat.{ℕ, zero, suc, _+_, _*_, _-_, _/_, _%_, _≤_, _<_, max}
 use native.Mathlib.Omega.{arith}
 use lib.Dec.{leb, eqb}
-use lib.ListN.{length, getD, set}
+use lib.ListN.{length, getD, set, length-set}
 use lib.Seq.{getD-set-same, getD-set-other, ext-getD}
 use borrow.Author.Tests.{le-leb, lt-leb, leb-true, leb-false, eqb-true, eqb-false}
 use Rattle.meaning.specs.Choice.{pick}
@@ -201,6 +201,7 @@ module _ (l : List ℕ) (at place a : ℕ) (f : Bool) (n : length l ≤ 255) (i 
 
 pub filled-none : (l t : List ℕ) (at : ℕ) → length l ≤ at → Filled at l t t
 filled-none l t at h = record {
+  kept = refl;
   each = λ k p q. absurd (omega arith);
   before = λ k p. refl;
   behind = λ k p. refl;
@@ -208,6 +209,7 @@ filled-none l t at h = record {
 
 filled-next : (l t t′ : List ℕ) (at s : ℕ) → at < length l → at < length t′ → Filled (at + 1) l t t′ → s ≡ shapeAt l at → Filled at l t (set t′ at s)
 filled-next l t t′ at s n m i e = record {
+  kept = length-set t′ at s ∙ i .kept;
   each = λ k p q. here k p q (eqb k at) refl;
   before = λ k p. getD-set-other t′ at k s 0 (λ r. omega arith) ∙ i .before k (omega arith);
   behind = λ k p. getD-set-other t′ at k s 0 (λ r. omega arith) ∙ i .behind k p;
@@ -301,12 +303,23 @@ table-judges l t t′ true z a = sym (table-type l t t′ true z a refl)
 table-judges l t t′ false z a = sym (table-refused l t t′ false z a refl)
 
 -- two tables that satisfy the contract are the same
-pub one-table : (l t x y : List ℕ) → length x ≡ length t → length y ≡ length t → Filled 0 l t x → Filled 0 l t y → x ≡ y
-one-table l t x y hx hy fx fy = ext-getD 0 x y (hx ∙ sym hy) (λ k p. at k (leb (length l) k) refl)
+one-table : (l t x y : List ℕ) → Filled 0 l t x → Filled 0 l t y → x ≡ y
+one-table l t x y fx fy = ext-getD 0 x y (fx .kept ∙ sym (fy .kept)) (λ k p. at k (leb (length l) k) refl)
   where
     at : (k : ℕ) (q : Bool) → leb (length l) k ≡ q → getD x k 0 ≡ getD y k 0
     at k true p = fx .behind k (leb-true (length l) k p) ∙ sym (fy .behind k (leb-true (length l) k p))
     at k false p = fx .each k (omega arith) (leb-false (length l) k p) ∙ sym (fy .each k (omega arith) (leb-false (length l) k p))
+
+pub answered-table : (l t x y : List ℕ) (r s : Bool) → Answered l t x r → Answered l t y s → x ≡ y
+answered-table l t x y r s p q = go (leb (length l) 255) (leb (length l) (length t)) refl refl
+  where
+    go : (a b : Bool) → leb (length l) 255 ≡ a → leb (length l) (length t) ≡ b → x ≡ y
+    go true true f g =
+        let few = leb-true (length l) 255 f in
+        let room = leb-true (length l) (length t) g in
+        one-table l t x y (p .filled few room) (q .filled few room)
+    go true false f g = let h = leb-false (length l) (length t) g in p .small h ∙ sym (q .small h)
+    go false b f g = let h = leb-false (length l) 255 f in p .long h ∙ sym (q .long h)
 
 -- ---- a look
 

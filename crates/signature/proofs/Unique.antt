@@ -9,6 +9,9 @@ use Rattle.signature.proofs.key_alignment.Kinds as key-alignment-kinds
 use Rattle.signature.proofs.key_alignment.Reads as key-alignment
 use Rattle.signature.proofs.key_fixed.Kinds as key-fixed-kinds
 use Rattle.signature.proofs.key_fixed.Reads as key-fixed
+use Rattle.signature.proofs.ShapeLaws.{answered-table}
+use Rattle.signature.proofs.shapes.shapes_of.Kinds as shapes-of-kinds
+use Rattle.signature.proofs.shapes.shapes_of.Reads as shapes-of
 use Rattle.signature.proofs.shapes.shape_in.Kinds as shape-in-kinds
 use Rattle.signature.proofs.shapes.shape_in.Reads as shape-in
 use Rattle.signature.proofs.items.item_of.Kinds as item-of-kinds
@@ -25,6 +28,12 @@ key-alignment-unique κs a z z′ w w′ p q = (p ∙ sym q, refl)
 
 pub key-fixed-unique : OneAnswer key-fixed-kinds.ps key-fixed-kinds.r key-fixed.Learnt
 key-fixed-unique κs a z z′ w w′ p q = (p ∙ sym q, refl)
+
+-- text, shapes
+pub shapes-of-unique : OneAnswer shapes-of-kinds.ps shapes-of-kinds.r shapes-of.Learnt
+shapes-of-unique κs a z z′ w w′ p q =
+    let table = answered-table _ _ _ _ z z′ p q in
+    (p .judged ∙ sym (q .judged), λ i. (tt, (table i, tt)))
 
 pub shape-in-unique : OneAnswer shape-in-kinds.ps shape-in-kinds.r shape-in.Learnt
 shape-in-unique κs a z z′ w w′ p q = (p ∙ sym q, refl)

@@ -6,19 +6,20 @@ use Prim.Native.Nat.{ℕ, _+_, _-_, max}
 use lib.Dec.{leb, eqb}
 use lib.ListN.{length, drop}
 use Rattle.meaning.specs.Choice.{pick}
-use Rattle.meaning.specs.Types.{Basic, bool, number, text, Tree, basic, variant, maybe, array, dictionary, structure, numberWidth, basicAlignment, basicFixed, alignment, fixed, fixedSize}
-use Rattle.meaning.specs.Letters.{numberLetter, textLetter}
+use Rattle.meaning.specs.Types.{Basic, bool, number, text, Tree, basic, variant, maybe, array, dictionary, structure, numberWidth, alignment, fixed, fixedSize, entryAlignment, entryFixed}
+use Rattle.meaning.specs.Letters.{numberLetter, textLetter, variantLetter, maybeLetter, arrayLetter, structureLetter, containerEnd, dictionaryLetter, entryEnd}
 use Rattle.meaning.specs.TypeText.{Found, basicOf, firstType, typeOf}
+use Rattle.meaning.specs.Limits.{longestType}
 use Rattle.signature.specs.declared.Letter.{Letter}
 use Rattle.signature.specs.declared.Letter.the-variants.{End, Bad, Boolean, Number, Text, Variant, Maybe, Array, OpenStructure, CloseStructure, OpenEntry, CloseEntry}
 
 -- is a text one complete type of 1 to 255 characters?
-abbrev pub present : {A : Type 0} → Option A → Bool
-present none = false
-present (some a) = true
+abbrev pub thereIs : {A : Type 0} → Option A → Bool
+thereIs none = false
+thereIs (some a) = true
 
 abbrev pub isType : List ℕ → Bool
-isType l = present (typeOf l)
+isType l = thereIs (typeOf l)
 
 -- the letter that a text begins with: a number has its code and its width, a text its code
 abbrev pub basicKind : Basic → Letter
@@ -29,13 +30,13 @@ basicKind (text x) = Text (textLetter x)
 unfoldable pub letterBy : ℕ → Option Basic → Letter
 letterBy c (some b) = basicKind b
 letterBy c none =
-    pick (eqb c 118) Variant
-    (pick (eqb c 109) Maybe
-    (pick (eqb c 97) Array
-    (pick (eqb c 40) OpenStructure
-    (pick (eqb c 41) CloseStructure
-    (pick (eqb c 123) OpenEntry
-    (pick (eqb c 125) CloseEntry
+    pick (eqb c variantLetter) Variant
+    (pick (eqb c maybeLetter) Maybe
+    (pick (eqb c arrayLetter) Array
+    (pick (eqb c structureLetter) OpenStructure
+    (pick (eqb c containerEnd) CloseStructure
+    (pick (eqb c dictionaryLetter) OpenEntry
+    (pick (eqb c entryEnd) CloseEntry
     Bad))))))
 
 -- of a character
@@ -51,7 +52,7 @@ letterAt l at = letterIn (drop at l)
 
 -- the type that begins at a place of a text, and what is left behind it; none in a text of more than 255 characters
 unfoldable pub typeAt : List ℕ → ℕ → Found Tree
-typeAt l at = pick (leb (length l) 255) (firstType (drop at l)) none
+typeAt l at = pick (leb (length l) longestType) (firstType (drop at l)) none
 
 -- what there is to say of the type at a place: its first letter, whether there is one, the place behind it, its alignment, whether it is
 -- fixed, and its fixed size
@@ -79,7 +80,7 @@ childAt l at = childBy (letterAt l at) (length l) (typeAt l at)
 -- the field at a place is the last where `)` stands behind it
 unfoldable pub closedBy : Found Tree → Bool
 closedBy none = false
-closedBy (some g) = elim (g .behind) [ [] ↦ false | c ∷ l ↦ eqb c 41 ]
+closedBy (some g) = elim (g .behind) [ [] ↦ false | c ∷ l ↦ eqb c containerEnd ]
 
 pub record Field : Type 0 where
   pub child : Child
@@ -111,8 +112,8 @@ entryOf l at next (dictionary b t) = record {
   key = basicKind b;
   place = at + 3;
   value = childOf (letterAt l (at + 3)) true (next - 1) (alignment t) (fixed t) (fixedSize t);
-  alignment = max (basicAlignment b) (alignment t);
-  fixed = basicFixed b && fixed t;
+  alignment = entryAlignment b t;
+  fixed = entryFixed b t;
   next = next;
 }
 entryOf l at next (structure ts) = noEntry

@@ -6,6 +6,7 @@ use Prim.Native.Nat.{ℕ, _+_, _*_, _/_, _%_, _≤_, _<_}
 use lib.Dec.{leb}
 use lib.ListN.{length, getD}
 use Rattle.meaning.specs.Choice.{pick}
+use Rattle.meaning.specs.Limits.{longestType}
 use Rattle.signature.specs.Places.{isType, letterAt, childAt}
 use Rattle.signature.specs.declared.Letter.{Letter}
 use Rattle.signature.specs.Places.{Child}
@@ -28,20 +29,21 @@ ShapedFrom from l t = (k : ℕ) → from ≤ k → k < length l → getD t k 0 �
 
 -- a place inside a text of at most 255 characters, and a table with the shapes behind it
 pub record Behind (l : List ℕ) (at : ℕ) (t : List ℕ) : Type 0 where
-  pub few : length l ≤ 255
+  pub few : length l ≤ longestType
   pub room : length l ≤ length t
   pub inside : at < length l
   pub table : ShapedFrom (at + 1) l t
 
 -- a table after a text's shapes from a place on were put into it: nothing else changed
 pub record Filled (from : ℕ) (l t t′ : List ℕ) : Type 0 where
+  pub kept : length t′ ≡ length t
   pub each : ShapedFrom from l t′
   pub before : (k : ℕ) → k < from → getD t′ k 0 ≡ getD t k 0
   pub behind : (k : ℕ) → length l ≤ k → getD t′ k 0 ≡ getD t k 0
 
 -- a table has the shapes of a text of at most 255 characters
 pub record Shaped (l t : List ℕ) : Type 0 where
-  pub few : length l ≤ 255
+  pub few : length l ≤ longestType
   pub room : length l ≤ length t
   pub each : ShapedFrom 0 l t
 
@@ -49,8 +51,8 @@ pub record Shaped (l t : List ℕ) : Type 0 where
 -- was where the text is longer than 255 characters or than the table
 pub record Answered (l t t′ : List ℕ) (r : Bool) : Type 0 where
   pub judged : r ≡ (leb (length l) (length t) && isType l)
-  pub filled : length l ≤ 255 → length l ≤ length t → Filled 0 l t t′
-  pub long : 255 < length l → t′ ≡ t
+  pub filled : length l ≤ longestType → length l ≤ length t → Filled 0 l t t′
+  pub long : longestType < length l → t′ ≡ t
   pub small : length t < length l → t′ ≡ t
 
 -- a number of the table taken apart

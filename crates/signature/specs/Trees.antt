@@ -6,6 +6,7 @@ use Prim.Native.Nat.{ℕ, _≤_}
 use lib.ListN.{length, drop}
 use Rattle.meaning.specs.Types.{bool, Tree, Fields, basic, last}
 use Rattle.meaning.specs.TypeText.{Found, found, firstType, firstFields}
+use Rattle.meaning.specs.Limits.{longestType}
 use Rattle.signature.specs.Places.{childAt}
 use Rattle.signature.specs.Shapes.{Shaped, shape}
 use Rattle.signature.specs.declared.shapes.Shape.{Shape}
@@ -24,7 +25,7 @@ behindBy (some g) = g .behind
 
 -- there is one, in a text that is not too long
 pub record Typed (text : List ℕ) (at : ℕ) : Type 0 where
-  pub short : length text ≤ 255
+  pub short : length text ≤ longestType
   pub found : firstType (drop at text) ≡ found (treeAt text at) (behindBy (firstType (drop at text)))
 
 -- the fields from a place of a text on, where there are some
@@ -36,7 +37,7 @@ abbrev pub fieldsAt : List ℕ → ℕ → Fields
 fieldsAt text at = fieldsBy (firstFields (drop at text))
 
 pub record Rowed (text : List ℕ) (at : ℕ) : Type 0 where
-  pub short : length text ≤ 255
+  pub short : length text ≤ longestType
   pub found : firstFields (drop at text) ≡ found (fieldsAt text at) (behindBy (firstFields (drop at text)))
 
 -- what there is to say of the type at a place

@@ -4,6 +4,7 @@ pub mod items;
 pub mod shapes;
 
 use crate::shapes::shapes_of;
+use meaning::limits::LONGEST_TYPE;
 ghost use mathlib.Core.Path.{_≡_};
 ghost use Rattle.signature.specs.Places.{isType, letterAt, letterOf};
 ghost use Rattle.signature.specs.Steps.{keyAlignment, keyFixed};
@@ -12,7 +13,7 @@ ghost use Rattle.signature.specs.Steps.{keyAlignment, keyFixed};
 pub fn judge(text: &[u8]) -> bool
     ensures { λ r. ⌜ r ≡ isType (now (text .entry)) ⌝ }
 {
-    let mut shapes = [0u16; 255];
+    let mut shapes = [0u16; LONGEST_TYPE];
     shapes_of(text, &mut shapes)
 }
 

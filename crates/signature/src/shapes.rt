@@ -15,6 +15,7 @@ ghost use lib.Dec.{leb};
 ghost use lib.ListN.{length, set};
 ghost use Rattle.signature.specs.Places.{letterAt};
 ghost use Rattle.signature.specs.Shapes.{packed, shapeAt, ShapedFrom, Behind, Filled, Answered, unpacked, shapeIn};
+ghost use Rattle.meaning.specs.Limits.{longestType};
 
 // What a container needs of the type at a place: the place, its first letter, the place behind it (0 where no type begins), its
 // alignment and whether it is fixed.
@@ -27,7 +28,7 @@ pub struct Shape {
 }
 
 fn pack(next: usize, alignment: usize, fixed: bool) -> u16
-    requires { ⌜ (next ≤ 255) × (alignment ≤ 8) ⌝ }
+    requires { ⌜ (next ≤ longestType) × (alignment ≤ 8) ⌝ }
     ensures { λ r. ⌜ r ≡ packed next alignment fixed ⌝ }
 {
     if fixed {
@@ -81,7 +82,7 @@ pub(crate) fn both(a: bool, b: bool) -> bool
 
 // The shape at a place that the table has already.
 fn seen(text: &[u8], shapes: &[u16], at: usize) -> u16
-    requires { ⌜ (length (now text) ≤ 255) × (length (now text) ≤ length (now shapes)) ⌝ }
+    requires { ⌜ (length (now text) ≤ longestType) × (length (now text) ≤ length (now shapes)) ⌝ }
     ensures { λ r. ⌜ ((from : ℕ) → from ≤ at → ShapedFrom from (now (text .entry)) (now (shapes .entry)) → r ≡ shapeAt (now (text .entry)) at) ⌝ }
 {
     if text.len() <= at {
@@ -179,7 +180,7 @@ fn put_at(text: &[u8], at: usize, shapes: &mut [u16])
 // Puts the shapes from a place on into the table: those behind it first, since its children are among them. It goes down two
 // characters at a time, so that `put_at` has a frame of its own and the frames of the recursion are small and half as many.
 fn fill_from(text: &[u8], at: usize, shapes: &mut [u16])
-    requires { ⌜ (length (now text) ≤ 255) × (length (now text) ≤ length (now shapes)) ⌝ }
+    requires { ⌜ (length (now text) ≤ longestType) × (length (now text) ≤ length (now shapes)) ⌝ }
     ensures { λ r. ⌜ Filled at (now (text .entry)) (now (shapes .entry)) (now (shapes .exit)) ⌝ }
 {
     if text.len() <= at {

@@ -5,10 +5,10 @@ Usage: bench/search.py SEED ROUNDS BYTES WORD..
 
 The words run the program of bench/search.c and count it. All is random and follows from the seed. There are two hunts:
 
-- Frames of the oracle's generator, of all its modes. Short frames are judged with their type's characters added to bytes and
-  events, since a call judges the type too.
+- Frames of the oracle's generator, of all its modes. They are short, so their type's characters are added to bytes and events,
+  since a call judges the type too; and those with fewer than LEAST of all three are left out, since a call as such costs something.
 - Types and ways to fill a frame, which breed for so many rounds: the costliest are kept, and changed. They are counted on frames of
-  TRIED bytes; the worst of them again on frames of BYTES.
+  TRIED bytes; the worst of them again on frames of BYTES, unless such a frame is refused where the short one is read.
 
 Frames that are read and frames that are refused are kept and shown apart: a refused one has no events to count, though there were
 some before its refusal, up to 65 for a byte.
@@ -32,6 +32,7 @@ TRIED = 2048            # bytes of the frames that are bred
 KEPT, BRED = 12, 48     # ways kept, and ways tried, in a round
 SHOWN = 5
 GENERATED = 4000        # frames of the oracle's generator
+LEAST = 32
 FILLS = ("zeros", "bytes", "written", "damaged", "table")
 INSIDE = ("", "", "v", "av")
 
@@ -168,7 +169,7 @@ def costliest(pairs):
 
 
 def breed(rng, words, rounds):
-    """The ways that were kept last, the costliest first: those whose frames are read, and those whose are refused."""
+    """Costs and ways that were kept last, the costliest first: those whose frames are read, and those whose are refused."""
     read, refused = [], []
     for turn in range(rounds):
         ways, kept = [], read + refused
@@ -179,7 +180,7 @@ def breed(rng, words, rounds):
         costs = costs_of(words, [frame_of(way, TRIED) for way in ways])
         read, refused = costliest(kept + list(zip(costs, ways, strict=True)))
         print("bench/search.py: round %d, %s" % (turn + 1, [round(each(some[0][0])) for some in (read, refused) if some]), file=sys.stderr)
-    return [[way for _, way in some[:SHOWN]] for some in (read, refused)]
+    return read[:SHOWN], refused[:SHOWN]
 
 
 # What is printed.
@@ -210,17 +211,28 @@ def described(way):
     return way.fill if not way.inside else "%s, and a variant's type `%s`" % (way.fill, short(gen.type_text(way.tree).encode())[:100])
 
 
+def print_generated(words, rng):
+    costs = [cost for cost in costs_of(words, generated(rng)) if len(cost.frame) + cost.events + len(cost.type) >= LEAST]
+    for refused, kind in ((False, "read"), (True, "refused")):
+        worst = sorted((cost for cost in costs if (cost.refusal != 0) == refused), key=each, reverse=True)[:SHOWN]
+        print_worst("The worst of %s generated frames that are %s, for each byte, event and character" % (format(GENERATED, ","), kind),
+                    [(cost, "`%s`" % (cost.frame[:16].hex(" ") or "-")) for cost in worst], True)
+
+
+def lengthened(words, kept, length):
+    """The costs of the ways on long frames, or on those that they were tried on."""
+    long = costs_of(words, [frame_of(way, length) for _, way in kept])
+    chosen = [new if (new.refusal != 0) == (old.refusal != 0) else old for new, (old, _) in zip(long, kept, strict=True)]
+    return sorted(zip(chosen, (described(way) for _, way in kept), strict=True), key=lambda row: -each(row[0], False))
+
+
 def main():
     seed, rounds, length = (int(word) for word in sys.argv[1:4])
     words, rng = sys.argv[4:], random.Random(seed)
-    worst = sorted(costs_of(words, generated(rng)), key=each, reverse=True)
-    for refused, kind in ((False, "read"), (True, "refused")):
-        print_worst("The worst of %s generated frames that are %s, for each byte, event and character" % (format(GENERATED, ","), kind),
-                    [(cost, "`%s`" % (cost.frame[:16].hex(" ") or "-")) for cost in worst if (cost.refusal != 0) == refused][:SHOWN], True)
-    for ways, kind in zip(breed(rng, words, rounds), ("read", "refused"), strict=True):
-        full = list(zip(costs_of(words, [frame_of(way, length) for way in ways]), map(described, ways), strict=True))
+    print_generated(words, rng)
+    for kept, kind in zip(breed(rng, words, rounds), ("read", "refused"), strict=True):
         print_worst("The worst of %s bred frames that are %s, for each byte and event" % (format(rounds * BRED, ","), kind),
-                    sorted(full, key=lambda row: -each(row[0], False)), False)
+                    lengthened(words, kept, length), False)
     return 0
 
 

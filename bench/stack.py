@@ -25,7 +25,7 @@ from frames import bad, gen, good, tree_of  # noqa: E402
 Case = namedtuple("Case", "name type data refusal events")
 Seen = namedtuple("Seen", "case refusal events size read")
 
-KINDS = "am(v{["        # array, maybe, structure, variant, dictionary by texts, dictionary by numbers
+KINDS = {"a": "array", "m": "maybe", "(": "structure", "v": "variant", "{": "dictionary by texts", "[": "dictionary by numbers"}
 LONGEST = 255           # characters of a type
 KEPT, TRIED, ROUNDS, SHOWN = 12, 60, 12, 8
 
@@ -212,7 +212,7 @@ def changed(rng, kinds, inside, insides):
     for _ in range(rng.choice((1, 1, 2, 4, 8))):
         place, other = rng.randrange(len(kinds)), rng.randrange(len(kinds))
         if rng.random() < 0.5:
-            kinds[place] = rng.choice(KINDS)
+            kinds[place] = rng.choice(list(KINDS))
         else:
             kinds[place], kinds[other] = kinds[other], kinds[place]
     return "".join(kinds), inside
@@ -241,7 +241,22 @@ def bare(words):
                            for text in shapes() for data in (b"", b"\5")])
 
 
+def one_more(words, kind):
+    """What the twentieth container of a kind in one another adds."""
+    fewer, more = painted(words, [hunted(kind * count, "a text") for count in (19, 20)])
+    return depth(more) - depth(fewer)
+
+
 # What is printed.
+
+def print_one_more(words):
+    print("## One more container\n")
+    print("| Kind | bytes |")
+    print("|---|---:|")
+    for kind, name in KINDS.items():
+        print("| %s, `%s` | %s |" % (name, kind, format(one_more(words, kind), ",")))
+    print()
+
 
 def print_table(title, seen, deep):
     print("## %s\n" % title)
@@ -269,6 +284,7 @@ def main():
             sys.exit("bench/stack.py: %s: refusal %d, %d events" % (one.case.name, one.refusal, one.events))
     deep = too_deep(words, cases)
     print_table("Cases of each kind", known, deep)
+    print_one_more(words)
     found = sorted(hunt(words) + bare(words), key=depth, reverse=True)
     worst = one_of_each_depth(found)[:SHOWN]
     worst_deep = too_deep(words, [one.case for one in worst])

@@ -2,12 +2,12 @@
 use mathlib.Core.Path.{_≡_, refl, sym, _∙_}
 use mathlib.Core.List.{List, [], _∷_}
 use mathlib.Core.Bool.{Bool, true, false}
-use Prim.Native.Nat.{ℕ, _+_, _≤_, _<_}
+use Prim.Native.Nat.{ℕ, _+_, _-_, _≤_, _<_}
 use native.Mathlib.Omega.{arith}
 use lib.ListN.{length, drop, getD}
-use Rattle.meaning.specs.Texts.{noNul, Wanted, letter, afterByte, utf8From, utf8}
-use Rattle.meaning.proofs.TextSteps.{nul-next, utf8-next, following-ascii, after-letter}
-use Rattle.texts.specs.Letters.{Plain, PlainIf}
+use Rattle.meaning.specs.Texts.{noNul, Wanted, wanted, letter, afterByte, utf8From, utf8}
+use Rattle.meaning.proofs.TextSteps.{nul-next, utf8-next, following-ascii, following-two, following-three, after-letter, after-inside}
+use Rattle.texts.specs.Letters.{Plain, PlainIf, Two, Three}
 
 pub false-is : false ≡ true → ⊥
 false-is t = let z : _≡_ {A = ℕ} 0 1 = cc in omega arith
@@ -50,6 +50,48 @@ pub letter-ends : (s : Wanted) (l : List ℕ) → s .count ≡ 0 → utf8From s 
 unfolding utf8From
 letter-ends s [] e = rw e
 letter-ends s (x ∷ l) e = rw (after-letter s x e, after-letter letter x refl)
+
+-- a byte that a letter still wants
+more-wanted : (l : List ℕ) (j n : ℕ) → j < length l → (128 ≤ getD l j 0) × (getD l j 0 ≤ 191) → utf8From (wanted (n + 1) 128 191) (drop j l) ≡ utf8From (wanted n 128 191) (drop (j + 1) l)
+more-wanted l j n h a =
+    let e : n + 1 - 1 ≡ n = omega arith in
+    utf8-next l j h (wanted (n + 1) 128 191) ∙ rw (after-inside (wanted (n + 1) 128 191) (getD l j 0) (λ z. omega arith) (a .0) (a .1), e)
+
+nul-by : (l : List ℕ) (j : ℕ) → j < length l → 128 ≤ getD l j 0 → noNul (drop j l) ≡ noNul (drop (j + 1) l)
+nul-by l j h a = nul-next l j h (λ z. omega arith)
+
+pub plain-two-bytes : (l : List ℕ) (i : ℕ) → i + 2 < length l → Two (getD l i 0) (getD l (i + 1) 0) → Plain l i (i + 2)
+plain-two-bytes l i h t =
+    let a = t .first in
+    let e : i + 1 + 1 ≡ i + 2 = omega arith in
+    record {
+      from = omega arith;
+      to = omega arith;
+      nul = rw (← e) (nul-next l i (omega arith) (λ z. omega (arith, a .0)) ∙ nul-by l (i + 1) (omega arith) (t .second .0));
+      letters =
+          rw (← e)
+          (utf8-next l i (omega arith) letter
+          ∙ rw (after-letter letter (getD l i 0) refl ∙ following-two (getD l i 0) (a .0) (a .1))
+          (more-wanted l (i + 1) 0 (omega arith) (t .second) ∙ letter-ends (wanted 0 128 191) (drop (i + 1 + 1) l) refl));
+    }
+
+pub plain-three-bytes : (l : List ℕ) (i : ℕ) → i + 2 < length l → Three (getD l i 0) (getD l (i + 1) 0) (getD l (i + 2) 0) → Plain l i (i + 3)
+plain-three-bytes l i h t =
+    let a = t .first in
+    let e : i + 2 + 1 ≡ i + 3 = omega arith in
+    let f : i + 1 + 1 ≡ i + 2 = omega arith in
+    let n : noNul (drop (i + 1) l) ≡ noNul (drop (i + 2) l) = rw (← f) (nul-by l (i + 1) (omega arith) (t .second .0)) in
+    let w : utf8From (wanted 2 128 191) (drop (i + 1) l) ≡ utf8From (wanted 1 128 191) (drop (i + 2) l) = rw (← f) (more-wanted l (i + 1) 1 (omega arith) (t .second)) in
+    record {
+      from = omega arith;
+      to = omega arith;
+      nul = rw (← e) (nul-next l i (omega arith) (λ z. omega (arith, a .0)) ∙ n ∙ nul-by l (i + 2) (omega arith) (t .third .0));
+      letters =
+          rw (← e)
+          (utf8-next l i (omega arith) letter
+          ∙ rw (after-letter letter (getD l i 0) refl ∙ following-three (getD l i 0) (omega (arith, a .0)) (λ z. omega (arith, a .0)) (λ z. omega (arith, a .1)) (omega (arith, a .1)))
+          (w ∙ more-wanted l (i + 2) 0 (omega arith) (t .third) ∙ letter-ends (wanted 0 128 191) (drop (i + 2 + 1) l) refl));
+    }
 
 -- how far a text is judged: what is left from i on, where a letter wants s, answers for all
 pub record Judged (l : List ℕ) (s : Wanted) (i : ℕ) : Type 0 where

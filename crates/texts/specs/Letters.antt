@@ -19,3 +19,13 @@ pub record Plain (l : List ℕ) (i j : ℕ) : Type 0 where
 
 abbrev pub PlainIf : Bool → List ℕ → ℕ → ℕ → Type 0
 PlainIf b l i j = b ≡ true → Plain l i j
+
+-- letters of two and of three bytes, in the ranges that most have
+pub record Two (a b : ℕ) : Type 0 where
+  pub first : (194 ≤ a) × (a ≤ 223)
+  pub second : (128 ≤ b) × (b ≤ 191)
+
+pub record Three (a b c : ℕ) : Type 0 where
+  pub first : (225 ≤ a) × (a ≤ 236)
+  pub second : (128 ≤ b) × (b ≤ 191)
+  pub third : (128 ≤ c) × (c ≤ 191)

@@ -6,7 +6,7 @@ ghost use mathlib.Core.Bool.{true};
 ghost use Prim.Native.Nat.{_+_, _≤_};
 ghost use lib.ListN.{length};
 ghost use Rattle.meaning.specs.Texts.{withoutFinalNul, wanted, following, afterByte, textRefusal};
-ghost use Rattle.texts.specs.Letters.{wantedOf, Plain, PlainIf};
+ghost use Rattle.texts.specs.Letters.{wantedOf, Plain, PlainIf, Two, Three};
 
 // The text of a part: all of it but one final nul. `text_refusal` judges it.
 pub fn text(part: &[u8]) -> &[u8]
@@ -164,6 +164,78 @@ fn plain_end(text: &[u8], start: usize) -> usize
     i
 }
 
+// Whether two bytes, and three, are a letter in the ranges that most letters have.
+fn letter_of_two(first: u8, second: u8) -> bool
+    ensures { λ r. ⌜ (r ≡ true → Two first second) ⌝ }
+{
+    if first < 194 {
+        return false;
+    }
+    if 223 < first {
+        return false;
+    }
+    if second < 128 {
+        return false;
+    }
+    second <= 191
+}
+
+fn letter_of_three(first: u8, second: u8, third: u8) -> bool
+    ensures { λ r. ⌜ (r ≡ true → Three first second third) ⌝ }
+{
+    if first < 225 {
+        return false;
+    }
+    if 236 < first {
+        return false;
+    }
+    if second < 128 {
+        return false;
+    }
+    if 191 < second {
+        return false;
+    }
+    if third < 128 {
+        return false;
+    }
+    third <= 191
+}
+
+// Where such a letter at a place ends; the place itself where there is none, or fewer than three bytes are left.
+fn letter_end(text: &[u8], i: usize) -> usize
+    requires { ⌜ i ≤ length (now text) ⌝ }
+    ensures { λ r. ⌜ Plain (now (text .entry)) i r ⌝ }
+{
+    if text.len() - i < 3 {
+        return i;
+    }
+    let first = text[i];
+    let second = text[i + 1];
+    let third = text[i + 2];
+    if letter_of_three(first, second, third) {
+        return i + 3;
+    }
+    if letter_of_two(first, second) {
+        return i + 2;
+    }
+    i
+}
+
+// Where a run of whole letters ends, from a place on: those of one byte, and such letters one behind another.
+fn letters_end(text: &[u8], start: usize) -> usize
+    requires { ⌜ start ≤ length (now text) ⌝ }
+    ensures { λ r. ⌜ Plain (now (text .entry)) start r ⌝ }
+{
+    let mut i = plain_end(text, start);
+    loop {
+        let end = letter_end(text, i);
+        if end == i {
+            return i;
+        }
+        i = end;
+    }
+}
+
 // The refusal of a text, 0 where there is none: a nul in it before a letter that is not UTF-8.
 pub fn text_refusal(text: &[u8]) -> u8
     ensures { λ r. ⌜ r ≡ textRefusal (now (text .entry)) ⌝ }
@@ -178,7 +250,7 @@ pub fn text_refusal(text: &[u8]) -> u8
         wanted = after_byte(wanted, byte);
         i += 1;
         if wanted.count == 0 {
-            i = plain_end(text, i);
+            i = letters_end(text, i);
         }
     }
     if wanted.count == 0 {

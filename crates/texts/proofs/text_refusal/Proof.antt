@@ -36,14 +36,14 @@ after-byte-requires c κs = search needs
 add-i : tie.Need-add-i Inv-loop μ-loop
 add-i c = omega arith
 
-plain-end-requires-2 : tie.Need-plain-end-requires-2 Inv-loop μ-loop
-plain-end-requires-2 c κs = omega arith
+letters-end-requires : tie.Need-letters-end-requires Inv-loop μ-loop
+letters-end-requires c κs = omega arith
 
 loop-less : tie.Need-loop-less Inv-loop μ-loop
-loop-less c = omega (arith, c .plain-end2 .ensures .from, c .plain-end2 .ensures .to)
+loop-less c = omega (arith, c .letters-end .ensures .from, c .letters-end .ensures .to)
 
 loop-again : tie.Need-loop-again Inv-loop μ-loop
-loop-again c = judged-plain _ _ _ _ (c .before .if2 .taken) (judged-next (c .before .before .before .before .before .before .before .before .before .before .before .args .text .now) (wantedOf (c .before .before .before .before .before .before .before .loop .wanted)) (c .before .before .before .before .before .before .before .loop .i) (c .before .before .before .before .before .before .before .loop .inv) (c .before .before .before .before .before .before .loop-test .taken) (c .before .before .before .before .if1 .left) (c .before .before .before .after-byte .ensures)) (c .plain-end2 .ensures)
+loop-again c = judged-plain _ _ _ _ (c .before .if2 .taken) (judged-next (c .before .before .before .before .before .before .before .before .before .before .before .args .text .now) (wantedOf (c .before .before .before .before .before .before .before .loop .wanted)) (c .before .before .before .before .before .before .before .loop .i) (c .before .before .before .before .before .before .before .loop .inv) (c .before .before .before .before .before .before .loop-test .taken) (c .before .before .before .before .if1 .left) (c .before .before .before .after-byte .ensures)) (c .letters-end .ensures)
 
 loop-less-2 : tie.Need-loop-less-2 Inv-loop μ-loop
 loop-less-2 c = omega arith
@@ -70,7 +70,7 @@ text-refusal-spec =
     returns
     after-byte-requires
     add-i
-    plain-end-requires-2
+    letters-end-requires
     loop-less
     loop-again
     loop-less-2

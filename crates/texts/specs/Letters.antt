@@ -2,8 +2,8 @@
 use mathlib.Core.Path.{_≡_}
 use mathlib.Core.List.{List}
 use mathlib.Core.Bool.{Bool, true}
-use Prim.Native.Nat.{ℕ, _≤_}
-use lib.ListN.{length, drop}
+use Prim.Native.Nat.{ℕ, _≤_, _<_}
+use lib.ListN.{length, drop, getD}
 use Rattle.meaning.specs.Texts as texts
 use Rattle.texts.specs.declared.Wanted.{Wanted}
 
@@ -19,6 +19,13 @@ pub record Plain (l : List ℕ) (i j : ℕ) : Type 0 where
 
 abbrev pub PlainIf : Bool → List ℕ → ℕ → ℕ → Type 0
 PlainIf b l i j = b ≡ true → Plain l i j
+
+-- each byte from i to j is a letter by itself
+abbrev pub PlainByte : ℕ → Type 0
+PlainByte b = (1 ≤ b) × (b ≤ 127)
+
+abbrev pub PlainBytesIf : Bool → List ℕ → ℕ → ℕ → Type 0
+PlainBytesIf b l i j = b ≡ true → (k : ℕ) → i ≤ k → k < j → PlainByte (getD l k 0)
 
 -- letters of two and of three bytes, in the ranges that most have
 pub record Two (a b : ℕ) : Type 0 where

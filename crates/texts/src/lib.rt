@@ -3,10 +3,10 @@ use meaning::refusals::NOT_UTF8;
 use meaning::refusals::NUL_IN_TEXT;
 ghost use mathlib.Core.Path.{_≡_};
 ghost use mathlib.Core.Bool.{true};
-ghost use Prim.Native.Nat.{_+_, _≤_};
+ghost use Prim.Native.Nat.{_+_, _≤_, _<_};
 ghost use lib.ListN.{length};
 ghost use Rattle.meaning.specs.Texts.{withoutFinalNul, wanted, following, afterByte, textRefusal};
-ghost use Rattle.texts.specs.Letters.{wantedOf, Plain, PlainIf, Two, Three};
+ghost use Rattle.texts.specs.Letters.{wantedOf, Plain, PlainIf, PlainBytesIf, Two, Three};
 
 // The text of a part: all of it but one final nul. `text_refusal` judges it.
 pub fn text(part: &[u8]) -> &[u8]
@@ -97,10 +97,10 @@ fn plain(byte: u8) -> bool
     byte <= 127
 }
 
-// Whether two, four and eight bytes from a place on are: each looks at all its bytes, so that no branch is taken for each.
+// Whether two, four, eight and sixteen bytes from a place on are: each looks at all its bytes, so that no branch is taken for each.
 fn plain_two(text: &[u8], i: usize) -> bool
     requires { ⌜ i + 2 ≤ length (now text) ⌝ }
-    ensures { λ r. ⌜ PlainIf r (now (text .entry)) i (i + 2) ⌝ }
+    ensures { λ r. ⌜ PlainBytesIf r (now (text .entry)) i (i + 2) ⌝ }
 {
     let first = plain(text[i]);
     let second = plain(text[i + 1]);
@@ -112,7 +112,7 @@ fn plain_two(text: &[u8], i: usize) -> bool
 
 fn plain_four(text: &[u8], i: usize) -> bool
     requires { ⌜ i + 4 ≤ length (now text) ⌝ }
-    ensures { λ r. ⌜ PlainIf r (now (text .entry)) i (i + 4) ⌝ }
+    ensures { λ r. ⌜ PlainBytesIf r (now (text .entry)) i (i + 4) ⌝ }
 {
     let first = plain_two(text, i);
     let second = plain_two(text, i + 2);
@@ -124,7 +124,7 @@ fn plain_four(text: &[u8], i: usize) -> bool
 
 fn plain_eight(text: &[u8], i: usize) -> bool
     requires { ⌜ i + 8 ≤ length (now text) ⌝ }
-    ensures { λ r. ⌜ PlainIf r (now (text .entry)) i (i + 8) ⌝ }
+    ensures { λ r. ⌜ PlainBytesIf r (now (text .entry)) i (i + 8) ⌝ }
 {
     let first = plain_four(text, i);
     let second = plain_four(text, i + 4);
@@ -134,17 +134,96 @@ fn plain_eight(text: &[u8], i: usize) -> bool
     false
 }
 
-// As far as eight bytes at a time go, from a place on.
-fn plain_eights(text: &[u8], start: usize) -> usize
+fn plain_sixteen(text: &[u8], i: usize) -> bool
+    requires { ⌜ i + 16 ≤ length (now text) ⌝ }
+    ensures { λ r. ⌜ PlainBytesIf r (now (text .entry)) i (i + 16) ⌝ }
+{
+    let first = plain_eight(text, i);
+    let second = plain_eight(text, i + 8);
+    if first {
+        return second;
+    }
+    false
+}
+
+// As far as sixteen bytes at a time go, from a place on.
+fn plain_sixteens(text: &[u8], start: usize) -> usize
     requires { ⌜ start ≤ length (now text) ⌝ }
     ensures { λ r. ⌜ Plain (now (text .entry)) start r ⌝ }
 {
     let mut i = start;
-    while 8 <= text.len() - i {
-        if !plain_eight(text, i) {
+    while 16 <= text.len() - i {
+        if !plain_sixteen(text, i) {
             return i;
         }
-        i += 8;
+        i += 16;
+    }
+    i
+}
+
+// Whether all of a text of fewer than sixteen bytes is: by two steps, which may overlap.
+fn plain_short(text: &[u8]) -> bool
+    requires { ⌜ length (now text) < 16 ⌝ }
+    ensures { λ r. ⌜ PlainIf r (now (text .entry)) 0 (length (now (text .entry))) ⌝ }
+{
+    if 8 <= text.len() {
+        let first = plain_eight(text, 0);
+        let last = plain_eight(text, text.len() - 8);
+        if first {
+            return last;
+        }
+        return false;
+    }
+    if 4 <= text.len() {
+        let first = plain_four(text, 0);
+        let last = plain_four(text, text.len() - 4);
+        if first {
+            return last;
+        }
+        return false;
+    }
+    if 2 <= text.len() {
+        let first = plain_two(text, 0);
+        let last = plain_two(text, text.len() - 2);
+        if first {
+            return last;
+        }
+        return false;
+    }
+    if text.len() == 1 {
+        return plain(text[0]);
+    }
+    true
+}
+
+// Whether what is left of a longer text is, where that is fewer than sixteen bytes: by the last sixteen.
+fn plain_last(text: &[u8], i: usize) -> bool
+    requires { ⌜ (16 ≤ length (now text)) × (i ≤ length (now text)) ⌝ }
+    ensures { λ r. ⌜ PlainIf r (now (text .entry)) i (length (now (text .entry))) ⌝ }
+{
+    if 16 <= text.len() - i {
+        return false;
+    }
+    plain_sixteen(text, text.len() - 16)
+}
+
+// Where a run ends, in steps: eight bytes, since most runs between other letters are short; then sixteens; then eight again.
+fn plain_steps(text: &[u8], start: usize) -> usize
+    requires { ⌜ start ≤ length (now text) ⌝ }
+    ensures { λ r. ⌜ Plain (now (text .entry)) start r ⌝ }
+{
+    if text.len() - start < 8 {
+        return start;
+    }
+    if !plain_eight(text, start) {
+        return start;
+    }
+    let i = plain_sixteens(text, start + 8);
+    if text.len() - i < 8 {
+        return i;
+    }
+    if plain_eight(text, i) {
+        return i + 8;
     }
     i
 }
@@ -154,7 +233,7 @@ fn plain_end(text: &[u8], start: usize) -> usize
     requires { ⌜ start ≤ length (now text) ⌝ }
     ensures { λ r. ⌜ Plain (now (text .entry)) start r ⌝ }
 {
-    let mut i = plain_eights(text, start);
+    let mut i = plain_steps(text, start);
     while i < text.len() {
         if !plain(text[i]) {
             return i;
@@ -162,6 +241,16 @@ fn plain_end(text: &[u8], start: usize) -> usize
         i += 1;
     }
     i
+}
+
+// Whether a byte stands inside a letter.
+fn inside(byte: u8) -> bool
+    ensures { λ r. ⌜ (r ≡ true → (128 ≤ byte) × (byte ≤ 191)) ⌝ }
+{
+    if byte < 128 {
+        return false;
+    }
+    byte <= 191
 }
 
 // Whether two bytes, and three, are a letter in the ranges that most letters have.
@@ -174,10 +263,7 @@ fn letter_of_two(first: u8, second: u8) -> bool
     if 223 < first {
         return false;
     }
-    if second < 128 {
-        return false;
-    }
-    second <= 191
+    inside(second)
 }
 
 fn letter_of_three(first: u8, second: u8, third: u8) -> bool
@@ -189,59 +275,131 @@ fn letter_of_three(first: u8, second: u8, third: u8) -> bool
     if 236 < first {
         return false;
     }
-    if second < 128 {
+    if !inside(second) {
         return false;
     }
-    if 191 < second {
-        return false;
-    }
-    if third < 128 {
-        return false;
-    }
-    third <= 191
+    inside(third)
 }
 
-// Where such a letter at a place ends; the place itself where there is none, or fewer than three bytes are left.
-fn letter_end(text: &[u8], i: usize) -> usize
-    requires { ⌜ i ≤ length (now text) ⌝ }
-    ensures { λ r. ⌜ Plain (now (text .entry)) i r ⌝ }
+// Whether one of three bytes stands at a place.
+fn three_at(text: &[u8], i: usize) -> bool
+    requires { ⌜ i + 3 ≤ length (now text) ⌝ }
+    ensures { λ r. ⌜ PlainIf r (now (text .entry)) i (i + 3) ⌝ }
 {
+    letter_of_three(text[i], text[i + 1], text[i + 2])
+}
+
+// Where such letters of three bytes end, one behind another, from a place on: two at a time, as far as they go.
+fn threes_end(text: &[u8], start: usize) -> usize
+    requires { ⌜ start ≤ length (now text) ⌝ }
+    ensures { λ r. ⌜ Plain (now (text .entry)) start r ⌝ }
+{
+    let mut i = start;
+    while 6 <= text.len() - i {
+        if !three_at(text, i) {
+            return i;
+        }
+        if !three_at(text, i + 3) {
+            return i + 3;
+        }
+        i += 6;
+    }
     if text.len() - i < 3 {
         return i;
     }
-    let first = text[i];
-    let second = text[i + 1];
-    let third = text[i + 2];
-    if letter_of_three(first, second, third) {
+    if three_at(text, i) {
         return i + 3;
-    }
-    if letter_of_two(first, second) {
-        return i + 2;
     }
     i
 }
 
-// Where a run of whole letters ends, from a place on: those of one byte, and such letters one behind another.
+// Where the letter of three or four bytes at a place ends, by what its first byte wants; the place itself where there is none.
+fn wanted_end(text: &[u8], i: usize) -> usize
+    requires { ⌜ i ≤ length (now text) ⌝ }
+    ensures { λ r. ⌜ Plain (now (text .entry)) i r ⌝ }
+{
+    if text.len() - i < 4 {
+        return i;
+    }
+    let first = text[i];
+    let second = text[i + 1];
+    if first < 128 {
+        return i;
+    }
+    if second < 128 {
+        return i;
+    }
+    let wanted = first_byte(first);
+    if second < wanted.low {
+        return i;
+    }
+    if wanted.high < second {
+        return i;
+    }
+    if !inside(text[i + 2]) {
+        return i;
+    }
+    if wanted.count == 2 {
+        return i + 3;
+    }
+    if wanted.count != 3 {
+        return i;
+    }
+    if !inside(text[i + 3]) {
+        return i;
+    }
+    i + 4
+}
+
+// Where letters of three bytes end, or a letter of four, at a place; the place itself where there are none.
+fn wide_end(text: &[u8], i: usize) -> usize
+    requires { ⌜ i ≤ length (now text) ⌝ }
+    ensures { λ r. ⌜ Plain (now (text .entry)) i r ⌝ }
+{
+    let end = threes_end(text, i);
+    if end == i {
+        return wanted_end(text, i);
+    }
+    end
+}
+
+// Where a run of whole letters ends, from a place on.
 fn letters_end(text: &[u8], start: usize) -> usize
     requires { ⌜ start ≤ length (now text) ⌝ }
     ensures { λ r. ⌜ Plain (now (text .entry)) start r ⌝ }
 {
-    let mut i = plain_end(text, start);
+    let mut i = start;
     loop {
-        let end = letter_end(text, i);
-        if end == i {
+        if text.len() - i < 2 {
             return i;
         }
-        i = end;
+        let first = text[i];
+        let second = text[i + 1];
+        if plain(first) {
+            if plain(second) {
+                i = plain_end(text, i + 1);
+            } else {
+                i += 1;
+            }
+        } else if letter_of_two(first, second) {
+            i += 2;
+        } else {
+            let end = wide_end(text, i);
+            if end == i {
+                return i;
+            }
+            i = end;
+        }
     }
 }
 
-// The refusal of a text, 0 where there is none: a nul in it before a letter that is not UTF-8.
-pub fn text_refusal(text: &[u8]) -> u8
+// The refusal of a text from a place on, up to which it has whole letters.
+fn refusal_from(text: &[u8], start: usize) -> u8
+    requires { ⌜ Plain (now text) 0 start ⌝ }
     ensures { λ r. ⌜ r ≡ textRefusal (now (text .entry)) ⌝ }
 {
     let mut wanted = Wanted::new(0, 0, 0);
-    let mut i = plain_end(text, 0);
+    let mut i = start;
     while i < text.len() {
         let byte = text[i];
         if byte == 0 {
@@ -257,4 +415,21 @@ pub fn text_refusal(text: &[u8]) -> u8
         return 0;
     }
     NOT_UTF8
+}
+
+// The refusal of a text, 0 where there is none: a nul in it before a letter that is not UTF-8.
+pub fn text_refusal(text: &[u8]) -> u8
+    ensures { λ r. ⌜ r ≡ textRefusal (now (text .entry)) ⌝ }
+{
+    if text.len() < 16 {
+        if plain_short(text) {
+            return 0;
+        }
+        return refusal_from(text, 0);
+    }
+    let i = plain_sixteens(text, 0);
+    if plain_last(text, i) {
+        return 0;
+    }
+    refusal_from(text, i)
 }

@@ -1,7 +1,8 @@
+-- `plain_two` meets its contract. Assumes nothing.
 use native.Mathlib.Omega.{arith}
 use borrow.Author.Needs.{needs}
 use Prim.Native.Nat.{_+_}
-use Rattle.texts.proofs.Runs.{plain-byte, plain-halves, plain-false}
+use Rattle.texts.proofs.Runs.{bytes-one, bytes-halves, false-is}
 use Rattle.texts.proofs.plain_two.Statement.{statement}
 use Rattle.texts.proofs.plain_two.Tie as tie
 
@@ -22,11 +23,11 @@ plain-requires-2 c κs = search needs
 
 returns : tie.Need-returns
 returns c =
-    plain-halves (c .before .before .before .before .before .before .args .text .now) (c .before .before .before .before .before .before .args .i) 1 (plain-byte (c .before .before .before .before .before .before .args .text .now) (c .before .before .before .before .before .before .args .i) (omega arith) (c .before .before .before .plain .ensures))
-    (plain-byte (c .before .before .before .before .before .before .args .text .now) (c .before .before .before .before .before .before .args .i + 1) (omega arith) (c .before .plain2 .ensures)) (c .if1 .taken)
+    bytes-halves (c .before .before .before .before .before .before .args .text .now) (c .before .before .before .before .before .before .args .i) 1 (bytes-one (c .before .before .before .before .before .before .args .text .now) (c .before .before .before .before .before .before .args .i) (c .before .before .before .plain .ensures))
+    (bytes-one (c .before .before .before .before .before .before .args .text .now) (c .before .before .before .before .before .before .args .i + 1) (c .before .plain2 .ensures)) (c .if1 .taken)
 
 returns-2 : tie.Need-returns-2
-returns-2 c = plain-false _ _ _
+returns-2 c t = absurd (false-is t)
 
 pub plain-two-spec : {M : Type 1} → statement M
 plain-two-spec =

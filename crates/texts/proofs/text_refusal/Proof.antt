@@ -1,79 +1,62 @@
-use mathlib.Core.Path.{sym, _∙_}
-use Prim.Native.Nat.{_-_}
-use native.Mathlib.Omega.{arith}
-use lib.ListN.{length}
+-- `text_refusal` meets its contract. Assumes nothing.
+use mathlib.Core.Path.{sym}
+use Rattle.texts.proofs.Runs.{plain-on, plain-whole}
 use borrow.Author.Needs.{needs}
-use Rattle.meaning.proofs.TextSteps.{nul-stop, text-nul, text-whole, text-broken}
-use Rattle.texts.specs.Letters.{wantedOf}
-use Rattle.texts.proofs.Runs.{Judged, judged-begin, judged-next, judged-plain}
 use Rattle.texts.proofs.text_refusal.Statement.{statement}
 use Rattle.texts.proofs.text_refusal.Tie as tie
+use Rattle.texts.proofs.text_refusal.Reads as reads
+use Rattle.texts.proofs.text_refusal.Lts as lts
+use Rattle.texts.proofs.plain_last.Reads as plain-last-reads
+use Rattle.texts.proofs.plain_short.Reads as plain-short-reads
+use Rattle.texts.proofs.plain_sixteens.Reads as plain-sixteens-reads
+use Rattle.texts.proofs.refusal_from.Reads as refusal-from-reads
 
-abbrev Inv-loop : tie.InvT-loop
-Inv-loop text wanted₀ i₀ wanted i = Judged text (wantedOf wanted) i
+-- src/lib.rt:417:12
+plain-short-requires : tie.Need-plain-short-requires
+plain-short-requires c κs = search needs
 
-abbrev μ-loop : tie.MeasureT-loop
-μ-loop text wanted₀ i₀ wanted i = length text - i
+-- src/lib.rt:418:13
+returns : tie.Need-returns
+returns c = sym (plain-whole (c .before .before .before .before .args .text .now) (c .before .plain-short .ensures (c .if2 .taken)))
 
-new-requires : tie.Need-new-requires Inv-loop μ-loop
-new-requires c κs = search needs
+-- src/lib.rt:420:9
+refusal-from-requires : tie.Need-refusal-from-requires
+refusal-from-requires c κs = search needs
 
-plain-end-requires : tie.Need-plain-end-requires Inv-loop μ-loop
-plain-end-requires c κs = search needs
+-- src/lib.rt:420:9
+returns-2 : tie.Need-returns-2
+returns-2 c = search needs
 
-loop-holds : tie.Need-loop-holds Inv-loop μ-loop
-loop-holds c = judged-begin _ _ _ (c .before .new .ensures) (c .plain-end .ensures)
+-- src/lib.rt:422:9
+plain-sixteens-requires : tie.Need-plain-sixteens-requires
+plain-sixteens-requires c κs = search needs
 
-shared-slice-read-byte : tie.Need-shared-slice-read-byte Inv-loop μ-loop
-shared-slice-read-byte c = omega arith
+-- src/lib.rt:423:8
+plain-last-requires : tie.Need-plain-last-requires
+plain-last-requires c κs = search needs
 
-returns : tie.Need-returns Inv-loop μ-loop
-returns c = sym (text-nul (c .before .before .before .before .before .before .before .args .text .now) (c .before .before .before .loop .inv .nul ∙ nul-stop (c .before .before .before .before .before .before .before .args .text .now) _ (c .before .before .loop-test .taken) (c .if1 .taken)))
+-- src/lib.rt:424:9
+returns-3 : tie.Need-returns-3
+returns-3 c = sym (plain-whole (c .before .before .before .before .before .args .text .now) (plain-on _ _ _ _ (c .before .before .plain-sixteens .ensures) (c .before .plain-last .ensures (c .if3 .taken))))
 
-after-byte-requires : tie.Need-after-byte-requires Inv-loop μ-loop
-after-byte-requires c κs = search needs
+-- src/lib.rt:426:5
+refusal-from-requires-2 : tie.Need-refusal-from-requires-2
+refusal-from-requires-2 c κs = search needs
 
-add-i : tie.Need-add-i Inv-loop μ-loop
-add-i c = omega arith
-
-letters-end-requires : tie.Need-letters-end-requires Inv-loop μ-loop
-letters-end-requires c κs = omega arith
-
-loop-less : tie.Need-loop-less Inv-loop μ-loop
-loop-less c = omega (arith, c .letters-end .ensures .from, c .letters-end .ensures .to)
-
-loop-again : tie.Need-loop-again Inv-loop μ-loop
-loop-again c = judged-plain _ _ _ _ (c .before .if2 .taken) (judged-next (c .before .before .before .before .before .before .before .before .before .before .before .args .text .now) (wantedOf (c .before .before .before .before .before .before .before .loop .wanted)) (c .before .before .before .before .before .before .before .loop .i) (c .before .before .before .before .before .before .before .loop .inv) (c .before .before .before .before .before .before .loop-test .taken) (c .before .before .before .before .if1 .left) (c .before .before .before .after-byte .ensures)) (c .letters-end .ensures)
-
-loop-less-2 : tie.Need-loop-less-2 Inv-loop μ-loop
-loop-less-2 c = omega arith
-
-loop-again-2 : tie.Need-loop-again-2 Inv-loop μ-loop
-loop-again-2 c = judged-next (c .before .before .before .before .before .before .before .before .before .before .args .text .now) (wantedOf (c .before .before .before .before .before .before .loop .wanted)) (c .before .before .before .before .before .before .loop .i) (c .before .before .before .before .before .before .loop .inv) (c .before .before .before .before .before .loop-test .taken) (c .before .before .before .if1 .left) (c .before .before .after-byte .ensures)
-
-returns-2 : tie.Need-returns-2 Inv-loop μ-loop
-returns-2 c = sym (text-whole (c .before .before .before .before .before .before .before .args .text .now) _ _ (c .before .before .loop-test .left) (c .before .before .before .loop .inv .nul) (c .before .before .before .loop .inv .letters) (c .if3 .taken))
-
-returns-3 : tie.Need-returns-3 Inv-loop μ-loop
-returns-3 c = sym (text-broken (c .before .before .before .before .before .before .before .args .text .now) _ _ (c .before .before .loop-test .left) (c .before .before .before .loop .inv .nul) (c .before .before .before .loop .inv .letters) (c .if3 .left))
+-- src/lib.rt:413:1
+returns-4 : tie.Need-returns-4
+returns-4 c = search needs
 
 pub text-refusal-spec : {M : Type 1} → statement M
 text-refusal-spec =
     tie.close
     (tie.spec
-    Inv-loop
-    μ-loop
-    new-requires
-    plain-end-requires
-    loop-holds
-    shared-slice-read-byte
+    plain-short-requires
     returns
-    after-byte-requires
-    add-i
-    letters-end-requires
-    loop-less
-    loop-again
-    loop-less-2
-    loop-again-2
+    refusal-from-requires
     returns-2
-    returns-3)
+    plain-sixteens-requires
+    plain-last-requires
+    returns-3
+    refusal-from-requires-2
+    returns-4)

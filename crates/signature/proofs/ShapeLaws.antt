@@ -6,9 +6,11 @@ use mathlib.Core.Bool.{Bool, true, false, _&&_}
 use Prim.Native.Nat.{ℕ, zero, suc, _+_, _*_, _-_, _/_, _%_, _≤_, _<_, max}
 use native.Mathlib.Omega.{arith}
 use lib.Dec.{leb, eqb}
+use types.Run.{OneOf, miss}
+use denote.Enum.Declared.{tagOf}
 use lib.ListN.{length, getD, set, length-set}
 use lib.Seq.{getD-set-same, getD-set-other, ext-getD}
-use borrow.Author.Tests.{le-leb, lt-leb, leb-true, leb-false, eqb-true, eqb-false}
+use borrow.Author.Tests.{le-leb, lt-leb, leb-true, leb-false, eqb-true, eqb-false, eq-eqb}
 use Rattle.meaning.specs.Choice.{pick}
 use Rattle.meaning.specs.Types.{Basic, bool, number, text, basicAlignment, rounded}
 use Rattle.meaning.proofs.PaddingLaws.{aligns-positive}
@@ -18,7 +20,8 @@ use Rattle.signature.specs.Steps.{keyAlignment}
 use Rattle.signature.specs.Places.{Child}
 use Rattle.signature.specs.Places.{Entry}
 use Rattle.signature.specs.declared.Letter.{Letter}
-use Rattle.signature.specs.declared.Letter.the-variants.{End, Number, Maybe, Array, OpenStructure, CloseStructure, OpenEntry, CloseEntry}
+use Rattle.signature.specs.declared.Letter.the-variants.{End, Bad, Boolean, Number, Text, Variant, Maybe, Array, OpenStructure, CloseStructure, OpenEntry, CloseEntry}
+use Rattle.signature.proofs.Letter.{the-type}
 use Rattle.signature.proofs.Letters.{letter-end, mark, cut, key-at, alone, loneChild, child-lone}
 use Rattle.signature.proofs.Children.{heldBy, dictionaryBy, child-maybe, child-array, child-dictionary, child-found, Stands, entry-whole, Fielding, fields-begin, fields-missing, fields-next, fields-last}
 use Rattle.signature.proofs.Answers.{judge-missing, judge-found, judged-type, child-long}
@@ -197,6 +200,28 @@ module _ (l : List ℕ) (at place a : ℕ) (f : Bool) (n : length l ≤ 255) (i 
     pub fielded-onward : (place < p) × (p ≤ length l)
     fielded-onward = let o = k .stands .onward in let w = k .stands .within in let e = place-is in omega arith
 
+-- ---- a text of one letter
+
+held-nothing : (l : List ℕ) → length l ≡ 1 → 0 ≡ shapeAt l (0 + 1)
+held-nothing l e = shape-end l (0 + 1) (omega arith) (omega arith)
+
+pub lone-none : (l : List ℕ) (k : Letter) → length l ≡ 1 → letterAt l 0 ≡ k → OneOf (0 ∷ 1 ∷ 6 ∷ 7 ∷ 8 ∷ 9 ∷ 10 ∷ 11 ∷ []) (tagOf the-type k) → 0 ≡ shapeAt l 0
+unfolding shapeOf
+lone-none l End e h w = shape-lone l 0 End (omega arith) h refl
+lone-none l Bad e h w = shape-lone l 0 Bad (omega arith) h refl
+lone-none l Boolean e h w = absurd (miss (0 ∷ 1 ∷ 6 ∷ 7 ∷ 8 ∷ 9 ∷ 10 ∷ 11 ∷ []) 2 tt w)
+lone-none l (Number c m) e h w = absurd (miss (0 ∷ 1 ∷ 6 ∷ 7 ∷ 8 ∷ 9 ∷ 10 ∷ 11 ∷ []) 3 tt w)
+lone-none l (Text c) e h w = absurd (miss (0 ∷ 1 ∷ 6 ∷ 7 ∷ 8 ∷ 9 ∷ 10 ∷ 11 ∷ []) 4 tt w)
+lone-none l Variant e h w = absurd (miss (0 ∷ 1 ∷ 6 ∷ 7 ∷ 8 ∷ 9 ∷ 10 ∷ 11 ∷ []) 5 tt w)
+lone-none l Maybe e h w = shape-maybe l 0 0 (omega arith) h (held-nothing l e)
+lone-none l Array e h w =
+    let o : letterAt l (0 + 1) ≡ End = letter-end l (0 + 1) (omega arith) in
+    shape-array l 0 0 (omega arith) h (λ q. let z : End ≡ OpenEntry = sym o ∙ q in let y : _≡_ {A = ℕ} 0 1 = cc in omega arith) (held-nothing l e)
+lone-none l OpenStructure e h w = fielded-missing l 0 (0 + 1) 1 true (omega arith) (fielded-begin l 0 (omega arith) h) 0 (held-nothing l e) refl
+lone-none l CloseStructure e h w = shape-lone l 0 CloseStructure (omega arith) h refl
+lone-none l OpenEntry e h w = shape-lone l 0 OpenEntry (omega arith) h refl
+lone-none l CloseEntry e h w = shape-lone l 0 CloseEntry (omega arith) h refl
+
 -- ---- the table as it fills
 
 pub filled-none : (l t : List ℕ) (at : ℕ) → length l ≤ at → Filled at l t t
@@ -263,6 +288,22 @@ module _ (l t t′ : List ℕ) (s : ℕ) (n : length l ≤ 255) (m : length l �
   answered-found z r h =
       let k = known l 0 s e z in
       answered (eqb r (length l)) (ap (λ (x : ℕ). eqb x (length l)) (h ∙ k .next) ∙ judge-found l (k .stands))
+
+-- a text of one letter: whatever type begins there ends with it
+module _ (l t : List ℕ) (s : ℕ) (n : length l ≡ 1) (m : length l ≤ length t) (e : s ≡ shapeAt l 0) where
+  lone-filled : Filled 0 l t (set t 0 s)
+  lone-filled = filled-next l t t 0 s (omega arith) (omega arith) (filled-none l t (0 + 1) (omega arith)) e
+
+  pub answered-lone-none : s ≡ 0 → Answered l t (set t 0 s) false
+  answered-lone-none z = answered-none l t (set t 0 s) s (omega arith) m lone-filled e z
+
+  pub answered-lone : (s ≡ 0 → ⊥) → Answered l t (set t 0 s) true
+  answered-lone z =
+      let k = known l 0 s e z in
+      let o = k .stands .onward in
+      let w = k .stands .within in
+      let q : eqb (s / 32) (length l) ≡ true = eq-eqb (s / 32) (length l) (omega (arith, k .next)) in
+      rw q at (answered-found l t (set t 0 s) s (omega arith) m lone-filled e z (s / 32) refl)
 
 -- what a caller with a table for 255 characters learns: a refusal says that the text is no type, and otherwise the table can be asked
 module _ (l t t′ : List ℕ) (r : Bool) (z : length t ≡ 255) (a : Answered l t t′ r) where

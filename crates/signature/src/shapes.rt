@@ -7,6 +7,7 @@
 use crate::Letter;
 use crate::key_alignment;
 use crate::letter_at;
+use crate::letter_of;
 use meaning::limits::LONGEST_TYPE;
 ghost use mathlib.Core.Path.{_≡_};
 ghost use mathlib.Core.Bool.{true, false, _&&_};
@@ -150,12 +151,20 @@ fn structure_shape(text: &[u8], at: usize, shapes: &[u16]) -> u16
     }
 }
 
+// The letter at a place inside the text.
+fn letter_inside(text: &[u8], at: usize) -> Letter
+    requires { ⌜ at < length (now text) ⌝ }
+    ensures { λ r. ⌜ r ≡ letterAt (now (text .entry)) at ⌝ }
+{
+    letter_of(text[at])
+}
+
 // The shape at a place, from the shapes behind it.
 fn shape_at(text: &[u8], at: usize, shapes: &[u16]) -> u16
     requires { ⌜ Behind (now text) at (now shapes) ⌝ }
     ensures { λ r. ⌜ r ≡ shapeAt (now (text .entry)) at ⌝ }
 {
-    let kind = letter_at(text, at);
+    let kind = letter_inside(text, at);
     match kind {
         Letter::Boolean => pack(at + 1, 1, true),
         Letter::Number { code: _, width } => pack(at + 1, width, true),
@@ -196,7 +205,23 @@ fn fill_from(text: &[u8], at: usize, shapes: &mut [u16])
     put_at(text, at, shapes);
 }
 
-// Is a text one complete type? Its shapes are in the table then. A table shorter than the text is refused too.
+// The shape of a text that is one letter.
+fn lone_shape(text: &[u8]) -> u16
+    requires { ⌜ length (now text) ≡ 1 ⌝ }
+    ensures { λ r. ⌜ r ≡ shapeAt (now (text .entry)) 0 ⌝ }
+{
+    let kind = letter_inside(text, 0);
+    match kind {
+        Letter::Boolean => pack(1, 1, true),
+        Letter::Number { code: _, width } => pack(1, width, true),
+        Letter::Text { code: _ } => pack(1, 1, false),
+        Letter::Variant => pack(1, 8, false),
+        _ => 0,
+    }
+}
+
+// Is a text one complete type? Its shapes are in the table then. A table shorter than the text is refused too. Most variants hold a
+// type of one letter, which has a way of its own.
 pub fn shapes_of(text: &[u8], shapes: &mut [u16]) -> bool
     ensures { λ r. ⌜ Answered (now (text .entry)) (now (shapes .entry)) (now (shapes .exit)) r ⌝ }
 {
@@ -205,6 +230,14 @@ pub fn shapes_of(text: &[u8], shapes: &mut [u16]) -> bool
     }
     if shapes.len() < text.len() {
         return false;
+    }
+    if text.len() == 1 {
+        let lone = lone_shape(text);
+        shapes[0] = lone;
+        if lone == 0 {
+            return false;
+        }
+        return true;
     }
     fill_from(text, 0, shapes);
     let whole = seen(text, shapes, 0);

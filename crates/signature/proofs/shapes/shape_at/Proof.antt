@@ -18,10 +18,10 @@ use Rattle.signature.proofs.shapes.loosened.Reads as loosened-reads
 use Rattle.signature.proofs.shapes.pack.Reads as pack-reads
 use Rattle.signature.proofs.shapes.seen.Reads as seen-reads
 use Rattle.signature.proofs.shapes.structure_shape.Reads as structure-shape-reads
-use Rattle.signature.proofs.letter_at.Reads as letter-at-reads
+use Rattle.signature.proofs.shapes.letter_inside.Reads as letter-inside-reads
 
-letter-at-requires : tie.Need-letter-at-requires
-letter-at-requires c κs = search needs
+letter-inside-requires : tie.Need-letter-inside-requires
+letter-inside-requires c κs = c .before .before .pre .inside
 
 enum-told : tie.Need-enum-told
 enum-told c = search needs
@@ -43,7 +43,7 @@ add-pack-2 c =
 
 pack-requires-2 : tie.Need-pack-requires-2
 pack-requires-2 c κs =
-    omega (arith, c .before .before .before .before .before .before .pre .inside, c .before .before .before .before .before .before .pre .few, number-most (c .before .before .before .before .before .before .args .text .now) (c .before .before .before .before .before .before .args .at) (c .before .kind .given .0 .0) (c .before .kind .given .0 .1 .0) (c .before .before .before .before .before .before .pre .few) (sym (c .before .before .before .letter-at .ensures) ∙ (c .before .kind .given .1)))
+    omega (arith, c .before .before .before .before .before .before .pre .inside, c .before .before .before .before .before .before .pre .few, number-most (c .before .before .before .before .before .before .args .text .now) (c .before .before .before .before .before .before .args .at) (c .before .kind .given .0 .0) (c .before .kind .given .0 .1 .0) (c .before .before .before .before .before .before .pre .few) (sym (c .before .before .before .letter-inside .ensures) ∙ (c .before .kind .given .1)))
 
 enum-told-2 : tie.Need-enum-told-2
 enum-told-2 c = search needs
@@ -86,38 +86,38 @@ enum-told-5 c = search needs
 
 array-shape-requires : tie.Need-array-shape-requires
 array-shape-requires c κs =
-    ((c .before .before .before .before .before .pre), (sym (c .before .before .letter-at .ensures) ∙ (c .enum-told5 .given .1)))
+    ((c .before .before .before .before .before .pre), (sym (c .before .before .letter-inside .ensures) ∙ (c .enum-told5 .given .1)))
 
 enum-told-6 : tie.Need-enum-told-6
 enum-told-6 c = search needs
 
 structure-shape-requires : tie.Need-structure-shape-requires
 structure-shape-requires c κs =
-    ((c .before .before .before .before .before .pre), (sym (c .before .before .letter-at .ensures) ∙ (c .enum-told6 .given .1)))
+    ((c .before .before .before .before .before .pre), (sym (c .before .before .letter-inside .ensures) ∙ (c .enum-told6 .given .1)))
 
 returns : tie.Need-returns
 unfolding shapeOf
 returns c =
-    c .pack .ensures ∙ shape-lone (c .before .before .before .before .before .before .args .text .now) (c .before .before .before .before .before .before .args .at) Boolean (c .before .before .before .before .before .before .pre .few) (sym (c .before .before .before .letter-at .ensures) ∙ (c .before .enum-told .given .1)) refl
+    c .pack .ensures ∙ shape-lone (c .before .before .before .before .before .before .args .text .now) (c .before .before .before .before .before .before .args .at) Boolean (c .before .before .before .before .before .before .pre .few) (sym (c .before .before .before .letter-inside .ensures) ∙ (c .before .enum-told .given .1)) refl
 
 returns-2 : tie.Need-returns-2
 unfolding shapeOf
 returns-2 c =
-    c .pack2 .ensures ∙ shape-lone (c .before .before .before .before .before .before .before .args .text .now) (c .before .before .before .before .before .before .before .args .at) (Number (c .before .before .kind .given .0 .0) (c .before .before .kind .given .0 .1 .0)) (c .before .before .before .before .before .before .before .pre .few) (sym (c .before .before .before .before .letter-at .ensures) ∙ (c .before .before .kind .given .1)) refl
+    c .pack2 .ensures ∙ shape-lone (c .before .before .before .before .before .before .before .args .text .now) (c .before .before .before .before .before .before .before .args .at) (Number (c .before .before .kind .given .0 .0) (c .before .before .kind .given .0 .1 .0)) (c .before .before .before .before .before .before .before .pre .few) (sym (c .before .before .before .before .letter-inside .ensures) ∙ (c .before .before .kind .given .1)) refl
 
 returns-3 : tie.Need-returns-3
 unfolding shapeOf
 returns-3 c =
-    c .pack3 .ensures ∙ shape-lone (c .before .before .before .before .before .before .args .text .now) (c .before .before .before .before .before .before .args .at) (Text (c .before .enum-told2 .given .0 .0)) (c .before .before .before .before .before .before .pre .few) (sym (c .before .before .before .letter-at .ensures) ∙ (c .before .enum-told2 .given .1)) refl
+    c .pack3 .ensures ∙ shape-lone (c .before .before .before .before .before .before .args .text .now) (c .before .before .before .before .before .before .args .at) (Text (c .before .enum-told2 .given .0 .0)) (c .before .before .before .before .before .before .pre .few) (sym (c .before .before .before .letter-inside .ensures) ∙ (c .before .enum-told2 .given .1)) refl
 
 returns-4 : tie.Need-returns-4
 unfolding shapeOf
 returns-4 c =
-    c .pack4 .ensures ∙ shape-lone (c .before .before .before .before .before .before .args .text .now) (c .before .before .before .before .before .before .args .at) Variant (c .before .before .before .before .before .before .pre .few) (sym (c .before .before .before .letter-at .ensures) ∙ (c .before .enum-told3 .given .1)) refl
+    c .pack4 .ensures ∙ shape-lone (c .before .before .before .before .before .before .args .text .now) (c .before .before .before .before .before .before .args .at) Variant (c .before .before .before .before .before .before .pre .few) (sym (c .before .before .before .letter-inside .ensures) ∙ (c .before .enum-told3 .given .1)) refl
 
 returns-5 : tie.Need-returns-5
 returns-5 c =
-    c .loosened .ensures ∙ shape-maybe (c .before .before .before .before .before .before .before .args .text .now) (c .before .before .before .before .before .before .before .args .at) (c .before .seen .result) (c .before .before .before .before .before .before .before .pre .few) (sym (c .before .before .before .before .letter-at .ensures) ∙ (c .before .before .enum-told4 .given .1)) (c .before .seen .ensures ((c .before .before .before .before .before .before .before .args .at) + 1) (omega arith) (c .before .before .before .before .before .before .before .pre .table))
+    c .loosened .ensures ∙ shape-maybe (c .before .before .before .before .before .before .before .args .text .now) (c .before .before .before .before .before .before .before .args .at) (c .before .seen .result) (c .before .before .before .before .before .before .before .pre .few) (sym (c .before .before .before .before .letter-inside .ensures) ∙ (c .before .before .enum-told4 .given .1)) (c .before .seen .ensures ((c .before .before .before .before .before .before .before .args .at) + 1) (omega arith) (c .before .before .before .before .before .before .before .pre .table))
 
 returns-6 : tie.Need-returns-6
 returns-6 c = search needs
@@ -127,13 +127,13 @@ returns-7 c = search needs
 
 returns-8 : tie.Need-returns-8
 returns-8 c =
-    shape-none (c .before .before .before .before .args .text .now) (c .before .before .before .before .args .at) (c .before .letter-at .result) (c .before .before .before .before .pre .few) (c .before .letter-at .ensures) (no-start ((c .before .before .before .before .args .at) + 1) (c .before .letter-at .result) (c .match .keys8))
+    shape-none (c .before .before .before .before .args .text .now) (c .before .before .before .before .args .at) (c .before .letter-inside .result) (c .before .before .before .before .pre .few) (c .before .letter-inside .ensures) (no-start ((c .before .before .before .before .args .at) + 1) (c .before .letter-inside .result) (c .match .keys8))
 
 pub shape-at-spec : {M : Type 1} → statement M
 shape-at-spec =
     tie.close
     (tie.spec
-    letter-at-requires
+    letter-inside-requires
     enum-told
     add-pack
     pack-requires

@@ -1,51 +1,75 @@
 -- `shapes_of` meets its contract. Assumes nothing.
-use mathlib.Core.Path.{_≡_, refl, sym, ap, _∙_}
-use Prim.Native.Nat.{ℕ, _+_, _-_, _*_, _/_, _%_, _≤_, _<_, max}
 use native.Mathlib.Omega.{arith}
-use lib.ListN.{length, length-set}
-use Rattle.signature.specs.Places.{letterAt, childAt}
-use Rattle.signature.proofs.ShapeLaws.{answered-long, answered-small, answered-none, answered-found}
+use Rattle.signature.proofs.ShapeLaws.{answered-long, answered-small, answered-lone-none, answered-lone, answered-none, answered-found}
 use borrow.Author.Needs.{needs}
 use Rattle.signature.proofs.shapes.shapes_of.Statement.{statement}
 use Rattle.signature.proofs.shapes.shapes_of.Tie as tie
 use Rattle.signature.proofs.shapes.shapes_of.Reads as reads
 use Rattle.signature.proofs.shapes.shapes_of.Lts as lts
 use Rattle.signature.proofs.shapes.fill_from.Reads as fill-from-reads
+use Rattle.signature.proofs.shapes.lone_shape.Reads as lone-shape-reads
 use Rattle.signature.proofs.shapes.next_of.Reads as next-of-reads
 use Rattle.signature.proofs.shapes.seen.Reads as seen-reads
 
+-- src/shapes.rt:229:9
 returns : tie.Need-returns
-returns c =
-    answered-long (c .before .before .before .args .text .now) (c .before .before .before .args .shapes .now) (c .if1 .taken)
+returns c = answered-long (c .before .before .before .args .text .now) (c .before .before .before .args .shapes .now) (c .if1 .taken)
 
+-- src/shapes.rt:232:9
 returns-2 : tie.Need-returns-2
-returns-2 c =
-    answered-small (c .before .before .before .before .args .text .now) (c .before .before .before .before .args .shapes .now) (c .if2 .taken)
+returns-2 c = answered-small (c .before .before .before .before .args .text .now) (c .before .before .before .before .args .shapes .now) (c .if2 .taken)
 
-fill-from-requires : tie.Need-fill-from-requires
-fill-from-requires c κs =
-    ((c .before .before .if1 .left), (c .before .if2 .left))
+-- src/shapes.rt:235:13
+lone-shape-requires : tie.Need-lone-shape-requires
+lone-shape-requires c κs = search needs
 
-seen-requires : tie.Need-seen-requires
-seen-requires c κs =
-    ((c .before .before .before .before .before .before .if1 .left), omega (arith, c .before .before .before .before .before .if2 .left, c .before .before .before .fill-from .kept .1 .1 .0))
+-- src/shapes.rt:236:9
+slice-write-shapes : tie.Need-slice-write-shapes
+slice-write-shapes c = search needs
 
+-- src/shapes.rt:238:13
 same-length : tie.Need-same-length
 same-length c = search needs
 
+-- src/shapes.rt:238:13
 returns-3 : tie.Need-returns-3
-returns-3 c =
-    answered-none (c .before .before .before .before .before .before .before .before .before .before .before .args .text .now) (c .before .before .before .before .before .before .before .before .before .before .before .args .shapes .now) (c .before .before .before .before .before .fill-from .last .1 .1 .0) (c .before .seen .result) (c .before .before .before .before .before .before .before .before .if1 .left) (c .before .before .before .before .before .before .before .if2 .left) (c .before .before .before .before .before .fill-from .ensures) (c .before .seen .ensures 0 (omega arith) (c .before .before .before .before .before .fill-from .ensures .each)) (c .if3 .taken)
+returns-3 c = answered-lone-none (c .before .before .before .before .before .before .before .args .text .now) (c .before .before .before .before .before .before .before .args .shapes .now) (c .before .lone-shape .result) (c .before .before .if3 .taken) (c .before .before .before .if2 .left) (c .before .lone-shape .ensures) (c .if4 .taken)
 
-next-of-requires : tie.Need-next-of-requires
-next-of-requires c κs = search needs
-
+-- src/shapes.rt:240:9
 same-length-2 : tie.Need-same-length-2
 same-length-2 c = search needs
 
+-- src/shapes.rt:240:9
 returns-4 : tie.Need-returns-4
-returns-4 c =
-    answered-found (c .before .before .before .before .before .before .before .before .before .before .before .before .args .text .now) (c .before .before .before .before .before .before .before .before .before .before .before .before .args .shapes .now) (c .before .before .before .before .before .before .fill-from .last .1 .1 .0) (c .before .before .seen .result) (c .before .before .before .before .before .before .before .before .before .if1 .left) (c .before .before .before .before .before .before .before .before .if2 .left) (c .before .before .before .before .before .before .fill-from .ensures) (c .before .before .seen .ensures 0 (omega arith) (c .before .before .before .before .before .before .fill-from .ensures .each)) (c .before .if3 .left) (c .next-of .result) (c .next-of .ensures)
+returns-4 c = answered-lone (c .before .before .before .before .before .before .before .args .text .now) (c .before .before .before .before .before .before .before .args .shapes .now) (c .before .lone-shape .result) (c .before .before .if3 .taken) (c .before .before .before .if2 .left) (c .before .lone-shape .ensures) (c .if4 .left)
+
+-- src/shapes.rt:242:5
+fill-from-requires : tie.Need-fill-from-requires
+fill-from-requires c κs = search needs
+
+-- src/shapes.rt:243:9
+seen-requires : tie.Need-seen-requires
+seen-requires c κs = search needs
+
+-- src/shapes.rt:245:9
+same-length-3 : tie.Need-same-length-3
+same-length-3 c = search needs
+
+-- src/shapes.rt:245:9
+returns-5 : tie.Need-returns-5
+returns-5 c = answered-none (c .before .before .before .before .before .before .before .before .before .before .before .before .args .text .now) (c .before .before .before .before .before .before .before .before .before .before .before .before .args .shapes .now) (c .before .before .before .before .before .fill-from .last .1 .1 .0) (c .before .seen .result) (c .before .before .before .before .before .before .before .before .before .if1 .left) (c .before .before .before .before .before .before .before .before .if2 .left) (c .before .before .before .before .before .fill-from .ensures) (c .before .seen .ensures 0 (omega arith) (c .before .before .before .before .before .fill-from .ensures .each)) (c .if5 .taken)
+
+-- src/shapes.rt:247:5
+next-of-requires : tie.Need-next-of-requires
+next-of-requires c κs = search needs
+
+-- src/shapes.rt:225:1
+same-length-4 : tie.Need-same-length-4
+same-length-4 c = search needs
+
+-- src/shapes.rt:225:1
+returns-6 : tie.Need-returns-6
+returns-6 c = answered-found (c .before .before .before .before .before .before .before .before .before .before .before .before .before .args .text .now) (c .before .before .before .before .before .before .before .before .before .before .before .before .before .args .shapes .now) (c .before .before .before .before .before .before .fill-from .last .1 .1 .0) (c .before .before .seen .result) (c .before .before .before .before .before .before .before .before .before .before .if1 .left) (c .before .before .before .before .before .before .before .before .before .if2 .left) (c .before .before .before .before .before .before .fill-from .ensures) (c .before .before .seen .ensures 0 (omega arith) (c .before .before .before .before .before .before .fill-from .ensures .each)) (c .before .if5 .left) (c .next-of .result) (c .next-of .ensures)
 
 pub shapes-of-spec : {M : Type 1} → statement M
 shapes-of-spec =
@@ -53,10 +77,16 @@ shapes-of-spec =
     (tie.spec
     returns
     returns-2
-    fill-from-requires
-    seen-requires
+    lone-shape-requires
+    slice-write-shapes
     same-length
     returns-3
-    next-of-requires
     same-length-2
-    returns-4)
+    returns-4
+    fill-from-requires
+    seen-requires
+    same-length-3
+    returns-5
+    next-of-requires
+    same-length-4
+    returns-6)

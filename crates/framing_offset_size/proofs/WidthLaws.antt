@@ -13,8 +13,8 @@ use Rattle.meaning.specs.Refusals.{outOfBounds, roomTooSmall}
 use Rattle.meaning.specs.Padding.{Aligns}
 use Rattle.meaning.proofs.PaddingLaws.{by1, by2, by4, by8}
 use Rattle.meaning.specs.Numbers.{bytes, value}
-use Rattle.meaning.specs.Offsets.{largest, firstWidth, bareWidth, encodedWidth, lastOffset}
-use Rattle.meaning.proofs.OffsetSteps.{too-long, room-for, first-fits, first-not, encoded-bare}
+use Rattle.meaning.specs.Offsets.{largest, firstWidth, bareWidth, lastOffset}
+use Rattle.meaning.proofs.OffsetSteps.{too-long, room-for, first-fits, first-not}
 use Rattle.framing_offset_size.specs.declared.FramingOffsetSize.{FramingOffsetSize}
 use Rattle.framing_offset_size.specs.declared.FramingOffsetSize.the-variants.{U8, U16, U32, U64}
 use Rattle.framing_offset_size.specs.declared.Fitting.{Fitting}
@@ -98,15 +98,6 @@ fitted len count Nothing h = record { refusal = rw (eq-eqb (bareWidth len count)
 pub fits-count : (s : FramingOffsetSize) (len count : ℕ) {most room : ℕ} → most ≡ largest (widthOf s) → len ≤ most
     → room ≡ (most - len) / widthOf s → leb count room ≡ leb (len + count * widthOf s) (largest (widthOf s))
 fits-count s len count {most} e h r = rw (r, ← e) (room-for (widthOf s) len count most (width-positive s) h)
-
-pub encoded-size : (len : ℕ) (s : FramingOffsetSize) {f : Fitting} → Size s ≡ f → fittingWidth f ≡ bareWidth len 0 → widthOf s ≡ encodedWidth len
-encoded-size len s e h =
-    let w : widthOf s ≡ bareWidth len 0 = ap fittingWidth e ∙ h in
-    let p : 0 < bareWidth len 0 = omega (arith, width-positive s, w) in
-    w ∙ sym (encoded-bare len ∙ rw (ne-eqb (bareWidth len 0) 0 (λ z. omega arith)))
-
-pub encoded-none : (len : ℕ) {f : Fitting} → Nothing ≡ f → fittingWidth f ≡ bareWidth len 0 → 8 ≡ encodedWidth len
-encoded-none len e h = sym (encoded-bare len ∙ rw (eq-eqb (bareWidth len 0) 0 (sym (ap fittingWidth e ∙ h))))
 
 -- the offset of a buffer that is empty is 0 in meaning too
 last-none : (w : ℕ) (l : List ℕ) → length l ≡ 0 → lastOffset w l ≡ 0

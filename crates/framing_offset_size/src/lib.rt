@@ -102,10 +102,16 @@ impl FramingOffsetSize {
     pub fn for_encoded_container(len: usize) -> Self
         ensures { λ r. ⌜ widthOf r ≡ encodedWidth len ⌝ }
     {
-        match FramingOffsetSize::for_bare_container(len, 0) {
-            Fitting::Size(size) => size,
-            Fitting::Nothing => FramingOffsetSize::U64,
+        if len <= FramingOffsetSize::U8.max() {
+            return FramingOffsetSize::U8;
         }
+        if len <= FramingOffsetSize::U16.max() {
+            return FramingOffsetSize::U16;
+        }
+        if len <= FramingOffsetSize::U32.max() {
+            return FramingOffsetSize::U32;
+        }
+        FramingOffsetSize::U64
     }
 
     // The low bytes of an offset at the front of a buffer, the lowest first. The refusal's number, 0 where there is none.

@@ -1,3 +1,4 @@
+-- `framing_offset_size::FramingOffsetSize::bump_up` meets its contract. Assumes nothing.
 use borrow.Author.Needs.{needs}
 use Rattle.framing_offset_size.proofs.FramingOffsetSize.bump_up.Statement.{
   statement,

@@ -1,3 +1,4 @@
+-- `framing_offset_size::FramingOffsetSize::for_bare_container` meets its contract. Assumes nothing.
 use Rattle.framing_offset_size.specs.Widths.{widthOf}
 use Rattle.framing_offset_size.proofs.WidthLaws.{Trying, trying-begin, trying-done, trying-next, trying-none, bumped-above, fitted}
 use mathlib.Core.Path.{_≡_, refl, sym, _∙_}

@@ -1,5 +1,7 @@
+-- `framing_offset_size::FramingOffsetSize::for_encoded_container` meets its contract. Assumes nothing.
 use mathlib.Core.Path.{sym}
-use Rattle.framing_offset_size.proofs.WidthLaws.{encoded-size, encoded-none}
+use native.Mathlib.Omega.{arith}
+use Rattle.meaning.proofs.OffsetLaws.{encodedWidth-1, encodedWidth-2, encodedWidth-4, encodedWidth-8}
 use borrow.Author.Needs.{needs}
 use Rattle.framing_offset_size.proofs.FramingOffsetSize.for_encoded_container.Statement.{
   statement,
@@ -7,23 +9,30 @@ use Rattle.framing_offset_size.proofs.FramingOffsetSize.for_encoded_con
 use Rattle.framing_offset_size.proofs.FramingOffsetSize.for_encoded_container.Tie as tie
 use Rattle.framing_offset_size.proofs.FramingOffsetSize.for_encoded_container.Reads as reads
 use Rattle.framing_offset_size.proofs.FramingOffsetSize.for_encoded_container.Lts as lts
-use Rattle.framing_offset_size.proofs.FramingOffsetSize.for_bare_container.Reads as for-bare-container-reads
+use Rattle.framing_offset_size.proofs.FramingOffsetSize.max.Reads as max-reads
 
-for-bare-container-requires : tie.Need-for-bare-container-requires
-for-bare-container-requires c κs = search needs
-
-enum-known-size : tie.Need-enum-known-size
-enum-known-size c = search needs
-
-enum-told : tie.Need-enum-told
-enum-told c = search needs
+max-requires : tie.Need-max-requires
+max-requires c κs = search needs
 
 returns : tie.Need-returns
-returns c = encoded-size _ _ (sym (c .before .size .given .1)) (c .before .before .before .for-bare-container .ensures .width)
+returns c = sym (encodedWidth-1 (c .before .before .args .len) (omega (arith, c .if1 .taken, c .before .max .ensures)))
+
+max-requires-2 : tie.Need-max-requires-2
+max-requires-2 c κs = search needs
 
 returns-2 : tie.Need-returns-2
-returns-2 c = encoded-none _ (sym (c .enum-told .given .1)) (c .before .before .for-bare-container .ensures .width)
+returns-2 c = sym (encodedWidth-2 (c .before .before .before .before .args .len) (omega (arith, c .before .before .if1 .left, c .before .before .before .max .ensures)) (omega (arith, c .if2 .taken, c .before .max2 .ensures)))
+
+max-requires-3 : tie.Need-max-requires-3
+max-requires-3 c κs = search needs
+
+returns-3 : tie.Need-returns-3
+returns-3 c = sym (encodedWidth-4 (c .before .before .before .before .before .before .args .len) (omega (arith, c .before .before .if2 .left, c .before .before .before .max2 .ensures)) (omega (arith, c .if3 .taken, c .before .max3 .ensures)))
+
+returns-4 : tie.Need-returns-4
+returns-4 c = sym (encodedWidth-8 (c .before .before .before .before .before .before .args .len) (omega (arith, c .if3 .left, c .before .max3 .ensures)))
 
 pub for-encoded-container-spec : {M : Type 1} → statement M
 for-encoded-container-spec =
-    tie.close (tie.spec for-bare-container-requires enum-known-size enum-told returns returns-2)
+    tie.close
+    (tie.spec max-requires returns max-requires-2 returns-2 max-requires-3 returns-3 returns-4)

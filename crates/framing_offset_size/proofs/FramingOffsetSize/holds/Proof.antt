@@ -1,3 +1,4 @@
+-- `framing_offset_size::FramingOffsetSize::holds` meets its contract. Assumes nothing.
 use Rattle.framing_offset_size.proofs.WidthLaws.{fits-count}
 use Rattle.framing_offset_size.specs.Widths.{widthOf}
 use Rattle.meaning.proofs.OffsetSteps.{too-long}

@@ -1,3 +1,4 @@
+-- `framing_offset_size::FramingOffsetSize::max` meets its contract. Assumes nothing.
 use borrow.Author.Needs.{needs}
 use Rattle.framing_offset_size.proofs.FramingOffsetSize.max.Statement.{statement}
 use Rattle.framing_offset_size.proofs.FramingOffsetSize.max.Tie as tie

@@ -1,3 +1,4 @@
+-- `framing_offset_size::FramingOffsetSize::offset_at` meets its contract. Assumes nothing.
 use borrow.Author.Needs.{needs}
 use Rattle.framing_offset_size.proofs.FramingOffsetSize.offset_at.Statement.{statement}
 use Rattle.framing_offset_size.proofs.FramingOffsetSize.offset_at.Tie as tie

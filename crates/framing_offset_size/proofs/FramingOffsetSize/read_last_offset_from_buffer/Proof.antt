@@ -1,3 +1,4 @@
+-- `framing_offset_size::FramingOffsetSize::read_last_offset_from_buffer` meets its contract. Assumes nothing.
 use mathlib.Core.Path.{_∙_}
 use borrow.Author.Needs.{needs}
 use Rattle.framing_offset_size.specs.Widths.{widthOf}

@@ -1,3 +1,4 @@
+-- `framing_offset_size::FramingOffsetSize::write_offset` meets its contract. Assumes nothing.
 use Rattle.framing_offset_size.proofs.WidthLaws.{written-short, written-there}
 use Rattle.meaning.proofs.OffsetSteps.{Writing, writing-begin, writing-next, writing-end}
 use Rattle.framing_offset_size.specs.Widths.{widthOf}

@@ -3,6 +3,9 @@ pub mod basic;
 pub mod numbers;
 
 use container_depths::ContainerDepths;
+ghost use mathlib.Core.Path.{_≡_};
+ghost use Prim.Native.Nat.{_+_, _≤_};
+ghost use Rattle.meaning.specs.Limits.{largestNumber};
 
 // The refusal's number, 0 if done; the bytes used; the number of events.
 pub struct Answer {
@@ -16,4 +19,51 @@ pub struct Context {
     pub position: usize,
     pub big: bool,
     pub depths: ContainerDepths,
+}
+
+// So many bytes were read, and so many events there are then.
+pub fn done(used: usize, count: usize) -> Answer
+    ensures { λ r. ⌜ r ≡ record { refusal = 0; used = used; count = count } ⌝ }
+{
+    Answer {
+        refusal: 0,
+        used,
+        count,
+    }
+}
+
+// A refusal, behind so many bytes and events.
+pub fn refused(refusal: u8, used: usize, count: usize) -> Answer
+    ensures { λ r. ⌜ r ≡ record { refusal = refusal; used = used; count = count } ⌝ }
+{
+    Answer {
+        refusal,
+        used,
+        count,
+    }
+}
+
+// The answer of what stands behind so many bytes.
+pub fn behind(used: usize, answer: Answer) -> Answer
+    requires { ⌜ used + answer .used ≤ largestNumber ⌝ }
+    ensures { λ r. ⌜ r ≡ record { refusal = answer .refusal; used = used + answer .used; count = answer .count } ⌝ }
+{
+    Answer {
+        refusal: answer.refusal,
+        used: used + answer.used,
+        count: answer.count,
+    }
+}
+
+impl Context {
+    // The same, with so many containers open.
+    pub fn opened(self, depths: ContainerDepths) -> Self
+        ensures { λ r. ⌜ r ≡ record { position = self .position; big = self .big; depths = depths } ⌝ }
+    {
+        Context {
+            position: self.position,
+            big: self.big,
+            depths,
+        }
+    }
 }

@@ -3,3 +3,4 @@ pub mod Loops
 pub mod NumberLaws
 pub mod Leaves
 pub mod Rests
+pub mod Turns

@@ -3,12 +3,13 @@ use mathlib.Core.Path.{_≡_}
 use mathlib.Core.List.{List}
 use mathlib.Core.Bool.{Bool, true}
 use Prim.Native.Nat.{ℕ, _+_, _-_, _/_, _≤_, _<_}
-use lib.ListN.{length}
+use lib.ListN.{length, drop}
 use Rattle.meaning.specs.Choice.{pick}
 use Rattle.meaning.specs.Depths.{depthRefusal}
 use Rattle.meaning.specs.Types.{bool, structure}
 use Rattle.meaning.specs.Offsets.{Table, noneAbove, endsOf}
-use Rattle.meaning.specs.Reading.{Reader, readBool, readNumber, readText, offsetStands, fieldOffset}
+use Rattle.meaning.specs.Outcome.{Outcome, chain, passing}
+use Rattle.meaning.specs.Reading.{Reader, readBool, readNumber, readText, elementsTo, offsetStands, fieldOffset}
 use Rattle.meaning.specs.Padding.{Aligns}
 use Rattle.meaning.specs.Limits.{largestFrame}
 use Rattle.meaning.specs.Letters.{arrayLetter, dictionaryLetter}
@@ -17,6 +18,8 @@ use Rattle.utils.specs.Checks.{passed, failed}
 use Rattle.utils.specs.declared.Checked.{Checked}
 use Rattle.container_depths.specs.Opening.{depthsOf}
 use Rattle.container_depths.specs.declared.ContainerDepths.{ContainerDepths}
+use Rattle.framing_offsets.specs.Tables.{tableIn}
+use Rattle.framing_offsets.specs.declared.FramingOffsets.{FramingOffsets}
 use Rattle.signature.specs.declared.Letter.{Letter}
 use Rattle.signature.specs.declared.items.Item.{Item}
 use Rattle.reader_basic.specs.declared.Context.{Context}
@@ -67,6 +70,16 @@ pub record Stands (t : Table) (l : List ℕ) : Type 0 where
   pub count : t .count ≡ (length l - t .start) / t .width
   pub width : 0 < t .width
   pub below : noneAbove (t .start) (endsOf t l) ≡ true
+
+-- an array that begins at lead in a part at a place, and its table
+pub record Tabled (t : FramingOffsets) (l : List ℕ) (lead place : ℕ) : Type 0 where
+  pub in-frame : place + length l ≤ largestFrame
+  pub begins : lead ≤ length l
+  pub stands : Stands (tableIn t) (drop lead l)
+
+-- its elements, up to the ends of the table, and then the table
+abbrev pub elementsBy : (ℕ → ℕ → Outcome) → FramingOffsets → List ℕ → ℕ → Outcome
+elementsBy step t l lead = chain (elementsTo step lead (endsOf (tableIn t) (drop lead l)) lead) (passing (length l - (lead + t .start)))
 
 -- the offset before an end of a structure's table
 unfoldable pub offsetAnswer : ℕ → ℕ → ℕ → List ℕ → Checked

@@ -2,7 +2,6 @@
 use Rattle.de.proofs.PaddingAnswers.{paddingAt-is}
 use Rattle.de.proofs.PartAnswers.{boolAt-is}
 use Rattle.framing_offset_size.proofs.WidthLaws.{lastOffsetIn-is}
-use Rattle.byte_order.proofs.Standings.{byte-number as leaf-byte}
 use mathlib.Core.Path.{_≡_, refl, ap, sym, subst, _∙_}
 use mathlib.Core.List.{List, [], _∷_}
 use mathlib.Core.Bool.{Bool, true, false, _||_}
@@ -36,10 +35,12 @@ use Rattle.framing_offset_size.specs.Widths.{lastOffsetIn}
 use Rattle.signature.specs.declared.Letter.{Letter}
 use Rattle.signature.specs.declared.Letter.the-variants.{End, Bad, Boolean, Number, Text, Variant, Maybe, Array, OpenStructure, CloseStructure, OpenEntry, CloseEntry}
 use Rattle.signature.proofs.Letter.{the-type}
-use Rattle.reader_basic.specs.Parts.{offsetAnswer, keyReader, KeyAligned}
+use Rattle.container_depths.specs.declared.ContainerDepths.{ContainerDepths}
+use Rattle.reader_basic.specs.Parts.{Within, Inside, offsetAnswer, keyReader, KeyAligned}
 use Rattle.events.specs.Slices.{nextEvent, put, putAll, advance}
 use Rattle.reader_basic.specs.Answers.{Done}
 use Rattle.reader_basic.specs.declared.Answer.{Answer}
+use Rattle.reader_basic.specs.declared.Context.{Context}
 use Rattle.reader_basic.proofs.Answers.{answer, refusing, single, wider, both}
 use Rattle.reader_basic.proofs.Rests.{Rest, rest-chain}
 
@@ -101,6 +102,10 @@ pads-first position place a l r s n e =
     let z : length l - 0 ≡ length l = omega arith in
     rw (← add-zero place, ← z) g
 
+-- the same inside the frame
+pub pads-inside : (c : Context) (place a : ℕ) (l : List ℕ) (r : leafs.Checked) → Inside (length l) place c → Aligns a → r ≡ paddingAt (c .position + place) 0 a l → Pads (pad (c .position) a place l) (length l) r
+pads-inside c place a l r w s e = pads-first (c .position) place a l r s (omega (arith, w .in-frame, w .near)) e
+
 -- as the answer of a reader that tells no event
 pub pads-done : {o : Outcome} {room : ℕ} {r : leafs.Checked} (n : ℕ) (l : List ℕ) → Pads o room r → Done o room room n l l (answer (r .refusal) (r .value) n)
 unfolding putAll advance
@@ -140,12 +145,15 @@ closed end len n m place l l₁ l′ o r z p q d =
 -- ---- bools
 
 module _ (d : Depths) (k n : ℕ) (l out : List ℕ) (r : leafs.Checked) (e : r ≡ boolAt l 0) where
-  pub bool-missing : (r .refusal ≡ 0 → ⊥) → Done (readBool d k l) (length l) (length l) n out out (answer 3 0 n)
+  pub bool-missing : (r .refusal ≡ 0 → ⊥) → Done (readBool d k l) (length l) (length l) n out out (answer (r .refusal) 0 n)
   unfolding readBool
   bool-missing z = go (eqb (length l) 0) refl
     where
-      go : (b : Bool) → eqb (length l) 0 ≡ b → Done (pick b (refused 3 k) (done 1 (event 98 k (pick (eqb (getD l 0 0) 0) 0 1) ∷ []))) (length l) (length l) n out out (answer 3 0 n)
-      go true h = refusing 3 k (length l) (length l) n out (λ q. omega arith)
+      go : (b : Bool) → eqb (length l) 0 ≡ b → Done (pick b (refused 3 k) (done 1 (event 98 k (pick (eqb (getD l 0 0) 0) 0 1) ∷ []))) (length l) (length l) n out out (answer (r .refusal) 0 n)
+      go true h =
+          let s : length l < 0 + 1 = omega (arith, eqb-true (length l) 0 h) in
+          let w : r .refusal ≡ 3 = ap (λ x. x .refusal) (e ∙ boolAt-is l 0) ∙ rw (lt-leb (0 + 1) (length l) s) in
+          rw w (refusing 3 k (length l) (length l) n out (λ q. omega arith))
       go false h =
           let s : 0 + 1 ≤ length l = omega (arith, eqb-false (length l) 0 h) in
           let w : r .refusal ≡ 0 = ap (λ x. x .refusal) (e ∙ boolAt-is l 0) ∙ rw (le-leb (0 + 1) (length l) s) in
@@ -168,9 +176,6 @@ module _ (d : Depths) (k n : ℕ) (l out : List ℕ) (r : leafs.Checked) (e : r 
 
 -- ---- numbers
 
-pub byte-number : (big : Bool) (l : List ℕ) (place : ℕ) → numberAt 1 false l place ≡ numberAt 1 big l place
-byte-number big l place = leaf-byte big l place
-
 -- the last width is 8
 pub eight-left : {w : ℕ} → Aligns w → (w ≡ 1 → ⊥) → (w ≡ 2 → ⊥) → (w ≡ 4 → ⊥) → w ≡ 8
 eight-left al a b c =
@@ -183,13 +188,15 @@ module _ (position : ℕ) (big : Bool) (kind w : ℕ) (d : Depths) (k n : ℕ) (
   number-unpadded z = rw (p .missing z, ne-eqb (r .refusal) 0 z, ne-eqb (r .refusal) 0 z) (refusing (r .refusal) (p .place) (length l) (length l) n out z)
 
   module _ (f : leafs.Checked) (z : r .refusal ≡ 0) (e : f ≡ numberAt w big l (r .value)) where
-    pub number-short : (f .refusal ≡ 0 → ⊥) → Done (readNumber position big kind w d k l) (length l) (length l) n out out (answer 3 0 n)
+    pub number-short : (f .refusal ≡ 0 → ⊥) → Done (readNumber position big kind w d k l) (length l) (length l) n out out (answer (f .refusal) 0 n)
     unfolding readNumber chain unused numberIn numberAt
     number-short y = go (leb (r .value + w) (length l)) refl
       where
-        go : (b : Bool) → leb (r .value + w) (length l) ≡ b → Done (readNumber position big kind w d k l) (length l) (length l) n out out (answer 3 0 n)
+        go : (b : Bool) → leb (r .value + w) (length l) ≡ b → Done (readNumber position big kind w d k l) (length l) (length l) n out out (answer (f .refusal) 0 n)
         go true h = let x : f .refusal ≡ 0 = ap (λ x. x .refusal) e ∙ rw h in absurd (y x)
-        go false h = rw (p .there z) (rw h (refusing 3 (k + r .value) (length l) (length l) n out (λ q. omega arith)))
+        go false h =
+            let x : f .refusal ≡ 3 = ap (λ x. x .refusal) e ∙ rw h in
+            rw x (rw (p .there z) (rw h (refusing 3 (k + r .value) (length l) (length l) n out (λ q. omega arith))))
 
     pub number-there : (m : ℕ) (out′ : List ℕ) → f .refusal ≡ 0 → m ≡ nextEvent n → out′ ≡ put out n (event kind (k + r .value) (f .value))
         → Done (readNumber position big kind w d k l) (length l) (length l) n out out′ (answer 0 (r .value + w) m)
@@ -232,12 +239,12 @@ module _ (position a k j end len n : ℕ) (l out out′ : List ℕ) (o : Outcome
       rw (← d .used) (rw (w .missing z) (rw (ne-eqb (p .refusal) 0 z)
       (record { refusal = refl; used = refl; fits = d .fits; ends = λ q. absurd (z q); count = d .count; slice = d .slice })))
 
-  pub ending-there : p .refusal ≡ 0 → Done (endPadding position true a k l j o) len len n out out′ (answer (r .refusal) (r .used + p .value) (r .count))
+  pub ending-there : p .refusal ≡ 0 → Done (endPadding position true a k l j o) len len n out out′ (answer (r .refusal) (p .value + r .used) (r .count))
   unfolding endPadding padded
   ending-there z =
       let f = w .fits in
       rw (← d .used) (rw (w .there z)
-      (record { refusal = d .refusal; used = refl; fits = omega arith; ends = λ q. omega arith; count = d .count; slice = d .slice }))
+      (record { refusal = d .refusal; used = omega arith; fits = omega arith; ends = λ q. omega arith; count = d .count; slice = d .slice }))
 
 -- ---- an offset of a structure's table
 
@@ -322,6 +329,13 @@ module _ (read : ℕ → List ℕ → Outcome) (k j e n : ℕ) (l out : List ℕ
       let s : length (take (e - j) (drop j l)) ≡ e - j = simp (length-take, length-drop) (omega arith) in
       rw (le-leb j e h, le-leb e (length l) i)
       (wider (length (take (e - j) (drop j l))) (e - j) (length (take (e - j) (drop j l))) (length l - j) n out out′ _ r (omega arith) (omega arith) d)
+
+-- ---- what callees ask
+
+pub within-child : {place position : ℕ} {d : ContainerDepths} (part : List ℕ) (j e : ℕ) → Within (length part) place position d → j ≤ e → e ≤ length part → Within (length (take (e - j) (drop j part))) (place + j) position d
+within-child {place} part j e w g h =
+    let a = w .in-frame in
+    record { in-frame = simp (length-take, length-drop) (omega arith); near = w .near; shallow = w .shallow }
 
 -- ---- a key by its letter
 

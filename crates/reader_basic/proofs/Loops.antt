@@ -12,7 +12,7 @@ use lib.Seq.{drop-cons, take-all}
 use borrow.Author.Tests.{leb-true, le-leb, lt-leb}
 use Rattle.meaning.specs.Choice.{pick}
 use Rattle.meaning.specs.Offsets.{Table, noneAbove, entries, tableFrom, tableOf, endsOf, tableStands}
-use Rattle.meaning.specs.Outcome.{Outcome, done, after, chain, passing}
+use Rattle.meaning.specs.Outcome.{Outcome, done, chain, passing}
 use Rattle.meaning.specs.Reading.{further, elements, elementsTo}
 use Rattle.meaning.proofs.OffsetLaws.{encodedWidth-positive}
 use Rattle.framing_offsets.specs.Tables.{tableIn, emptyTable, Encoded, offsetIn}

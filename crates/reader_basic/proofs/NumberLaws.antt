@@ -15,7 +15,7 @@ use Rattle.meaning.specs.Depths as Depth
 use Rattle.meaning.specs.Depths.{Depths, depthRefusal, opened}
 use Rattle.meaning.specs.Events.{event, present, nothing}
 use Rattle.meaning.specs.Outcome.{Outcome, done, refused, after, chain, unused}
-use Rattle.meaning.specs.Reading.{child, childStep, within, paddingOf, pad, numberIn, readNumber, presentIn, maybeIn, readMaybe, further, elements}
+use Rattle.meaning.specs.Reading.{child, childStep, within, paddingOf, pad, numberIn, readNumber, presentIn, maybeIn, readMaybe, elements}
 use Rattle.meaning.proofs.PaddingLaws.{by-alignment, aligns-positive, padding-aligned, padding-none}
 use Rattle.utils.specs.declared.Checked as leafs
 use Rattle.byte_order.specs.Standing.{numberAt}
@@ -297,15 +297,16 @@ module _ (position : ℕ) (big : Bool) (kind w : ℕ) (s : Aligns w) (d : Depths
             let g : position + k + padding (position + k) w ≡ position + (k + r .value) = omega arith in
             rw (← g) (padding-behind s (position + k))
 
-        pub reading-short : (f : leafs.Checked) → f ≡ numberAt w big l (r .value) → (f .refusal ≡ 0 → ⊥) → Done this (length l) (length l) n out out₁ (answer 3 (r .value) m)
+        pub reading-short : (f : leafs.Checked) → f ≡ numberAt w big l (r .value) → (f .refusal ≡ 0 → ⊥) → Done this (length l) (length l) n out out₁ (answer (f .refusal) (r .value) m)
         unfolding numberAt numberIn
         reading-short f x y = go (leb (r .value + w) (length l)) refl
           where
-            go : (t : Bool) → leb (r .value + w) (length l) ≡ t → Done this (length l) (length l) n out out₁ (answer 3 (r .value) m)
+            go : (t : Bool) → leb (r .value + w) (length l) ≡ t → Done this (length l) (length l) n out out₁ (answer (f .refusal) (r .value) m)
             go true q = let v : f .refusal ≡ 0 = ap (λ x. x .refusal) x ∙ rw q in absurd (y v)
             go false q =
                 let v = leb-false (r .value + w) (length l) q in
-                rw (add-zero (r .value)) at (present-by out₁ (answer 3 0 m) (rw (number-cut position big kind w (opened Depth.maybe d) k l (r .value) (omega arith) aligned-there (omega arith)) (refusing 3 _ _ _ m out₁ (λ t. omega arith))))
+                let u : f .refusal ≡ 3 = ap (λ x. x .refusal) x ∙ rw q in
+                rw u (rw (add-zero (r .value)) at (present-by out₁ (answer 3 0 m) (rw (number-cut position big kind w (opened Depth.maybe d) k l (r .value) (omega arith) aligned-there (omega arith)) (refusing 3 _ _ _ m out₁ (λ t. omega arith)))))
 
         pub reading-there : (f : leafs.Checked) (c : ℕ) (out′ : List ℕ) → f ≡ numberAt w big l (r .value) → f .refusal ≡ 0 → c ≡ nextEvent m → out′ ≡ put out₁ m (event kind (k + r .value) (f .value))
             → Done this (length l) (length l) n out out′ (answer 0 (r .value + w) c)

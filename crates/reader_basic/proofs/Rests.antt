@@ -1,7 +1,7 @@
 -- What is left of a reading, in a loop. Whatever answers what is left answers the whole, with what was passed in front. Assumes nothing.
 use mathlib.Core.Path.{_≡_}
 use mathlib.Core.List.{List}
-use Prim.Native.Nat.{ℕ, _+_, _-_, _≤_}
+use Prim.Native.Nat.{ℕ, _+_, _≤_}
 use native.Mathlib.Nat.{add-zero, add-assoc}
 use native.Mathlib.Omega.{arith}
 use Rattle.meaning.specs.Outcome.{Outcome, chain}

@@ -9,13 +9,13 @@ use Rattle.meaning.specs.Outcome.{Outcome}
 use Rattle.utils.specs.declared.Checked as leafs
 use Rattle.framing_offsets.specs.Tables.{tableIn, offsetIn}
 use Rattle.framing_offsets.specs.declared.FramingOffsets.{FramingOffsets}
-use Rattle.reader_basic.specs.Answers.{Done, From, Between}
+use Rattle.reader_basic.specs.Answers.{From, Between}
 use Rattle.reader_basic.specs.Parts.{Tabled, elementsBy}
 use Rattle.reader_basic.specs.declared.Answer.{Answer}
 use Rattle.reader_basic.proofs.Answers.{answer}
 use Rattle.reader_basic.proofs.Loops.{tail, ends-below, next-end, length-ends, FramedLeft, framed-begin, framed-end, framed-stop, framed-next}
 
-pub body-ends : {t : FramingOffsets} {part : List ℕ} {lead place : ℕ} → Tabled t part lead place → lead + t .start ≤ length part
+pub body-ends : {t : FramingOffsets} {part : List ℕ} {lead : ℕ} → Tabled t part lead → lead + t .start ≤ length part
 body-ends {part = part} {lead = lead} k = let b = k .begins in omega (arith, k .stands .start, length-drop lead part)
 
 -- what is left after i elements and u bytes
@@ -25,7 +25,7 @@ Left step t part lead n l i u count out = FramedLeft step part lead (lead + t .s
 pub left-begin : (step : ℕ → ℕ → Outcome) (t : FramingOffsets) (part : List ℕ) (lead n : ℕ) (l : List ℕ) → Left step t part lead n l 0 0 n l
 left-begin step t part lead n l = framed-begin step part lead (lead + t .start) n l _ (omega arith)
 
-module _ {step : ℕ → ℕ → Outcome} {t : FramingOffsets} {part : List ℕ} {lead place n : ℕ} {l : List ℕ} {i u count : ℕ} {out : List ℕ} (k : Tabled t part lead place) (v : Left step t part lead n l i u count out) where
+module _ {step : ℕ → ℕ → Outcome} {t : FramingOffsets} {part : List ℕ} {lead n : ℕ} {l : List ℕ} {i u count : ℕ} {out : List ℕ} (k : Tabled t part lead) (v : Left step t part lead n l i u count out) where
   pub left-starts : lead + u ≤ length part
   left-starts = omega (arith, v .bound, body-ends k)
 
@@ -36,22 +36,36 @@ module _ {step : ℕ → ℕ → Outcome} {t : FramingOffsets} {part : List ℕ}
   pub left-end : t .count ≤ i → From (elementsBy step t part lead) part lead n l out (answer 0 (u + (length part - (lead + t .start))) count)
   left-end h = framed-end _ _ _ _ _ _ _ _ _ _ _ v (body-ends k) (omega (arith, length-ends (tableIn t) (drop lead part)))
 
-  -- one more element, up to the next end
-  module _ (h : i < t .count) (end : leafs.Checked) (e : end ≡ offsetIn (tableIn t) i (take (length part - lead) (drop lead part))) where
-    end-is : end .value ≡ getD (endsOf (tableIn t) (drop lead part)) i 0
-    end-is = next-end (k .stands) i end h (rw (tail lead part) at e)
+-- what a turn knows once it has the next end
+pub record Turn (step : ℕ → ℕ → Outcome) (t : FramingOffsets) (part : List ℕ) (lead n : ℕ) (l : List ℕ) (i u count : ℕ) (out : List ℕ) (end : leafs.Checked) : Type 0 where
+  pub tabled : Tabled t part lead
+  pub left : Left step t part lead n l i u count out
+  pub more : i < t .count
+  pub found : end ≡ offsetIn (tableIn t) i (take (length part - lead) (drop lead part))
 
-    pub turn-ends : lead + end .value ≤ length part
-    turn-ends = omega (arith, end-is, ends-below (k .stands) i, body-ends k)
+module _ {step : ℕ → ℕ → Outcome} {t : FramingOffsets} {part : List ℕ} {lead n : ℕ} {l : List ℕ} {i u count : ℕ} {out : List ℕ} {end : leafs.Checked} (k : Turn step t part lead n l i u count out end) where
+  end-is : end .value ≡ getD (endsOf (tableIn t) (drop lead part)) i 0
+  end-is = next-end (k .tabled .stands) i end (k .more) (rw (tail lead part) at (k .found))
 
-    module _ {out′ : List ℕ} (r : Answer) (d : Between (step (lead + u) (lead + end .value)) part (lead + u) (lead + end .value) count out out′ r) where
-      pub turn-fits : u + r .used ≤ length part
-      turn-fits = omega (arith, d .fits, left-starts)
+  one-more : i < length (endsOf (tableIn t) (drop lead part))
+  one-more = omega (arith, length-ends (tableIn t) (drop lead part), k .more)
 
-      pub turn-stop : (r .refusal ≡ 0 → ⊥) → From (elementsBy step t part lead) part lead n l out′ (answer (r .refusal) (u + r .used) (r .count))
-      turn-stop z =
-          framed-stop _ _ _ _ _ _ _ _ _ _ _ v (body-ends k) (omega (arith, length-ends (tableIn t) (drop lead part))) r out′ (omega (arith, ends-below (k .stands) i)) (rw end-is at d) z
+  below-start : getD (endsOf (tableIn t) (drop lead part)) i 0 ≤ lead + t .start - lead
+  below-start = omega (arith, ends-below (k .tabled .stands) i)
 
-      pub turn-next : r .refusal ≡ 0 → Left step t part lead n l (i + 1) (u + r .used) (r .count) out′
-      turn-next z =
-          framed-next _ _ _ _ _ _ _ _ _ _ _ v (body-ends k) (omega (arith, length-ends (tableIn t) (drop lead part))) r out′ (omega (arith, ends-below (k .stands) i)) (rw end-is at d) z
+  pub turn-starts : lead + u ≤ length part
+  turn-starts = left-starts (k .tabled) (k .left)
+
+  pub turn-ends : lead + end .value ≤ length part
+  turn-ends = omega (arith, end-is, below-start, body-ends (k .tabled))
+
+  -- its element is read
+  module _ {out′ : List ℕ} (r : Answer) (d : Between (step (lead + u) (lead + end .value)) part (lead + u) (lead + end .value) count out out′ r) where
+    pub turn-fits : u + r .used ≤ length part
+    turn-fits = omega (arith, d .fits, turn-starts)
+
+    pub turn-stop : (r .refusal ≡ 0 → ⊥) → From (elementsBy step t part lead) part lead n l out′ (answer (r .refusal) (u + r .used) (r .count))
+    turn-stop z = framed-stop _ _ _ _ _ _ _ _ _ _ _ (k .left) (body-ends (k .tabled)) one-more r out′ below-start (rw end-is at d) z
+
+    pub turn-next : r .refusal ≡ 0 → Left step t part lead n l (i + 1) (u + r .used) (r .count) out′
+    turn-next z = framed-next _ _ _ _ _ _ _ _ _ _ _ (k .left) (body-ends (k .tabled)) one-more r out′ below-start (rw end-is at d) z

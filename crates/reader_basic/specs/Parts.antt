@@ -6,10 +6,9 @@ use Prim.Native.Nat.{ℕ, _+_, _-_, _/_, _≤_, _<_}
 use lib.ListN.{length, drop}
 use Rattle.meaning.specs.Choice.{pick}
 use Rattle.meaning.specs.Depths.{depthRefusal}
-use Rattle.meaning.specs.Types.{bool, structure}
 use Rattle.meaning.specs.Offsets.{Table, noneAbove, endsOf}
 use Rattle.meaning.specs.Outcome.{Outcome, chain, passing}
-use Rattle.meaning.specs.Reading.{Reader, readBool, readNumber, readText, elementsTo, offsetStands, fieldOffset}
+use Rattle.meaning.specs.Reading.{Reader, readBool, readNumber, readText, readMaybe, elementsTo, offsetStands, fieldOffset}
 use Rattle.meaning.specs.Padding.{Aligns}
 use Rattle.meaning.specs.Limits.{largestFrame}
 use Rattle.meaning.specs.Letters.{arrayLetter, dictionaryLetter}
@@ -33,6 +32,13 @@ pub record Within (len place position : ℕ) (d : ContainerDepths) : Type 0 wher
 
 abbrev pub Inside : ℕ → ℕ → Context → Type 0
 Inside len place c = Within len place (c .position) (c .depths)
+
+-- the reader of a number, and of a reading: a number in a maybe
+abbrev pub numberBy : Context → ℕ → ℕ → Reader
+numberBy c code w = readNumber (c .position) (c .big) code w
+
+abbrev pub readingBy : Context → ℕ → ℕ → Reader
+readingBy c code w = readMaybe (c .position) w true (numberBy c code w)
 
 -- the reader of a key, by its letter
 abbrev pub keyReader : ℕ → Bool → Letter → Reader
@@ -71,9 +77,8 @@ pub record Stands (t : Table) (l : List ℕ) : Type 0 where
   pub width : 0 < t .width
   pub below : noneAbove (t .start) (endsOf t l) ≡ true
 
--- an array that begins at lead in a part at a place, and its table
-pub record Tabled (t : FramingOffsets) (l : List ℕ) (lead place : ℕ) : Type 0 where
-  pub in-frame : place + length l ≤ largestFrame
+-- an array that begins at lead in a part, and its table
+pub record Tabled (t : FramingOffsets) (l : List ℕ) (lead : ℕ) : Type 0 where
   pub begins : lead ≤ length l
   pub stands : Stands (tableIn t) (drop lead l)
 

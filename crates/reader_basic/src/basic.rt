@@ -1,9 +1,15 @@
 // Reading what holds nothing further: bools, numbers, texts, keys; and the small parts of containers.
 use crate::Answer;
 use crate::Context;
+use crate::behind;
+use crate::done;
+use crate::refused;
+use byte_order::byte_at;
+use byte_order::eight_at;
+use byte_order::four_at;
+use byte_order::two_at;
 use de::parse_padding;
 use de::read_bool;
-use de::read_number;
 use events::emit;
 use framing_offset_size::FramingOffsetSize;
 use meaning::letters::ARRAY_LETTER;
@@ -15,20 +21,21 @@ use signature::Letter;
 use signature::items::Item;
 use texts::text;
 use texts::text_refusal;
+use utils::Checked;
 ghost use mathlib.Core.Path.{_≡_};
-ghost use mathlib.Core.Bool.{true, false};
+ghost use mathlib.Core.Bool.{true};
 ghost use Prim.Native.Nat.{ℕ, _+_, _-_, _≤_, _<_};
 ghost use mathlib.Core.List.{List};
-ghost use lib.ListN.{length, take, drop};
+ghost use lib.ListN.{length};
 ghost use Rattle.meaning.specs.Depths.{Depths};
 ghost use Rattle.meaning.specs.Outcome.{Outcome, chain, closingAt};
-ghost use Rattle.meaning.specs.Reading.{child, readBool, readNumber, readText, endPadding, separator as separatorOf};
+ghost use Rattle.meaning.specs.Reading.{child, readBool, readText, endPadding, separator as separatorOf};
 ghost use Rattle.meaning.specs.Padding.{Aligns};
 ghost use Rattle.meaning.specs.Limits.{largestFrame};
 ghost use Rattle.byte_order.specs.Standing.{numberAt};
 ghost use Rattle.framing_offset_size.specs.Widths.{widthOf};
-ghost use Rattle.reader_basic.specs.Answers.{Done};
-ghost use Rattle.reader_basic.specs.Parts.{keyReader, KeyAligned, offsetAnswer, itemKind};
+ghost use Rattle.reader_basic.specs.Answers.{Done, Whole, Between};
+ghost use Rattle.reader_basic.specs.Parts.{Inside, numberBy, keyReader, KeyAligned, offsetAnswer, itemKind};
 
 pub fn wide(code: u8) -> u64
     ensures { λ r. ⌜ r ≡ code ⌝ }
@@ -47,60 +54,23 @@ pub fn close(r: Answer, place: usize, out: &mut [u64]) -> Answer
         return r;
     }
     let count = emit(out, r.count, CONTAINER_END, place + used, 0);
-    Answer {
-        refusal: 0,
-        used,
-        count,
-    }
+    done(used, count)
 }
 
 pub fn boolean(part: &[u8], place: usize, out: &mut [u64], n: usize) -> Answer
-    ensures { λ r. ⌜ ((d : Depths) → Done (readBool d place (now (part .entry))) (length (now (part .entry))) (length (now (part .entry))) n (now (out .entry)) (now (out .exit)) r) ⌝ }
+    ensures { λ r. ⌜ ((d : Depths) → Whole (readBool d place (now (part .entry))) (now (part .entry)) n (now (out .entry)) (now (out .exit)) r) ⌝ }
 {
     let found = read_bool(part, 0);
     let refusal = found.refusal;
     if refusal != 0 {
-        return Answer {
-            refusal: OUT_OF_BOUNDS,
-            used: 0,
-            count: n,
-        };
+        return refused(refusal, 0, n);
     }
     let count = emit(out, n, BOOL_LETTER, place, found.value as u64);
-    Answer {
-        refusal: 0,
-        used: 1,
-        count,
-    }
+    done(1, count)
 }
 
-// A byte, and the numbers of two, four and eight bytes, at a place.
-pub fn byte_at(part: &[u8], place: usize) -> utils::Checked
-    ensures { λ r. ⌜ r ≡ numberAt 1 false (now (part .entry)) place ⌝ }
-{
-    read_number(part, place, FramingOffsetSize::U8, false)
-}
-
-pub fn two_at(part: &[u8], place: usize, big: bool) -> utils::Checked
-    ensures { λ r. ⌜ r ≡ numberAt 2 big (now (part .entry)) place ⌝ }
-{
-    read_number(part, place, FramingOffsetSize::U16, big)
-}
-
-pub fn four_at(part: &[u8], place: usize, big: bool) -> utils::Checked
-    ensures { λ r. ⌜ r ≡ numberAt 4 big (now (part .entry)) place ⌝ }
-{
-    read_number(part, place, FramingOffsetSize::U32, big)
-}
-
-pub fn eight_at(part: &[u8], place: usize, big: bool) -> utils::Checked
-    ensures { λ r. ⌜ r ≡ numberAt 8 big (now (part .entry)) place ⌝ }
-{
-    read_number(part, place, FramingOffsetSize::U64, big)
-}
-
-// The number of a width at a place.
-pub fn number_at(part: &[u8], place: usize, big: bool, width: usize) -> utils::Checked
+// The number of a width at a place. byte_order has one that refuses every other width: with it an array of numbers takes a sixth more.
+pub fn number_at(part: &[u8], place: usize, width: usize, big: bool) -> Checked
     ensures { λ r. ⌜ (Aligns width → r ≡ numberAt width big (now (part .entry)) place) ⌝ }
 {
     match width {
@@ -120,54 +90,34 @@ pub fn number(
     out: &mut [u64],
     n: usize,
 ) -> Answer
-    requires { ⌜ (place + length (now part) ≤ largestFrame) × (context .position ≤ largestFrame) × Aligns width ⌝ }
-    ensures { λ r. ⌜ ((d : Depths) → Done (readNumber (context .position) (context .big) code width d place (now (part .entry))) (length (now (part .entry))) (length (now (part .entry))) n (now (out .entry)) (now (out .exit)) r) ⌝ }
+    requires { ⌜ Inside (length (now part)) place context × Aligns width ⌝ }
+    ensures { λ r. ⌜ ((d : Depths) → Whole (numberBy context code width d place (now (part .entry))) (now (part .entry)) n (now (out .entry)) (now (out .exit)) r) ⌝ }
 {
     let padding = parse_padding(context.position + place, 0, width, part);
     let refusal = padding.refusal;
     let lead = padding.value;
     if refusal != 0 {
-        return Answer {
-            refusal,
-            used: 0,
-            count: n,
-        };
+        return refused(refusal, 0, n);
     }
-    let found = number_at(part, lead, context.big, width);
+    let found = number_at(part, lead, width, context.big);
     let short = found.refusal;
     if short != 0 {
-        return Answer {
-            refusal: OUT_OF_BOUNDS,
-            used: 0,
-            count: n,
-        };
+        return refused(short, 0, n);
     }
     let count = emit(out, n, wide(code), place + lead, found.value as u64);
-    Answer {
-        refusal: 0,
-        used: lead + width,
-        count,
-    }
+    done(lead + width, count)
 }
 
 pub fn text_value(part: &[u8], place: usize, code: u8, out: &mut [u64], n: usize) -> Answer
-    ensures { λ r. ⌜ ((d : Depths) → Done (readText code d place (now (part .entry))) (length (now (part .entry))) (length (now (part .entry))) n (now (out .entry)) (now (out .exit)) r) ⌝ }
+    ensures { λ r. ⌜ ((d : Depths) → Whole (readText code d place (now (part .entry))) (now (part .entry)) n (now (out .entry)) (now (out .exit)) r) ⌝ }
 {
     let letters = text(part);
     let refusal = text_refusal(letters);
     if refusal != 0 {
-        return Answer {
-            refusal,
-            used: part.len(),
-            count: n,
-        };
+        return refused(refusal, part.len(), n);
     }
     let count = emit(out, n, wide(code), place, letters.len() as u64);
-    Answer {
-        refusal: 0,
-        used: part.len(),
-        count,
-    }
+    done(part.len(), count)
 }
 
 // A dictionary's key, by its letter.
@@ -179,8 +129,8 @@ pub fn key_value(
     out: &mut [u64],
     n: usize,
 ) -> Answer
-    requires { ⌜ (place + length (now part) ≤ largestFrame) × (context .position ≤ largestFrame) × KeyAligned key ⌝ }
-    ensures { λ r. ⌜ ((d : Depths) → Done (keyReader (context .position) (context .big) key d place (now (part .entry))) (length (now (part .entry))) (length (now (part .entry))) n (now (out .entry)) (now (out .exit)) r) ⌝ }
+    requires { ⌜ Inside (length (now part)) place context × KeyAligned key ⌝ }
+    ensures { λ r. ⌜ ((d : Depths) → Whole (keyReader (context .position) (context .big) key d place (now (part .entry))) (now (part .entry)) n (now (out .entry)) (now (out .exit)) r) ⌝ }
 {
     match key {
         Letter::Number { code, width } => number(part, place, context, code, width, out, n),
@@ -200,22 +150,14 @@ pub fn child_key(
     out: &mut [u64],
     n: usize,
 ) -> Answer
-    requires { ⌜ (place + length (now part) ≤ largestFrame) × (context .position ≤ largestFrame) × (j ≤ length (now part)) × KeyAligned key ⌝ }
-    ensures { λ r. ⌜ ((d : Depths) → Done (child (keyReader (context .position) (context .big) key d) place (now (part .entry)) j e) (e - j) (length (now (part .entry)) - j) n (now (out .entry)) (now (out .exit)) r) ⌝ }
+    requires { ⌜ Inside (length (now part)) place context × (j ≤ length (now part)) × KeyAligned key ⌝ }
+    ensures { λ r. ⌜ ((d : Depths) → Between (child (keyReader (context .position) (context .big) key d) place (now (part .entry)) j e) (now (part .entry)) j e n (now (out .entry)) (now (out .exit)) r) ⌝ }
 {
     if e < j {
-        return Answer {
-            refusal: OUT_OF_BOUNDS,
-            used: 0,
-            count: n,
-        };
+        return refused(OUT_OF_BOUNDS, 0, n);
     }
     if part.len() < e {
-        return Answer {
-            refusal: OUT_OF_BOUNDS,
-            used: 0,
-            count: n,
-        };
+        return refused(OUT_OF_BOUNDS, 0, n);
     }
     key_value(key, &part[j..e], place + j, context, out, n)
 }
@@ -236,41 +178,22 @@ pub fn end_padding(
     let padding = parse_padding(position + place, at, alignment, part);
     let refusal = padding.refusal;
     if refusal != 0 {
-        return Answer {
-            refusal,
-            used: r.used,
-            count: r.count,
-        };
+        return refused(refusal, r.used, r.count);
     }
-    Answer {
-        refusal: r.refusal,
-        used: r.used + padding.value,
-        count: r.count,
-    }
+    behind(padding.value, r)
 }
 
 // The offset before an end of a structure's table, over a part whose structure begins at lead.
-pub fn offset_before(
-    part: &[u8],
-    lead: usize,
-    size: FramingOffsetSize,
-    end: usize,
-) -> utils::Checked
+pub fn offset_before(part: &[u8], lead: usize, size: FramingOffsetSize, end: usize) -> Checked
     requires { ⌜ end ≤ length (now part) ⌝ }
     ensures { λ r. ⌜ r ≡ offsetAnswer lead (widthOf size) end (now (part .entry)) ⌝ }
 {
     let width = size.width();
     if end < lead {
-        return utils::Checked {
-            refusal: OUT_OF_BOUNDS,
-            value: 0,
-        };
+        return Checked::failed(OUT_OF_BOUNDS);
     }
     if end < width {
-        return utils::Checked {
-            refusal: OUT_OF_BOUNDS,
-            value: 0,
-        };
+        return Checked::failed(OUT_OF_BOUNDS);
     }
     size.read_last_offset_from_buffer(&part[lead..end])
 }

@@ -3,8 +3,11 @@ use crate::Answer;
 use crate::Context;
 use crate::basic::number;
 use crate::basic::number_at;
-use crate::basic::two_at;
 use crate::basic::wide;
+use crate::behind;
+use crate::done;
+use crate::refused;
+use byte_order::two_at;
 use de::parse_padding;
 use events::emit;
 use framing_offsets::FramingOffsets;
@@ -12,21 +15,19 @@ use framing_offsets::next;
 use meaning::letters::MAYBE_LETTER;
 use meaning::letters::NOTHING_LETTER;
 use meaning::refusals::OUT_OF_BOUNDS;
+use utils::Checked;
 ghost use mathlib.Core.Path.{_≡_};
-ghost use mathlib.Core.Bool.{Bool, true};
+ghost use mathlib.Core.Bool.{Bool};
 ghost use Prim.Native.Nat.{ℕ, _+_, _-_, _≤_, _<_, min};
-ghost use lib.ListN.{length, drop};
+ghost use lib.ListN.{length};
 ghost use Rattle.meaning.specs.Depths.{Depths};
-ghost use Rattle.meaning.specs.Offsets.{endsOf};
-ghost use Rattle.meaning.specs.Outcome.{chain, passing};
-ghost use Rattle.meaning.specs.Reading.{child, childStep, readNumber, readMaybe, elements as elementsIn, elementsTo};
+ghost use Rattle.meaning.specs.Reading.{child, childStep, elements as elementsIn};
 ghost use Rattle.meaning.specs.Padding.{Aligns};
 ghost use Rattle.meaning.specs.Limits.{largestFrame, largestNumber};
 ghost use Rattle.byte_order.specs.Standing.{numberAt};
 ghost use Rattle.container_depths.specs.Opening.{depthsOf};
-ghost use Rattle.framing_offsets.specs.Tables.{tableIn};
-ghost use Rattle.reader_basic.specs.Answers.{Done};
-ghost use Rattle.reader_basic.specs.Parts.{Stands};
+ghost use Rattle.reader_basic.specs.Answers.{Whole, From, Between};
+ghost use Rattle.reader_basic.specs.Parts.{Inside, numberBy, readingBy, Tabled, elementsBy};
 ghost use Rattle.reader_basic.specs.Runs.{countedOf, numbersFrom};
 
 // How many events there are with so many more.
@@ -47,23 +48,15 @@ fn counted(left: usize, width: usize, n: usize) -> Answer
     let over = left % width;
     let count = plus(n, left / width);
     if over != 0 {
-        return Answer {
-            refusal: OUT_OF_BOUNDS,
-            used: left - over,
-            count,
-        };
+        return refused(OUT_OF_BOUNDS, left - over, count);
     }
-    Answer {
-        refusal: 0,
-        used: left,
-        count,
-    }
+    done(left, count)
 }
 
 // Bytes from j to the part's end, as a run of numbers.
 fn byte_run(part: &[u8], j: usize, place: usize, code: u8, out: &mut [u64], n: usize) -> Answer
     requires { ⌜ (place + length (now part) ≤ largestFrame) × (j ≤ length (now part)) ⌝ }
-    ensures { λ r. ⌜ ((big : Bool) → Done (numbersFrom big code 1 place (now (part .entry)) j) (length (now (part .entry)) - j) (length (now (part .entry)) - j) n (now (out .entry)) (now (out .exit)) r) ⌝ }
+    ensures { λ r. ⌜ ((big : Bool) → From (numbersFrom big code 1 place (now (part .entry)) j) (now (part .entry)) j n (now (out .entry)) (now (out .exit)) r) ⌝ }
 {
     let len = part.len();
     let kind = wide(code);
@@ -92,7 +85,7 @@ fn run(
     n: usize,
 ) -> Answer
     requires { ⌜ (place + length (now part) ≤ largestFrame) × (j ≤ length (now part)) × Aligns width ⌝ }
-    ensures { λ r. ⌜ Done (numbersFrom big code width place (now (part .entry)) j) (length (now (part .entry)) - j) (length (now (part .entry)) - j) n (now (out .entry)) (now (out .exit)) r ⌝ }
+    ensures { λ r. ⌜ From (numbersFrom big code width place (now (part .entry)) j) (now (part .entry)) j n (now (out .entry)) (now (out .exit)) r ⌝ }
 {
     if width == 1 {
         return byte_run(part, j, place, code, out, n);
@@ -106,7 +99,7 @@ fn run(
         if len - at < width {
             return answer;
         }
-        let found = number_at(part, at, big, width);
+        let found = number_at(part, at, width, big);
         count = emit(out, count, kind, place + at, found.value as u64);
         at = at + width;
     }
@@ -124,15 +117,11 @@ pub fn numbers(
     out: &mut [u64],
     n: usize,
 ) -> Answer
-    requires { ⌜ (place + length (now part) ≤ largestFrame) × (context .position ≤ largestFrame) × (lead ≤ length (now part)) × Aligns width ⌝ }
-    ensures { λ r. ⌜ ((d : Depths) (b : ℕ) → Done (elementsIn (length (now (part .entry))) (childStep (readNumber (context .position) (context .big) code width) d place (now (part .entry)) b) (length (now (part .entry))) lead) (length (now (part .entry)) - lead) (length (now (part .entry)) - lead) n (now (out .entry)) (now (out .exit)) r) ⌝ }
+    requires { ⌜ Inside (length (now part)) place context × (lead ≤ length (now part)) × Aligns width ⌝ }
+    ensures { λ r. ⌜ ((d : Depths) (b : ℕ) → From (elementsIn (length (now (part .entry))) (childStep (numberBy context code width) d place (now (part .entry)) b) (length (now (part .entry))) lead) (now (part .entry)) lead n (now (out .entry)) (now (out .exit)) r) ⌝ }
 {
     if part.len() <= lead {
-        return Answer {
-            refusal: 0,
-            used: 0,
-            count: n,
-        };
+        return done(0, n);
     }
     let first = number(&part[lead..], place + lead, context, code, width, out, n);
     let refusal = first.refusal;
@@ -150,21 +139,17 @@ pub fn numbers(
         out,
         first.count,
     );
-    Answer {
-        refusal: r.refusal,
-        used: used + r.used,
-        count: r.count,
-    }
+    behind(used, r)
 }
 
 // The number of a reading. The wall's readings have two bytes.
-fn reading_number(part: &[u8], place: usize, big: bool, width: usize) -> utils::Checked
+fn reading_number(part: &[u8], place: usize, big: bool, width: usize) -> Checked
     ensures { λ r. ⌜ (Aligns width → r ≡ numberAt width big (now (part .entry)) place) ⌝ }
 {
     if width == 2 {
         return two_at(part, place, big);
     }
-    number_at(part, place, big, width)
+    number_at(part, place, width, big)
 }
 
 // A reading. Where it is present, one more container is open.
@@ -177,52 +162,32 @@ fn reading(
     out: &mut [u64],
     n: usize,
 ) -> Answer
-    requires { ⌜ (place + length (now part) ≤ largestFrame) × (context .position ≤ largestFrame) × Aligns width ⌝ }
-    ensures { λ r. ⌜ Done (readMaybe (context .position) width true (readNumber (context .position) (context .big) code width) (depthsOf (context .depths)) place (now (part .entry))) (length (now (part .entry))) (length (now (part .entry))) n (now (out .entry)) (now (out .exit)) r ⌝ }
+    requires { ⌜ Inside (length (now part)) place context × Aligns width ⌝ }
+    ensures { λ r. ⌜ Whole (readingBy context code width (depthsOf (context .depths)) place (now (part .entry))) (now (part .entry)) n (now (out .entry)) (now (out .exit)) r ⌝ }
 {
     let padding = parse_padding(context.position + place, 0, width, part);
     let refusal = padding.refusal;
     let lead = padding.value;
     if refusal != 0 {
-        return Answer {
-            refusal,
-            used: 0,
-            count: n,
-        };
+        return refused(refusal, 0, n);
     }
     if part.len() <= lead {
         let count = emit(out, n, NOTHING_LETTER, place + lead, 0);
-        return Answer {
-            refusal: 0,
-            used: lead,
-            count,
-        };
+        return done(lead, count);
     }
     let raised = context.depths.inc_maybe();
     let deep = raised.refusal;
     if deep != 0 {
-        return Answer {
-            refusal: deep,
-            used: lead,
-            count: n,
-        };
+        return refused(deep, lead, n);
     }
     let m = emit(out, n, MAYBE_LETTER, place + lead, 0);
     let found = reading_number(part, lead, context.big, width);
     let short = found.refusal;
     if short != 0 {
-        return Answer {
-            refusal: OUT_OF_BOUNDS,
-            used: lead,
-            count: m,
-        };
+        return refused(short, lead, m);
     }
     let count = emit(out, m, wide(code), place + lead, found.value as u64);
-    Answer {
-        refusal: 0,
-        used: lead + width,
-        count,
-    }
+    done(lead + width, count)
 }
 
 // A reading from j to e of an array's part.
@@ -237,22 +202,11 @@ fn child_reading(
     out: &mut [u64],
     n: usize,
 ) -> Answer
-    requires { ⌜ (place + length (now part) ≤ largestFrame) × (context .position ≤ largestFrame) × (j ≤ length (now part)) × Aligns width ⌝ }
-    ensures { λ r. ⌜ Done (child (readMaybe (context .position) width true (readNumber (context .position) (context .big) code width) (depthsOf (context .depths))) place (now (part .entry)) j e) (e - j) (length (now (part .entry)) - j) n (now (out .entry)) (now (out .exit)) r ⌝ }
+    requires { ⌜ Inside (length (now part)) place context × (e ≤ length (now part)) × Aligns width ⌝ }
+    ensures { λ r. ⌜ Between (child (readingBy context code width (depthsOf (context .depths))) place (now (part .entry)) j e) (now (part .entry)) j e n (now (out .entry)) (now (out .exit)) r ⌝ }
 {
     if e < j {
-        return Answer {
-            refusal: OUT_OF_BOUNDS,
-            used: 0,
-            count: n,
-        };
-    }
-    if part.len() < e {
-        return Answer {
-            refusal: OUT_OF_BOUNDS,
-            used: 0,
-            count: n,
-        };
+        return refused(OUT_OF_BOUNDS, 0, n);
     }
     reading(&part[j..e], place + j, context, code, width, out, n)
 }
@@ -269,8 +223,8 @@ pub fn readings(
     out: &mut [u64],
     n: usize,
 ) -> Answer
-    requires { ⌜ (place + length (now part) ≤ largestFrame) × (context .position ≤ largestFrame) × (lead ≤ length (now part)) × Aligns width × Stands (tableIn offsets) (drop lead (now part)) ⌝ }
-    ensures { λ r. ⌜ Done (chain (elementsTo (childStep (readMaybe (context .position) width true (readNumber (context .position) (context .big) code width)) (depthsOf (context .depths)) place (now (part .entry)) (lead + offsets .start)) lead (endsOf (tableIn offsets) (drop lead (now (part .entry)))) lead) (passing (length (now (part .entry)) - (lead + offsets .start)))) (length (now (part .entry)) - lead) (length (now (part .entry)) - lead) n (now (out .entry)) (now (out .exit)) r ⌝ }
+    requires { ⌜ Inside (length (now part)) place context × Tabled offsets (now part) lead × Aligns width ⌝ }
+    ensures { λ r. ⌜ From (elementsBy (childStep (readingBy context code width) (depthsOf (context .depths)) place (now (part .entry)) (lead + offsets .start)) offsets (now (part .entry)) lead) (now (part .entry)) lead n (now (out .entry)) (now (out .exit)) r ⌝ }
 {
     let table = &part[lead..];
     let many = offsets.count;
@@ -291,22 +245,12 @@ pub fn readings(
             out,
             count,
         );
-        let refusal = r.refusal;
-        let used = r.used;
-        count = r.count;
-        if refusal != 0 {
-            return Answer {
-                refusal,
-                used: u + used,
-                count,
-            };
+        if r.refusal != 0 {
+            return behind(u, r);
         }
-        u = u + used;
+        u = u + r.used;
+        count = r.count;
         i = i + 1;
     }
-    Answer {
-        refusal: 0,
-        used: u + (part.len() - body_end),
-        count,
-    }
+    done(u + (part.len() - body_end), count)
 }

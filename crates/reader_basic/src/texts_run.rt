@@ -44,7 +44,7 @@ pub fn texts(
     out: &mut [u64],
     n: usize,
 ) -> Answer
-    requires { ⌜ Tabled offsets (now part) lead place ⌝ }
+    requires { ⌜ (place + length (now part) ≤ largestFrame) × Tabled offsets (now part) lead ⌝ }
     ensures { λ r. ⌜ ((d : Depths) → From (elementsBy (childStep (readText code) d place (now (part .entry)) (lead + offsets .start)) offsets (now (part .entry)) lead) (now (part .entry)) lead n (now (out .entry)) (now (out .exit)) r) ⌝ }
 {
     let table = &part[lead..];

@@ -7,19 +7,37 @@ use Rattle.reader_basic.proofs.basic.boolean.Tie as tie
 read-bool-requires : tie.Need-read-bool-requires
 read-bool-requires c κs = search needs
 
+refused-requires : tie.Need-refused-requires
+refused-requires c κs = search needs
+
 returns : tie.Need-returns
 returns c =
-    λ d. bool-missing d _ _ _ _ _ (c .before .read-bool .ensures) (c .if1 .taken)
+    λ d. rw (c .refused .ensures) (bool-missing d _ _ _ _ _ (c .before .before .read-bool .ensures) (c .before .if1 .taken))
 
 emit-requires : tie.Need-emit-requires
 emit-requires c κs = search needs
+
+done-requires : tie.Need-done-requires
+done-requires c κs = search needs
 
 same-length : tie.Need-same-length
 same-length c = search needs
 
 returns-2 : tie.Need-returns-2
 returns-2 c =
-    λ d. bool-there d _ _ _ _ _ (c .before .before .before .before .before .read-bool .ensures) _ _ (c .before .before .before .before .if1 .left) (c .before .before .emit .ensures .0) (c .before .before .emit .ensures .1)
+    let at-emit = c .before .before .before in
+    let at-if1 = at-emit .before .before in
+    let at-read-bool = at-if1 .before in
+    λ d. rw (c .done .ensures) (bool-there d _ _ _ _ _ (at-read-bool .read-bool .ensures) _ _ (at-if1 .if1 .left) (at-emit .emit .ensures .0) (at-emit .emit .ensures .1))
 
 pub boolean-spec : {M : Type 1} → statement M
-boolean-spec = tie.close (tie.spec read-bool-requires returns emit-requires same-length returns-2)
+boolean-spec =
+    tie.close
+    (tie.spec
+    read-bool-requires
+    refused-requires
+    returns
+    emit-requires
+    done-requires
+    same-length
+    returns-2)

@@ -16,12 +16,16 @@ add-emit c = search needs
 emit-requires : tie.Need-emit-requires
 emit-requires c κs = search needs
 
+done-requires : tie.Need-done-requires
+done-requires c κs = search needs
+
 same-length : tie.Need-same-length
 same-length c = search needs
 
 returns-2 : tie.Need-returns-2
 returns-2 c =
-    λ o end len n l d. closed end len n _ _ l _ _ o _ (c .before .before .before .before .if1 .left) (c .before .before .emit .ensures .0) (c .before .before .emit .ensures .1) d
+    λ o end len n l d. rw (c .done .ensures) (closed end len n _ _ l _ _ o _ (c .before .before .before .before .before .if1 .left) (c .before .before .before .emit .ensures .0) (c .before .before .before .emit .ensures .1) d)
 
 pub close-spec : {M : Type 1} → statement M
-close-spec = tie.close (tie.spec returns add-emit emit-requires same-length returns-2)
+close-spec =
+    tie.close (tie.spec returns add-emit emit-requires done-requires same-length returns-2)

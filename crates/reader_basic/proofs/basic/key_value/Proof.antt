@@ -10,7 +10,7 @@ enum-known-key c = search needs
 number-requires : tie.Need-number-requires
 number-requires c κs =
     let s = c .before .before .before .before .before .before in
-    (s .pre .0, s .pre .1, number-aligns _ _ _ (c .before .before .key .given .1) (s .pre .2))
+    (s .pre .0, number-aligns _ _ _ (c .before .before .key .given .1) (s .pre .1))
 
 enum-known-key-2 : tie.Need-enum-known-key-2
 enum-known-key-2 c = search needs

@@ -1,7 +1,8 @@
 -- `reader_basic::basic::number_at` meets its contract. Assumes nothing.
 use mathlib.Core.Path.{_∙_}
 use borrow.Author.Needs.{needs}
-use Rattle.reader_basic.proofs.Leaves.{byte-number, eight-left}
+use Rattle.byte_order.proofs.Standings.{byte-number}
+use Rattle.reader_basic.proofs.Leaves.{eight-left}
 use Rattle.reader_basic.proofs.basic.number_at.Statement.{statement}
 use Rattle.reader_basic.proofs.basic.number_at.Tie as tie
 

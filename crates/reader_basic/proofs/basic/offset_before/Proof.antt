@@ -8,13 +8,19 @@ use Rattle.reader_basic.proofs.basic.offset_before.Tie as tie
 width-requires : tie.Need-width-requires
 width-requires c κs = search needs
 
+failed-requires : tie.Need-failed-requires
+failed-requires c κs = search needs
+
 returns : tie.Need-returns
 returns c =
-    offset-below _ _ _ _ (c .if1 .taken)
+    c .failed .ensures ∙ offset-below _ _ _ _ (c .before .if1 .taken)
+
+failed-requires-2 : tie.Need-failed-requires-2
+failed-requires-2 c κs = search needs
 
 returns-2 : tie.Need-returns-2
 returns-2 c =
-    offset-narrow _ _ _ _ (c .before .if1 .left) (rw (c .before .before .width .ensures) at (c .if2 .taken))
+    c .failed2 .ensures ∙ offset-narrow _ _ _ _ (c .before .before .if1 .left) (rw (c .before .before .before .width .ensures) at (c .before .if2 .taken))
 
 part-read-last-offset-from-buffer-start : tie.Need-part-read-last-offset-from-buffer-start
 part-read-last-offset-from-buffer-start c = search needs
@@ -27,14 +33,20 @@ read-last-offset-from-buffer-requires c κs = search needs
 
 returns-3 : tie.Need-returns-3
 returns-3 c =
-    c .read-last-offset-from-buffer .ensures ∙ offset-read _ _ _ _ (c .before .before .before .if1 .left) (rw (c .before .before .before .before .width .ensures) at (c .before .before .if2 .left)) (c .before .before .before .before .before .before .pre)
+    let at-if2 = c .before .before in
+    let at-if1 = at-if2 .before in
+    let at-width = at-if1 .before in
+    let start = at-width .before .before in
+    c .read-last-offset-from-buffer .ensures ∙ offset-read _ _ _ _ (at-if1 .if1 .left) (rw (at-width .width .ensures) at (at-if2 .if2 .left)) (start .pre)
 
 pub offset-before-spec : {M : Type 1} → statement M
 offset-before-spec =
     tie.close
     (tie.spec
     width-requires
+    failed-requires
     returns
+    failed-requires-2
     returns-2
     part-read-last-offset-from-buffer-start
     part-read-last-offset-from-buffer-end

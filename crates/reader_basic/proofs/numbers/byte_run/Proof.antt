@@ -10,11 +10,6 @@ use Rattle.meaning.proofs.PaddingLaws.{by1}
 use Rattle.reader_basic.proofs.NumberLaws.{RunLeft, run-begin, run-next, run-short, run-full}
 use Rattle.reader_basic.proofs.numbers.byte_run.Statement.{statement}
 use Rattle.reader_basic.proofs.numbers.byte_run.Tie as tie
-use Rattle.reader_basic.proofs.numbers.byte_run.Reads as reads
-use Rattle.reader_basic.proofs.numbers.byte_run.Lts as lts
-use Rattle.events.proofs.emit.Reads as emit-reads
-use Rattle.reader_basic.proofs.numbers.counted.Reads as counted-reads
-use Rattle.reader_basic.proofs.basic.wide.Reads as wide-reads
 
 abbrev Inv-loop : tie.InvT-loop
 Inv-loop part j place code out₀ n len kind answer at₀ count₀ out at count =
@@ -74,7 +69,14 @@ loop-less c =
 
 loop-again : tie.Need-loop-again Inv-loop μ-loop
 loop-again c =
-    λ big. run-next _ _ _ _ _ _ _ _ _ _ _ (c .before .before .before .before .before .before .before .before .loop .inv big) by1 _ _ _ (omega (arith, c .before .before .before .before .before .before .if1 .left)) (sym (spelled-byte big (c .before .before .before .before .before .before .before .before .loop .at) (c .before .before .before .before .before .before .before .before .before .before .before .before .before .args .part .now) (omega (arith, c .before .before .before .before .before .before .if1 .left)))) (c .before .before .emit .ensures .0) (c .before .before .emit .ensures .1 ∙ rw (c .before .before .before .before .before .before .before .before .before .before .wide .ensures, c .before .before .before .wide2 .ensures))
+    let at-emit = c .before .before in
+    let at-wide2 = at-emit .before in
+    let at-if1 = at-wide2 .before .before .before in
+    let at-loop = at-if1 .before .before in
+    let at-wide = at-loop .before .before in
+    let start = at-wide .before .before .before in
+    λ big. run-next _ _ _ _ _ _ _ _ _ _ _ (at-loop .loop .inv big) by1 _ _ _ (omega (arith, at-if1 .if1 .left))
+    (sym (spelled-byte big (at-loop .loop .at) (start .args .part .now) (omega (arith, at-if1 .if1 .left)))) (at-emit .emit .ensures .0) (at-emit .emit .ensures .1 ∙ rw (at-wide .wide .ensures, at-wide2 .wide2 .ensures))
 
 same-length-2 : tie.Need-same-length-2 Inv-loop μ-loop
 same-length-2 c =

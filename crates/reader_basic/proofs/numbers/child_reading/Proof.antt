@@ -1,19 +1,15 @@
 -- `reader_basic::numbers::child_reading` meets its contract. Assumes nothing.
-use Rattle.reader_basic.proofs.Leaves.{child-before, child-past, child-there}
+use Rattle.reader_basic.proofs.Leaves.{child-before, child-there, within-child}
 use borrow.Author.Needs.{needs}
 use Rattle.reader_basic.proofs.numbers.child_reading.Statement.{statement}
 use Rattle.reader_basic.proofs.numbers.child_reading.Tie as tie
-use Rattle.reader_basic.proofs.numbers.child_reading.Reads as reads
-use Rattle.reader_basic.proofs.numbers.child_reading.Lts as lts
-use Rattle.reader_basic.proofs.numbers.reading.Reads as reading-reads
+
+refused-requires : tie.Need-refused-requires
+refused-requires c κs = search needs
 
 returns : tie.Need-returns
 returns c =
-    child-before _ _ _ _ _ _ _ _ _ (c .if1 .taken)
-
-returns-2 : tie.Need-returns-2
-returns-2 c =
-    child-past _ _ _ _ _ _ _ _ _ (c .before .if1 .left) (c .if2 .taken)
+    rw (c .refused .ensures) (child-before _ _ _ _ _ _ _ _ _ (c .before .if1 .taken))
 
 part-reading-start : tie.Need-part-reading-start
 part-reading-start c = search needs
@@ -25,24 +21,25 @@ add-reading : tie.Need-add-reading
 add-reading c = search needs
 
 reading-requires : tie.Need-reading-requires
-reading-requires c κs = search needs
+reading-requires c κs =
+    (within-child _ _ _ (c .before .before .before .before .before .pre .0) (c .before .before .if1 .left) (c .before .before .before .before .before .pre .1), c .before .before .before .before .before .pre .2)
 
 same-length : tie.Need-same-length
 same-length c = search needs
 
-returns-3 : tie.Need-returns-3
-returns-3 c =
-    child-there _ _ _ _ _ _ _ _ _ (c .before .before .before .before .before .before .if1 .left) (c .before .before .before .before .before .if2 .left) (c .before .before .reading .ensures)
+returns-2 : tie.Need-returns-2
+returns-2 c =
+    child-there _ _ _ _ _ _ _ _ _ (c .before .before .before .before .before .if1 .left) (c .before .before .before .before .before .before .before .before .pre .1) (c .before .before .reading .ensures)
 
 pub child-reading-spec : {M : Type 1} → statement M
 child-reading-spec =
     tie.close
     (tie.spec
+    refused-requires
     returns
-    returns-2
     part-reading-start
     part-reading-end
     add-reading
     reading-requires
     same-length
-    returns-3)
+    returns-2)

@@ -1,6 +1,5 @@
 -- `reader_basic::numbers::counted` meets its contract. Assumes nothing.
-use mathlib.Core.Path.{sym, _∙_}
-use native.Mathlib.Omega.{arith}
+use mathlib.Core.Path.{_∙_}
 use native.Mathlib.Nat.{mod-le}
 use borrow.Author.Needs.{needs}
 use Rattle.reader_basic.proofs.NumberLaws.{counted-over, counted-all}
@@ -16,17 +15,33 @@ div-plus c = search needs
 plus-requires : tie.Need-plus-requires
 plus-requires c κs = search needs
 
-sub-t8 : tie.Need-sub-t8
-sub-t8 c =
+sub-refused : tie.Need-sub-refused
+sub-refused c =
     mod-le _ _
+
+refused-requires : tie.Need-refused-requires
+refused-requires c κs = search needs
 
 returns : tie.Need-returns
 returns c =
-    (counted-over _ _ _ _ (c .if1 .taken) (c .before .plus .ensures .0), c .before .plus .ensures .1)
+    (c .refused .ensures ∙ counted-over _ _ _ _ (c .before .if1 .taken) (c .before .before .plus .ensures .0), c .before .before .plus .ensures .1)
+
+done-requires : tie.Need-done-requires
+done-requires c κs = search needs
 
 returns-2 : tie.Need-returns-2
 returns-2 c =
-    (counted-all _ _ _ _ (c .if1 .left) (c .before .plus .ensures .0), c .before .plus .ensures .1)
+    (c .done .ensures ∙ counted-all _ _ _ _ (c .before .if1 .left) (c .before .before .plus .ensures .0), c .before .before .plus .ensures .1)
 
 pub counted-spec : {M : Type 1} → statement M
-counted-spec = tie.close (tie.spec rem-over div-plus plus-requires sub-t8 returns returns-2)
+counted-spec =
+    tie.close
+    (tie.spec
+    rem-over
+    div-plus
+    plus-requires
+    sub-refused
+    refused-requires
+    returns
+    done-requires
+    returns-2)

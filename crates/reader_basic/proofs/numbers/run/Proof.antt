@@ -8,13 +8,6 @@ use Rattle.meaning.proofs.PaddingLaws.{aligns-positive}
 use Rattle.reader_basic.proofs.NumberLaws.{RunLeft, run-begin, run-next, run-short, run-full, found-there}
 use Rattle.reader_basic.proofs.numbers.run.Statement.{statement}
 use Rattle.reader_basic.proofs.numbers.run.Tie as tie
-use Rattle.reader_basic.proofs.numbers.run.Reads as reads
-use Rattle.reader_basic.proofs.numbers.run.Lts as lts
-use Rattle.events.proofs.emit.Reads as emit-reads
-use Rattle.reader_basic.proofs.basic.number_at.Reads as number-at-reads
-use Rattle.reader_basic.proofs.numbers.counted.Reads as counted-reads
-use Rattle.reader_basic.proofs.basic.wide.Reads as wide-reads
-use Rattle.reader_basic.proofs.numbers.byte_run.Reads as byte-run-reads
 
 abbrev Inv-loop : tie.InvT-loop
 Inv-loop part j place big code width out₀ n len kind answer at₀ count₀ out at count =
@@ -83,7 +76,15 @@ loop-less c =
 
 loop-again : tie.Need-loop-again Inv-loop μ-loop
 loop-again c =
-    run-next _ _ _ _ _ _ _ _ _ _ _ (c .before .before .before .before .before .before .before .loop .inv) (c .before .before .before .before .before .before .before .before .before .before .before .before .before .pre .2) _ _ _ (c .before .before .before .before .before .if2 .left) (found-there _ _ _ _ _ (c .before .before .before .before .number-at .ensures (c .before .before .before .before .before .before .before .before .before .before .before .before .before .pre .2)) (c .before .before .before .before .before .before .before .loop .inv .bound) (c .before .before .before .before .before .if2 .left)) (c .before .before .emit .ensures .0) (c .before .before .emit .ensures .1 ∙ rw (c .before .before .before .before .before .before .before .before .before .wide .ensures))
+    let at-emit = c .before .before in
+    let at-number-at = at-emit .before .before in
+    let at-if2 = at-number-at .before in
+    let at-loop = at-if2 .before .before in
+    let at-wide = at-loop .before .before in
+    let at-place = at-wide .before .before .before .before in
+    let s = at-place in
+    let found = found-there _ _ _ _ _ (at-number-at .number-at .ensures (s .pre .2)) (at-loop .loop .inv .bound) (at-if2 .if2 .left) in
+    run-next _ _ _ _ _ _ _ _ _ _ _ (at-loop .loop .inv) (s .pre .2) _ _ _ (at-if2 .if2 .left) found (at-emit .emit .ensures .0) (at-emit .emit .ensures .1 ∙ rw (at-wide .wide .ensures))
 
 same-length-3 : tie.Need-same-length-3 Inv-loop μ-loop
 same-length-3 c =

@@ -3,10 +3,6 @@ use Rattle.reader_basic.proofs.Leaves.{child-before, child-there}
 use borrow.Author.Needs.{needs}
 use Rattle.reader_basic.proofs.texts_run.child_text.Statement.{statement}
 use Rattle.reader_basic.proofs.texts_run.child_text.Tie as tie
-use Rattle.reader_basic.proofs.texts_run.child_text.Reads as reads
-use Rattle.reader_basic.proofs.texts_run.child_text.Lts as lts
-use Rattle.reader_basic.proofs.basic.text_value.Reads as text-value-reads
-use Rattle.reader_basic.proofs.refused.Reads as refused-reads
 
 refused-requires : tie.Need-refused-requires
 refused-requires c κs = search needs

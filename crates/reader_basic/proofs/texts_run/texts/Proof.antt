@@ -4,15 +4,9 @@ use native.Mathlib.Omega.{arith}
 use borrow.Author.Needs.{needs}
 use Rattle.meaning.specs.Depths.{Depths, noneOpen}
 use Rattle.meaning.specs.Reading.{childStep, readText}
-use Rattle.reader_basic.proofs.Turns.{body-ends, Left, left-begin, left-starts, left-passes, left-end, turn-ends, turn-fits, turn-stop, turn-next}
+use Rattle.reader_basic.proofs.Turns.{body-ends, Left, left-begin, left-passes, left-end, Turn, turn-starts, turn-ends, turn-fits, turn-stop, turn-next}
 use Rattle.reader_basic.proofs.texts_run.texts.Statement.{statement}
 use Rattle.reader_basic.proofs.texts_run.texts.Tie as tie
-use Rattle.reader_basic.proofs.texts_run.texts.Reads as reads
-use Rattle.reader_basic.proofs.texts_run.texts.Lts as lts
-use Rattle.framing_offsets.proofs.next.Reads as next-reads
-use Rattle.reader_basic.proofs.behind.Reads as behind-reads
-use Rattle.reader_basic.proofs.done.Reads as done-reads
-use Rattle.reader_basic.proofs.texts_run.child_text.Reads as child-text-reads
 
 abbrev Inv-loop : tie.InvT-loop
 Inv-loop offsets part lead place code out₀ n table many body-end i₀ u₀ count₀ out i u count =
@@ -21,6 +15,12 @@ Inv-loop offsets part lead place code out₀ n table many body-end i₀ u₀ cou
 abbrev μ-loop : tie.MeasureT-loop
 μ-loop offsets part lead place code out₀ n table many body-end i₀ u₀ count₀ out i u count =
     many - i
+
+-- what a turn knows
+turn : (c : tie.After-next Inv-loop μ-loop) (d : Depths) → let s = c .before .before .before .before .before .before .before in let v = c .before .before in
+    Turn (childStep (readText (s .args .code)) d (s .args .place) (s .args .part .now) (s .args .lead + s .args .offsets .start))
+    (s .args .offsets) (s .args .part .now) (s .args .lead) (s .args .n) (s .args .out .now) (v .loop .i) (v .loop .u) (v .loop .count) (v .loop .out) (c .next .result)
+turn c d = record { tabled = c .before .before .before .before .before .before .before .pre .1; left = c .before .before .loop .inv d; more = c .before .loop-test .taken; found = c .next .ensures }
 
 sub-table : tie.Need-sub-table Inv-loop μ-loop
 sub-table c =
@@ -36,7 +36,7 @@ part-table-end c =
 
 add-body-end : tie.Need-add-body-end Inv-loop μ-loop
 add-body-end c =
-    omega (arith, body-ends (c .before .before .before .before .pre), c .before .before .before .before .pre .in-frame)
+    omega (arith, body-ends (c .before .before .before .before .pre .1), c .before .before .before .before .pre .0)
 
 loop-holds : tie.Need-loop-holds Inv-loop μ-loop
 loop-holds c =
@@ -48,20 +48,23 @@ next-requires c κs =
 
 add-child-text : tie.Need-add-child-text Inv-loop μ-loop
 add-child-text c =
-    omega (arith, left-starts (c .before .before .before .before .before .before .before .pre) (c .before .before .loop .inv noneOpen), c .before .before .before .before .before .before .before .pre .in-frame)
+    omega (arith, turn-starts (turn c noneOpen), c .before .before .before .before .before .before .before .pre .0)
 
 add-child-text-2 : tie.Need-add-child-text-2 Inv-loop μ-loop
 add-child-text-2 c =
-    omega (arith, turn-ends (c .before .before .before .before .before .before .before .before .pre) (c .before .before .before .loop .inv noneOpen) (c .before .before .loop-test .taken) _ (c .before .next .ensures), c .before .before .before .before .before .before .before .before .pre .in-frame)
+    omega (arith, turn-ends (turn (c .before) noneOpen), c .before .before .before .before .before .before .before .before .pre .0)
 
 child-text-requires : tie.Need-child-text-requires Inv-loop μ-loop
 child-text-requires c κs =
-    (c .before .before .before .before .before .before .before .before .before .pre .in-frame, turn-ends (c .before .before .before .before .before .before .before .before .before .pre) (c .before .before .before .before .loop .inv noneOpen) (c .before .before .before .loop-test .taken) _ (c .before .before .next .ensures))
+    (c .before .before .before .before .before .before .before .before .before .pre .0, turn-ends (turn (c .before .before) noneOpen))
 
 behind-requires : tie.Need-behind-requires Inv-loop μ-loop
 unfolding childStep
 behind-requires c κs =
-    omega (arith, turn-fits (c .before .before .before .before .before .before .before .before .before .before .before .before .before .before .pre) (c .before .before .before .before .before .before .before .before .before .loop .inv noneOpen) (c .before .before .before .before .before .before .before .before .loop-test .taken) _ (c .before .before .before .before .before .before .before .next .ensures) _ (c .before .before .before .before .child-text .ensures noneOpen), c .before .before .before .before .before .before .before .before .before .before .before .before .before .before .pre .in-frame)
+    let at-child-text = c .before .before .before .before in
+    let at-next = at-child-text .before .before .before in
+    let start = at-next .before .before .before .before .before .before .before in
+    omega (arith, turn-fits (turn at-next noneOpen) _ (at-child-text .child-text .ensures noneOpen), start .pre .0)
 
 same-length : tie.Need-same-length Inv-loop μ-loop
 same-length c =
@@ -70,12 +73,15 @@ same-length c =
 returns : tie.Need-returns Inv-loop μ-loop
 unfolding childStep
 returns c =
-    λ d. rw (c .behind .ensures) (turn-stop (c .before .before .before .before .before .before .before .before .before .before .before .before .before .before .before .pre) (c .before .before .before .before .before .before .before .before .before .before .loop .inv d) (c .before .before .before .before .before .before .before .before .before .loop-test .taken) _ (c .before .before .before .before .before .before .before .before .next .ensures) _ (c .before .before .before .before .before .child-text .ensures d) (c .before .if1 .taken))
+    λ d. rw (c .behind .ensures) (turn-stop (turn (c .before .before .before .before .before .before .before .before) d) _ (c .before .before .before .before .before .child-text .ensures d) (c .before .if1 .taken))
 
 add-u : tie.Need-add-u Inv-loop μ-loop
 unfolding childStep
 add-u c =
-    omega (arith, turn-fits (c .before .before .before .before .before .before .before .before .before .before .before .before .before .before .before .pre) (c .before .before .before .before .before .before .before .before .before .before .loop .inv noneOpen) (c .before .before .before .before .before .before .before .before .before .loop-test .taken) _ (c .before .before .before .before .before .before .before .before .next .ensures) _ (c .before .before .before .before .before .child-text .ensures noneOpen), c .before .before .before .before .before .before .before .before .before .before .before .before .before .before .before .pre .in-frame)
+    let at-child-text = c .before .before .before .before .before in
+    let at-next = at-child-text .before .before .before in
+    let start = at-next .before .before .before .before .before .before .before in
+    omega (arith, turn-fits (turn at-next noneOpen) _ (at-child-text .child-text .ensures noneOpen), start .pre .0)
 
 add-i : tie.Need-add-i Inv-loop μ-loop
 add-i c =
@@ -88,15 +94,15 @@ loop-less c =
 loop-again : tie.Need-loop-again Inv-loop μ-loop
 unfolding childStep
 loop-again c =
-    λ d. turn-next (c .before .before .before .before .before .before .before .before .before .before .before .before .before .before .before .pre) (c .before .before .before .before .before .before .before .before .before .before .loop .inv d) (c .before .before .before .before .before .before .before .before .before .loop-test .taken) _ (c .before .before .before .before .before .before .before .before .next .ensures) _ (c .before .before .before .before .before .child-text .ensures d) (c .before .if1 .left)
+    λ d. turn-next (turn (c .before .before .before .before .before .before .before .before) d) _ (c .before .before .before .before .before .child-text .ensures d) (c .before .if1 .left)
 
 sub-done : tie.Need-sub-done Inv-loop μ-loop
 sub-done c =
-    omega (arith, body-ends (c .before .before .before .before .before .before .pre))
+    omega (arith, body-ends (c .before .before .before .before .before .before .pre .1))
 
 add-done : tie.Need-add-done Inv-loop μ-loop
 add-done c =
-    omega (arith, left-passes (c .before .before .before .before .before .before .pre) (c .before .loop .inv noneOpen), c .before .before .before .before .before .before .pre .in-frame)
+    omega (arith, left-passes (c .before .before .before .before .before .before .pre .1) (c .before .loop .inv noneOpen), c .before .before .before .before .before .before .pre .0)
 
 done-requires : tie.Need-done-requires Inv-loop μ-loop
 done-requires c κs =
@@ -108,7 +114,7 @@ same-length-2 c =
 
 returns-2 : tie.Need-returns-2 Inv-loop μ-loop
 returns-2 c =
-    λ d. rw (c .done .ensures) (left-end (c .before .before .before .before .before .before .before .pre) (c .before .before .loop .inv d) (c .before .loop-test .left))
+    λ d. rw (c .done .ensures) (left-end (c .before .before .before .before .before .before .before .pre .1) (c .before .before .loop .inv d) (c .before .loop-test .left))
 
 pub texts-spec : {M : Type 1} → statement M
 texts-spec =

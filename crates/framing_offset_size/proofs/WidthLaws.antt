@@ -14,7 +14,7 @@ use Rattle.meaning.specs.Padding.{Aligns}
 use Rattle.meaning.proofs.PaddingLaws.{by1, by2, by4, by8}
 use Rattle.meaning.specs.Numbers.{bytes, value}
 use Rattle.meaning.specs.Offsets.{largest, firstWidth, bareWidth, lastOffset}
-use Rattle.meaning.proofs.OffsetSteps.{too-long, room-for, first-fits, first-not}
+use Rattle.meaning.proofs.OffsetSteps.{room-for, first-fits, first-not}
 use Rattle.framing_offset_size.specs.declared.FramingOffsetSize.{FramingOffsetSize}
 use Rattle.framing_offset_size.specs.declared.FramingOffsetSize.the-variants.{U8, U16, U32, U64}
 use Rattle.framing_offset_size.specs.declared.Fitting.{Fitting}

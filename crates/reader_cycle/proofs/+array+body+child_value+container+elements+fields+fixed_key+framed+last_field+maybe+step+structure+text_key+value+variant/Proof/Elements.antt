@@ -40,7 +40,7 @@ elements-numbers-requires : (t : ℕ) → elements-lts.Need-numbers-requires (el
 elements-numbers-requires t c κs =
     let at-plain = c .before .before in
     let start = at-plain .before .before .before .before .before .before in
-    (start .pre .1 .2 .in-frame, start .pre .1 .2 .near, start .pre .1 .3, start .pre .1 .0 .number _ _ (at-plain .plain .given .1) .aligned)
+    (start .pre .1 .2, start .pre .1 .3, start .pre .1 .0 .number _ _ (at-plain .plain .given .1) .aligned)
 
 elements-same-length : (t : ℕ) → elements-lts.Need-same-length (elements-callees t) (elements-at t) elements.Post elements-Inv-loop elements-μ-loop
 elements-same-length t c = search needs

@@ -27,7 +27,7 @@ fixed-key-callees t = (
 fixed-key-child-key-requires : (t : ℕ) → fixed-key-lts.Need-child-key-requires (fixed-key-callees t) (fixed-key-at t) fixed-key.Post
 fixed-key-child-key-requires t c κs =
     let start = c .before .before .before .before .before .before in
-    (start .pre .1 .1 .in-frame, start .pre .1 .1 .near, start .pre .1 .2, start .pre .1 .0 .key)
+    (start .pre .1 .1, start .pre .1 .2, start .pre .1 .0 .key)
 
 fixed-key-same-length : (t : ℕ) → fixed-key-lts.Need-same-length (fixed-key-callees t) (fixed-key-at t) fixed-key.Post
 fixed-key-same-length t c = search needs

@@ -44,7 +44,7 @@ framed-readings-requires : (t : ℕ) → framed-lts.Need-readings-requires (fram
 framed-readings-requires t c κs =
     let at-held = c .before .before in
     let start = at-held .before .before .before .before .before .before in
-    (start .pre .1 .2 .in-frame, start .pre .1 .2 .near, start .pre .1 .3, start .pre .1 .0 .number _ _ (at-held .held .given .1) .aligned, start .pre .1 .4)
+    (start .pre .1 .2, record { begins = start .pre .1 .3; stands = start .pre .1 .4 }, start .pre .1 .0 .number _ _ (at-held .held .given .1) .aligned)
 
 framed-same-length : (t : ℕ) → framed-lts.Need-same-length (framed-callees t) (framed-at t) framed.Post framed-Inv-loop framed-μ-loop
 framed-same-length t c = search needs

@@ -73,7 +73,7 @@ text-key-add-child-key t c =
 text-key-child-key-requires : (t : ℕ) → text-key-lts.Need-child-key-requires (text-key-callees t) (text-key-at t) text-key.Post
 text-key-child-key-requires t c κs =
     let start = c .before .before .before .before .before .before .before .before .before .before .before in
-    (start .pre .1 .1 .in-frame, start .pre .1 .1 .near, start .pre .1 .2, start .pre .1 .0 .key)
+    (start .pre .1 .1, start .pre .1 .2, start .pre .1 .0 .key)
 
 text-key-same-length : (t : ℕ) → text-key-lts.Need-same-length (text-key-callees t) (text-key-at t) text-key.Post
 text-key-same-length t c = search needs

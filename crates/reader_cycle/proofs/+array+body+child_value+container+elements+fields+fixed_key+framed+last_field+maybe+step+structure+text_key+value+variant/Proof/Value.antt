@@ -41,7 +41,7 @@ value-number-requires : (t : ℕ) → value-lts.Need-number-requires (value-call
 value-number-requires t c κs =
     let at-kind = c .before .before in
     let start = at-kind .before .before .before .before .before .before in
-    (start .pre .1 .1 .in-frame, start .pre .1 .1 .near, number-aligned _ _ (start .pre .1 .0 .typed) 0 false 0 _ _ (sym (described-kind (start .pre .1 .0)) ∙ at-kind .kind .given .1))
+    (start .pre .1 .1, number-aligned _ _ (start .pre .1 .0 .typed) 0 false 0 _ _ (sym (described-kind (start .pre .1 .0)) ∙ at-kind .kind .given .1))
 
 value-enum-known-kind-2 : (t : ℕ) → value-lts.Need-enum-known-kind-2 (value-callees t) (value-at t) value.Post
 value-enum-known-kind-2 t c = search needs

@@ -1,0 +1,100 @@
+use Rattle.writer_basic.proofs.Answers.{text-wrong, text-made}
+use native.Mathlib.Omega.{arith}
+use mathlib.Core.Path.{refl, sym, _∙_}
+use borrow.Author.Needs.{needs}
+use Rattle.writer_basic.proofs.basic.text_value.Statement.{statement}
+use Rattle.writer_basic.proofs.basic.text_value.Tie as tie
+use Rattle.writer_basic.proofs.basic.text_value.Reads as reads
+use Rattle.writer_basic.proofs.basic.text_value.Lts as lts
+use Rattle.writer_basic.proofs.basic.code_of.Reads as code-of-reads
+use Rattle.writer_basic.proofs.basic.text_at.Reads as text-at-reads
+use Rattle.writer_basic.proofs.refused.Reads as refused-reads
+use Rattle.writer_basic.proofs.store.add.Reads as add-reads
+use Rattle.writer_basic.proofs.store.copy.Reads as copy-reads
+use Rattle.writer_basic.proofs.store.put.Reads as put-reads
+use Rattle.writer_basic.proofs.wrote.Reads as wrote-reads
+
+-- src/basic.rt:175:42
+code-of-requires : tie.Need-code-of-requires
+code-of-requires c κs = search needs
+
+-- src/basic.rt:175:9
+text-at-requires : tie.Need-text-at-requires
+text-at-requires c κs = search needs
+
+-- src/basic.rt:180:9
+refused-requires : tie.Need-refused-requires
+refused-requires c κs = search needs
+
+-- src/basic.rt:180:9
+returns : tie.Need-returns
+returns c = λ n big d top s e. rw (c .refused .ensures) (text-wrong _ big d _ _ _ top _ s n _ _ _ (c .before .before .before .code-of .ensures ∙ e) (c .before .before .text-at .ensures .refused (c .before .if1 .taken)))
+
+-- src/basic.rt:182:17
+sub-count : tie.Need-sub-count
+sub-count c = let q = c .before .text-at .ensures .taken (c .if1 .left) .order in omega arith
+
+-- src/basic.rt:183:22
+sub-copy : tie.Need-sub-copy
+sub-copy c = let q = c .before .before .text-at .ensures .taken (c .before .if1 .left) .order in omega arith
+
+-- src/basic.rt:183:22
+part-copy-start : tie.Need-part-copy-start
+part-copy-start c = let q = c .before .before .text-at .ensures .taken (c .before .if1 .left) .order in omega arith
+
+-- src/basic.rt:183:22
+part-copy-end : tie.Need-part-copy-end
+part-copy-end c = let q = c .before .before .text-at .ensures .taken (c .before .if1 .left) .inside in omega arith
+
+-- src/basic.rt:183:5
+copy-requires : tie.Need-copy-requires
+copy-requires c κs = search needs
+
+-- src/basic.rt:184:9
+add-requires : tie.Need-add-requires
+add-requires c κs = search needs
+
+-- src/basic.rt:185:5
+put-requires : tie.Need-put-requires
+put-requires c κs = search needs
+
+-- src/basic.rt:186:11
+add-wrote : tie.Need-add-wrote
+add-wrote c = search needs
+
+-- src/basic.rt:186:18
+add-requires-2 : tie.Need-add-requires-2
+add-requires-2 c κs = search needs
+
+-- src/basic.rt:186:5
+wrote-requires : tie.Need-wrote-requires
+wrote-requires c κs = search needs
+
+-- src/basic.rt:164:1
+same-length : tie.Need-same-length
+same-length c = search needs
+
+-- src/basic.rt:164:1
+returns-2 : tie.Need-returns-2
+returns-2 c = λ n big d top s e. rw (c .wrote .ensures) (text-made _ big d _ _ _ top _ s n _ _ _ _ _ _ _ (c .before .before .before .before .before .before .before .before .before .before .before .before .before .before .code-of .ensures ∙ e) (c .before .before .before .before .before .before .before .before .before .before .before .before .before .text-at .ensures .taken (c .before .before .before .before .before .before .before .before .before .before .before .before .if1 .left)) (c .before .before .before .before .before .before .before .before .before .copy .ensures) (c .before .before .before .before .before .before .add .ensures) (c .before .before .before .before .put .ensures) (c .before .add2 .ensures))
+
+pub text-value-spec : {M : Type 1} → statement M
+text-value-spec =
+    tie.close
+    (tie.spec
+    code-of-requires
+    text-at-requires
+    refused-requires
+    returns
+    sub-count
+    sub-copy
+    part-copy-start
+    part-copy-end
+    copy-requires
+    add-requires
+    put-requires
+    add-wrote
+    add-requires-2
+    wrote-requires
+    same-length
+    returns-2)

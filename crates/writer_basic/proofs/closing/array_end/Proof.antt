@@ -1,0 +1,82 @@
+use Rattle.writer_basic.proofs.Rounds.{array-stop, array-fixed, array-table, product}
+use native.Mathlib.Omega.{arith}
+use borrow.Author.Needs.{needs}
+use Rattle.writer_basic.proofs.closing.array_end.Statement.{statement}
+use Rattle.writer_basic.proofs.closing.array_end.Tie as tie
+use Rattle.writer_basic.proofs.closing.array_end.Reads as reads
+use Rattle.writer_basic.proofs.closing.array_end.Lts as lts
+use Rattle.writer_basic.proofs.ends.table.Reads as table-reads
+use Rattle.writer_basic.proofs.ends.width.Reads as width-reads
+use Rattle.writer_basic.proofs.refused.Reads as refused-reads
+use Rattle.writer_basic.proofs.store.add.Reads as add-reads
+use Rattle.writer_basic.proofs.wrote.Reads as wrote-reads
+
+-- src/closing.rt:81:9
+refused-requires : tie.Need-refused-requires
+refused-requires c κs = search needs
+
+-- src/closing.rt:81:9
+returns : tie.Need-returns
+returns c = λ x ns kind a i l s n m d. rw (c .refused .ensures) (array-stop x ns kind a i _ _ l _ s _ _ _ d (c .before .if1 .taken))
+
+-- src/closing.rt:84:9
+wrote-requires : tie.Need-wrote-requires
+wrote-requires c κs = search needs
+
+-- src/closing.rt:84:9
+returns-2 : tie.Need-returns-2
+returns-2 c = λ x ns kind a i l s n m d. rw (c .wrote .ensures) (array-fixed x ns kind a i _ _ l _ s _ _ _ d (c .before .before .if1 .left) (c .before .if2 .taken))
+
+-- src/closing.rt:86:9
+width-requires : tie.Need-width-requires
+width-requires c κs = (c .before .before .before .before .pre .2 (c .before .if1 .left), c .before .before .before .before .pre .3 (c .before .if1 .left))
+
+-- src/closing.rt:87:16
+add-table : tie.Need-add-table
+add-table c = omega (arith, c .before .before .before .before .before .before .pre .2 (c .before .before .before .if1 .left))
+
+-- src/closing.rt:87:5
+table-requires : tie.Need-table-requires
+table-requires c κs = let a = c .before .before .before .before .before .before .before .pre .2 (c .before .before .before .before .if1 .left) in let b = c .before .before .before .before .before .before .before .pre .3 (c .before .before .before .before .if1 .left) in let w = c .before .before .width .ensures .2 in (omega arith, omega arith, c .before .before .before .before .before .before .before .pre .1, b)
+
+-- src/closing.rt:88:29
+mul-add : tie.Need-mul-add
+mul-add c = let b = c .before .before .before .before .before .before .before .before .before .before .before .before .pre .3 (c .before .before .before .before .before .before .before .before .before .if1 .left) in omega (arith, product (c .before .before .before .before .before .before .before .before .before .before .before .before .args .r .count) (c .before .before .before .before .before .before .before .width .result) (c .before .before .before .before .before .before .before .width .ensures .2))
+
+-- src/closing.rt:88:19
+add-requires : tie.Need-add-requires
+add-requires c κs = search needs
+
+-- src/closing.rt:88:5
+wrote-requires-2 : tie.Need-wrote-requires-2
+wrote-requires-2 c κs = search needs
+
+-- src/closing.rt:66:1
+same-length : tie.Need-same-length
+same-length c = search needs
+
+-- src/closing.rt:66:1
+same-length-2 : tie.Need-same-length-2
+same-length-2 c = search needs
+
+-- src/closing.rt:66:1
+returns-3 : tie.Need-returns-3
+returns-3 c = λ x ns kind a i l s n m d. rw (c .wrote2 .ensures) (array-table x ns kind a i _ _ l _ s _ _ _ d _ _ _ _ (c .before .before .before .before .before .before .before .before .before .before .before .if1 .left) (c .before .before .before .before .before .before .before .before .before .before .if2 .left) (c .before .before .before .before .before .before .before .before .before .width .ensures .0) (c .before .add .ensures) (c .before .before .before .before .before .before .table .ensures) n m)
+
+pub array-end-spec : {M : Type 1} → statement M
+array-end-spec =
+    tie.close
+    (tie.spec
+    refused-requires
+    returns
+    wrote-requires
+    returns-2
+    width-requires
+    add-table
+    table-requires
+    mul-add
+    add-requires
+    wrote-requires-2
+    same-length
+    same-length-2
+    returns-3)

@@ -1,0 +1,108 @@
+use Rattle.writer_basic.proofs.Rounds.{value-stop, value-shut, value-open, part-length}
+use native.Mathlib.Omega.{arith}
+use borrow.Author.Needs.{needs}
+use Rattle.writer_basic.proofs.closing.variant_end.Statement.{statement}
+use Rattle.writer_basic.proofs.closing.variant_end.Tie as tie
+use Rattle.writer_basic.proofs.closing.variant_end.Reads as reads
+use Rattle.writer_basic.proofs.closing.variant_end.Lts as lts
+use Rattle.writer_basic.proofs.basic.plain_at.Reads as plain-at-reads
+use Rattle.writer_basic.proofs.refused.Reads as refused-reads
+use Rattle.writer_basic.proofs.store.add.Reads as add-reads
+use Rattle.writer_basic.proofs.store.copy.Reads as copy-reads
+use Rattle.writer_basic.proofs.store.put.Reads as put-reads
+use Rattle.writer_basic.proofs.wrote.Reads as wrote-reads
+
+-- src/closing.rt:136:9
+returns : tie.Need-returns
+returns c = λ x t i top l s s′ k n d. value-stop x t _ i _ top l _ s s′ _ d (c .if1 .taken)
+
+-- src/closing.rt:138:8
+plain-at-requires : tie.Need-plain-at-requires
+plain-at-requires c κs = c .before .before .before .before .pre .2 (c .if1 .left)
+
+-- src/closing.rt:139:21
+add-place : tie.Need-add-place
+add-place c = omega (arith, c .before .before .before .before .before .before .pre .1 (c .before .before .if1 .left))
+
+-- src/closing.rt:140:9
+put-requires : tie.Need-put-requires
+put-requires c κs = search needs
+
+-- src/closing.rt:141:19
+add-copy : tie.Need-add-copy
+add-copy c = omega (arith, c .before .before .before .before .before .before .before .before .before .before .before .pre .1 (c .before .before .before .before .before .before .before .if1 .left))
+
+-- src/closing.rt:141:30
+sub-copy : tie.Need-sub-copy
+sub-copy c = search needs
+
+-- src/closing.rt:141:30
+part-copy-start : tie.Need-part-copy-start
+part-copy-start c = search needs
+
+-- src/closing.rt:141:30
+part-copy-end : tie.Need-part-copy-end
+part-copy-end c = search needs
+
+-- src/closing.rt:141:9
+copy-requires : tie.Need-copy-requires
+copy-requires c κs = search needs
+
+-- src/closing.rt:142:22
+add-wrote : tie.Need-add-wrote
+add-wrote c = omega (arith, c .before .before .before .before .before .before .before .before .before .before .plain-at .ensures .here (c .before .before .before .before .before .before .before .before .before .if2 .taken) .whole)
+
+-- src/closing.rt:142:47
+sub-add : tie.Need-sub-add
+sub-add c = search needs
+
+-- src/closing.rt:142:42
+add-add : tie.Need-add-add
+add-add c = search needs
+
+-- src/closing.rt:142:32
+add-requires : tie.Need-add-requires
+add-requires c κs = search needs
+
+-- src/closing.rt:142:9
+wrote-requires : tie.Need-wrote-requires
+wrote-requires c κs = search needs
+
+-- src/closing.rt:142:9
+same-length : tie.Need-same-length
+same-length c = search needs
+
+-- src/closing.rt:142:9
+returns-2 : tie.Need-returns-2
+returns-2 c = λ x t i top l s s′ k n d. rw (c .wrote .ensures) (value-shut x t _ i _ top l _ s s′ _ d _ _ _ _ _ _ (c .before .before .before .before .before .before .before .before .before .before .before .before .before .if1 .left) (c .before .before .before .before .before .before .before .before .before .before .before .before .plain-at .ensures) (c .before .before .before .before .before .before .before .before .before .before .before .if2 .taken) k (part-length _ _ _ (c .before .before .before .before .before .before .before .before .before .before .before .before .before .before .before .before .before .pre .3) (c .before .before .before .before .before .before .before .before .before .before .before .before .before .before .before .before .before .pre .4)) (c .before .before .before .before .before .before .before .before .before .put .ensures) (c .before .before .before .before .copy .ensures) (c .before .add .ensures) n)
+
+-- src/closing.rt:144:5
+refused-requires : tie.Need-refused-requires
+refused-requires c κs = search needs
+
+-- src/closing.rt:120:1
+returns-3 : tie.Need-returns-3
+returns-3 c = λ x t i top l s s′ k n d. rw (c .refused .ensures) (value-open x t _ i _ top l _ s s′ _ d _ (c .before .before .before .if1 .left) (c .before .before .plain-at .ensures) (c .before .if2 .left))
+
+pub variant-end-spec : {M : Type 1} → statement M
+variant-end-spec =
+    tie.close
+    (tie.spec
+    returns
+    plain-at-requires
+    add-place
+    put-requires
+    add-copy
+    sub-copy
+    part-copy-start
+    part-copy-end
+    copy-requires
+    add-wrote
+    sub-add
+    add-add
+    add-requires
+    wrote-requires
+    same-length
+    returns-2
+    refused-requires
+    returns-3)

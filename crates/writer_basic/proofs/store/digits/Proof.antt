@@ -1,0 +1,73 @@
+use native.Mathlib.Omega.{arith}
+use borrow.Author.Needs.{needs}
+use native.Mathlib.Nat.{add-zero, sub-zero}
+use Prim.Native.Nat.{_+_, _-_, _≤_}
+use mathlib.Core.Path.{_≡_, sym, _∙_, refl}
+use lib.ListN.{length, length-set}
+use Rattle.meaning.specs.Numbers.{bytes}
+use Rattle.writer_basic.specs.Stores.{puts}
+use Rattle.writer_basic.proofs.Puts.{bytes-step, bytes-end}
+use Rattle.writer_basic.proofs.store.digits.Statement.{statement}
+use Rattle.writer_basic.proofs.store.digits.Tie as tie
+use Rattle.writer_basic.proofs.store.digits.Reads as reads
+use Rattle.writer_basic.proofs.store.digits.Lts as lts
+use Rattle.writer_basic.proofs.store.low.Reads as low-reads
+use Rattle.writer_basic.proofs.store.put.Reads as put-reads
+
+abbrev Inv-loop : tie.InvT-loop
+Inv-loop out₀ at width x i₀ y₀ out i y = (i ≤ width) × ((length out ≡ length out₀) × (puts out (at + i) (bytes (width - i) y) ≡ puts out₀ at (bytes width x)))
+
+abbrev μ-loop : tie.MeasureT-loop
+μ-loop out₀ at width x i₀ y₀ out i y = width - i
+
+-- src/store.rt:81:5
+loop-holds : tie.Need-loop-holds Inv-loop μ-loop
+loop-holds c = (omega arith, (refl, simp (add-zero, sub-zero)))
+
+-- src/store.rt:82:18
+add-put : tie.Need-add-put Inv-loop μ-loop
+add-put c = omega arith
+
+-- src/store.rt:82:26
+low-requires : tie.Need-low-requires Inv-loop μ-loop
+low-requires c κs = search needs
+
+-- src/store.rt:82:9
+put-requires : tie.Need-put-requires Inv-loop μ-loop
+put-requires c κs = search needs
+
+-- src/store.rt:84:13
+add-i : tie.Need-add-i Inv-loop μ-loop
+add-i c = omega arith
+
+-- src/store.rt:81:5
+loop-less : tie.Need-loop-less Inv-loop μ-loop
+loop-less c = omega arith
+
+-- src/store.rt:81:5
+loop-again : tie.Need-loop-again Inv-loop μ-loop
+loop-again c = (omega arith, (simp (c .before .before .put .ensures, length-set) (c .before .before .before .before .before .before .loop .inv .1 .0), simp (c .before .before .put .ensures, c .before .before .before .low .ensures) (sym (bytes-step _ _ _ _ _ (omega arith)) ∙ c .before .before .before .before .before .before .loop .inv .1 .1)))
+
+-- src/store.rt:75:1
+same-length : tie.Need-same-length Inv-loop μ-loop
+same-length c = omega arith
+
+-- src/store.rt:75:1
+returns : tie.Need-returns Inv-loop μ-loop
+returns c = sym (bytes-end _ _ _ _ _ (omega arith)) ∙ c .before .loop .inv .1 .1
+
+pub digits-spec : {M : Type 1} → statement M
+digits-spec =
+    tie.close
+    (tie.spec
+    Inv-loop
+    μ-loop
+    loop-holds
+    add-put
+    low-requires
+    put-requires
+    add-i
+    loop-less
+    loop-again
+    same-length
+    returns)

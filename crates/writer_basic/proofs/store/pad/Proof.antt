@@ -1,0 +1,27 @@
+use native.Mathlib.Omega.{arith}
+use borrow.Author.Needs.{needs}
+use Rattle.writer_basic.proofs.store.pad.Statement.{statement}
+use Rattle.writer_basic.proofs.store.pad.Tie as tie
+use Rattle.writer_basic.proofs.store.pad.Reads as reads
+use Rattle.writer_basic.proofs.store.pad.Lts as lts
+use Rattle.writer_basic.proofs.store.clear.Reads as clear-reads
+use Rattle.writer_basic.proofs.store.gap.Reads as gap-reads
+
+-- src/store.rt:63:9
+gap-requires : tie.Need-gap-requires
+gap-requires c κs = search needs
+
+-- src/store.rt:64:5
+clear-requires : tie.Need-clear-requires
+clear-requires c κs = search needs
+
+-- src/store.rt:58:1
+same-length : tie.Need-same-length
+same-length c = search needs
+
+-- src/store.rt:58:1
+returns : tie.Need-returns
+returns c = (c .before .before .before .before .gap .ensures, simp (c .before .before .before .before .gap .ensures .0) at (c .before .before .clear .ensures))
+
+pub pad-spec : {M : Type 1} → statement M
+pad-spec = tie.close (tie.spec gap-requires clear-requires same-length returns)

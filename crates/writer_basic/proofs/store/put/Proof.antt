@@ -1,0 +1,26 @@
+use mathlib.Core.Path.{sym}
+use lib.Seq.{set-out}
+use borrow.Author.Needs.{needs}
+use Rattle.writer_basic.proofs.store.put.Statement.{statement}
+use Rattle.writer_basic.proofs.store.put.Tie as tie
+use Rattle.writer_basic.proofs.store.put.Reads as reads
+use Rattle.writer_basic.proofs.store.put.Lts as lts
+
+-- src/store.rt:28:9
+slice-write-out : tie.Need-slice-write-out
+slice-write-out c = search needs
+
+-- src/store.rt:24:1
+same-length : tie.Need-same-length
+same-length c = search needs
+
+-- src/store.rt:24:1
+returns : tie.Need-returns
+returns c = search needs
+
+-- src/store.rt:24:1
+returns-2 : tie.Need-returns-2
+returns-2 c = sym (set-out _ _ _ (c .if1 .left))
+
+pub put-spec : {M : Type 1} → statement M
+put-spec = tie.close (tie.spec slice-write-out same-length returns returns-2)

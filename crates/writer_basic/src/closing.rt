@@ -1,0 +1,145 @@
+// What stands round children that are written: a maybe's last byte, the event that closes, tables, end padding, a variant's type.
+use crate::Answer;
+use crate::Run;
+use crate::basic::plain_at;
+use crate::ends::back_table;
+use crate::ends::table;
+use crate::ends::width;
+use crate::ran;
+use crate::refused;
+use crate::stopped;
+use crate::store::add;
+use crate::store::copy;
+use crate::store::pad;
+use crate::store::put;
+use crate::wrote;
+use meaning::letters::CONTAINER_END;
+use meaning::refusals::NO_VALUE;
+ghost use mathlib.Core.Path.{_≡_};
+ghost use mathlib.Core.List.{List, []};
+ghost use mathlib.Core.Bool.{true, false};
+ghost use Prim.Native.Nat.{ℕ, _+_, _-_, _≤_, _<_};
+ghost use lib.ListN.{length, take, drop};
+ghost use Rattle.meaning.specs.Limits.{longestType};
+ghost use Rattle.meaning.specs.Padding.{Aligns};
+ghost use Rattle.meaning.specs.Types.{Tree};
+ghost use Rattle.meaning.specs.TypeText.{typeText};
+ghost use Rattle.meaning.specs.Written.{Piece, fieldEnds, arrayPiece};
+ghost use Rattle.meaning_writing.specs.Writing.{Built, built, mapped, sealed};
+ghost use Rattle.writer_basic.specs.Stores.{cap};
+ghost use Rattle.writer_basic.specs.Wrote.{Done, DoneAll, marksOf, aroundChild, aroundValue, Structured};
+
+// A maybe round its child.
+pub fn present(fixed: bool, r: Answer, out: &mut [u8], start: usize) -> Answer
+    requires { ⌜ (start ≤ cap) × (r .refusal ≡ 0 → r .size ≤ cap) ⌝ }
+    ensures { λ q. ⌜ ((x : Built Piece) (ns : List ℕ) (a i top : ℕ) (l s s′ : List ℕ) → length (now (out .entry)) ≡ length l → Done x ns (i + 3) start top l (now (out .entry)) s s′ r → Done (aroundChild a fixed x) ns i start top l (now (out .exit)) s s′ q) ⌝ }
+{
+    let refusal = r.refusal;
+    let size = r.size;
+    if refusal != 0 {
+        return r;
+    }
+    if fixed {
+        return r;
+    }
+    put(out, start + size, 0);
+    wrote(r.next, add(size, 1))
+}
+
+// The event that closes what was written.
+pub fn ended(events: &[u64], r: Run) -> Run
+    requires { ⌜ (r .refusal ≡ 0 → r .next ≤ length (now events)) ⌝ }
+    ensures { λ q. ⌜ ((m : ℕ → List Piece → List ℕ) (x : Built (List Piece)) (i base top k j : ℕ) (l l′ s s′ : List ℕ) → DoneAll m x (now (events .entry)) i base top k j l l′ s s′ r → DoneAll m (sealed x) (now (events .entry)) i base top k j l l′ s s′ q) ⌝ }
+{
+    let refusal = r.refusal;
+    let next = r.next;
+    if refusal != 0 {
+        return r;
+    }
+    if plain_at(events, next, CONTAINER_END) {
+        return ran(next + 3, r.size, r.count);
+    }
+    stopped(NO_VALUE)
+}
+
+// An array round its elements: the table of their ends, in order, unless they are fixed.
+pub fn array_end(
+    fixed: bool,
+    r: Run,
+    out: &mut [u8],
+    start: usize,
+    ends: &mut [u16],
+    top: usize,
+) -> Answer
+    requires { ⌜ (start ≤ cap) × (top ≤ cap) × (r .refusal ≡ 0 → r .size ≤ cap) × (r .refusal ≡ 0 → r .count ≤ cap) ⌝ }
+    ensures { λ q. ⌜ ((x : Built (List Piece)) (ns : List ℕ) (kind a i : ℕ) (l s : List ℕ) → length (now (out .entry)) ≡ length l → length (now (ends .entry)) ≡ length s → DoneAll (marksOf fixed) x ns (i + 3) start top 0 0 l (now (out .entry)) s (now (ends .entry)) r → Done (mapped (arrayPiece kind a fixed) x) ns i start top l (now (out .exit)) s (now (ends .exit)) q) ⌝ }
+{
+    let refusal = r.refusal;
+    let size = r.size;
+    let count = r.count;
+    if refusal != 0 {
+        return refused(refusal);
+    }
+    if fixed {
+        return wrote(r.next, size);
+    }
+    let w = width(size, count);
+    table(out, start + size, w, ends, top, count);
+    wrote(r.next, add(size, count * w))
+}
+
+// A structure round its fields: padding where it is fixed, else the table of their ends, from the back.
+pub fn structure_end(
+    fixed: bool,
+    alignment: usize,
+    r: Run,
+    out: &mut [u8],
+    start: usize,
+    ends: &[u16],
+    top: usize,
+) -> Answer
+    requires { ⌜ (start ≤ cap) × (top ≤ cap) × Aligns alignment × (r .refusal ≡ 0 → r .size ≤ cap) × (r .refusal ≡ 0 → r .count ≤ cap) ⌝ }
+    ensures { λ q. ⌜ ((P : List Piece → Piece) (x : Built (List Piece)) (ns : List ℕ) (i k : ℕ) (l s : List ℕ) → Structured alignment fixed P → (fixed ≡ true → (cs : List Piece) (rest : List ℕ) → x ≡ built cs rest → fieldEnds 0 cs ≡ []) → (r .refusal ≡ 0 → i < r .next) → length (now (out .entry)) ≡ length l → length (now (ends .entry)) ≡ length s → DoneAll fieldEnds x ns k start top 0 0 l (now (out .entry)) s (now (ends .entry)) r → Done (mapped P x) ns i start top l (now (out .exit)) s (now (ends .entry)) q) ⌝ }
+{
+    let refusal = r.refusal;
+    let size = r.size;
+    let count = r.count;
+    if refusal != 0 {
+        return refused(refusal);
+    }
+    if fixed {
+        let more = pad(out, start + size, size, alignment);
+        return wrote(r.next, add(size, more));
+    }
+    let w = width(size, count);
+    back_table(out, start + size, w, ends, top, count);
+    wrote(r.next, add(size, count * w))
+}
+
+// A variant round its value: a nul, and the text of its type.
+pub fn variant_end(
+    events: &[u64],
+    texts: &[u8],
+    from: usize,
+    to: usize,
+    r: Answer,
+    out: &mut [u8],
+    start: usize,
+) -> Answer
+    requires { ⌜ (start ≤ cap) × (r .refusal ≡ 0 → r .size ≤ cap) × (r .refusal ≡ 0 → r .next ≤ length (now events)) × (from ≤ to) × (to ≤ length (now texts)) × (to - from ≤ longestType) ⌝ }
+    ensures { λ q. ⌜ ((x : Built Piece) (t : Tree) (i top : ℕ) (l s s′ : List ℕ) → typeText t ≡ take (to - from) (drop from (now (texts .entry))) → length (now (out .entry)) ≡ length l → Done x (now (events .entry)) (i + 6) start top l (now (out .entry)) s s′ r → Done (aroundValue t x) (now (events .entry)) i start top l (now (out .exit)) s s′ q) ⌝ }
+{
+    let refusal = r.refusal;
+    let next = r.next;
+    let size = r.size;
+    if refusal != 0 {
+        return r;
+    }
+    if plain_at(events, next, CONTAINER_END) {
+        let place = start + size;
+        put(out, place, 0);
+        copy(out, place + 1, &texts[from..to]);
+        return wrote(next + 3, add(size, 1 + (to - from)));
+    }
+    refused(NO_VALUE)
+}

@@ -1,0 +1,86 @@
+// The small writers: what stands below the writers that call each other. Here: their answers, and what rides along.
+pub mod basic;
+pub mod closing;
+pub mod ends;
+pub mod store;
+
+use container_depths::ContainerDepths;
+ghost use mathlib.Core.Path.{_≡_};
+ghost use Prim.Native.Nat.{ℕ};
+
+// The refusal's number, 0 if done; the number of the next event's first number; the bytes written.
+pub struct Answer {
+    pub refusal: u8,
+    pub next: usize,
+    pub size: usize,
+}
+
+// The same of children in a row, and how many ends are kept of them.
+pub struct Run {
+    pub refusal: u8,
+    pub next: usize,
+    pub size: usize,
+    pub count: usize,
+}
+
+// Where a value is written: the number of its first event's first number, the place of its first byte, and how many ends are kept already.
+pub struct Spot {
+    pub next: usize,
+    pub start: usize,
+    pub top: usize,
+}
+
+// What rides along: the byte order, and how many containers are open.
+pub struct Context {
+    pub big: bool,
+    pub depths: ContainerDepths,
+}
+
+pub fn refused(refusal: u8) -> Answer
+    ensures { λ r. ⌜ r ≡ record { refusal = refusal; next = 0; size = 0 } ⌝ }
+{
+    Answer {
+        refusal,
+        next: 0,
+        size: 0,
+    }
+}
+
+pub fn wrote(next: usize, size: usize) -> Answer
+    ensures { λ r. ⌜ r ≡ record { refusal = 0; next = next; size = size } ⌝ }
+{
+    Answer {
+        refusal: 0,
+        next,
+        size,
+    }
+}
+
+pub fn stopped(refusal: u8) -> Run
+    ensures { λ r. ⌜ r ≡ record { refusal = refusal; next = 0; size = 0; count = 0 } ⌝ }
+{
+    Run {
+        refusal,
+        next: 0,
+        size: 0,
+        count: 0,
+    }
+}
+
+pub fn ran(next: usize, size: usize, count: usize) -> Run
+    ensures { λ r. ⌜ r ≡ record { refusal = 0; next = next; size = size; count = count } ⌝ }
+{
+    Run {
+        refusal: 0,
+        next,
+        size,
+        count,
+    }
+}
+
+// A place further on.
+pub fn spot_at(next: usize, start: usize, top: usize) -> Spot
+    ensures { λ r. ⌜ r ≡ record { next = next; start = start; top = top } ⌝ }
+{
+    Spot { next, start, top }
+}

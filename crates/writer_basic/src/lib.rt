@@ -77,10 +77,3 @@ pub fn ran(next: usize, size: usize, count: usize) -> Run
         count,
     }
 }
-
-// A place further on.
-pub fn spot_at(next: usize, start: usize, top: usize) -> Spot
-    ensures { λ r. ⌜ r ≡ record { next = next; start = start; top = top } ⌝ }
-{
-    Spot { next, start, top }
-}

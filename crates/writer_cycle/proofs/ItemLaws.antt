@@ -1,0 +1,135 @@
+-- What an array or a dictionary repeats, and one step of what a type is written as. Assumes nothing.
+use mathlib.Core.Path.{_≡_, refl, ap, sym, subst⁻¹, _∙_}
+use mathlib.Core.List.{List}
+use mathlib.Core.Bool.{Bool, true, false, _&&_, false≢true}
+use native.Mathlib.Omega.{arith}
+use Prim.Native.Nat.{ℕ, zero, suc, _+_, _-_, _≤_}
+use Rattle.meaning.specs.Types.{byte, int16, uint16, int32, uint32, int64, uint64, double, string, objectPath, signature, Basic, bool, number, text, Tree, Fields, basic, variant, maybe, array, dictionary, structure, basicFixed, alignment, fixed, largestAlignment, allFixed, entryAlignment, entryFixed}
+use Rattle.meaning.specs.TypeText.{basicAmong}
+use Rattle.meaning.specs.Written.{Piece}
+use Rattle.meaning.proofs.TypeLaws.{aligned}
+use Rattle.meaning_writing.specs.Writing.{Builder}
+use Rattle.meaning_writing.specs.Emitting.{emitBasic, emitMaybe, emitArray, emitEntry, emitStructure, emitVariant, emitOver, emitFields, emit}
+use Rattle.signature.specs.Places.{basicKind, letterAt}
+use Rattle.signature.specs.Items.{itemIn, EntryOf, ElementOf}
+use Rattle.signature.specs.Trees.{treeAt, Described}
+use Rattle.signature.specs.declared.Letter.{Letter}
+use Rattle.signature.specs.declared.Letter.the-variants.{End, Array}
+use Rattle.signature.specs.declared.shapes.Shape.{Shape}
+use Rattle.signature.specs.declared.items.Item.{Item}
+use Rattle.signature.proofs.ItemLaws.{opens, entry-of, element-of}
+use Rattle.writer_basic.specs.Wrote.{keyBasic, IsKey, itemKind}
+use Rattle.writer_cycle.specs.Places.{valueOf, fieldsOf, itemOf, Repeated, ItemAt}
+
+-- ---- what a type is written as, one step
+
+module _ (texts : List ℕ) (big : Bool) where
+  pub emit-basic : (n : ℕ) (b : Basic) → emit texts big n (basic b) ≡ emitBasic texts big b
+  unfolding emit emitOver
+  emit-basic zero b = refl
+  emit-basic (suc n) b = refl
+
+  pub emit-maybe : (n : ℕ) (t : Tree) → emit texts big n (maybe t) ≡ emitMaybe (alignment t) (fixed t) (emit texts big n t)
+  unfolding emit emitOver
+  emit-maybe zero t = refl
+  emit-maybe (suc n) t = refl
+
+  pub emit-array : (n : ℕ) (t : Tree) → emit texts big n (array t) ≡ emitArray 97 (alignment t) (fixed t) (emit texts big n t)
+  unfolding emit emitOver
+  emit-array zero t = refl
+  emit-array (suc n) t = refl
+
+  pub emit-dictionary : (n : ℕ) (b : Basic) (t : Tree) → emit texts big n (dictionary b t)
+      ≡ emitArray 123 (entryAlignment b t) (entryFixed b t) (emitEntry (entryAlignment b t) (entryFixed b t) (emitBasic texts big b) (emit texts big n t))
+  unfolding emit emitOver
+  emit-dictionary zero b t = refl
+  emit-dictionary (suc n) b t = refl
+
+  pub emit-structure : (nested : ℕ) (ts : Fields) → nested ≤ 64 → valueOf texts big nested (structure ts) ≡ emitStructure (largestAlignment ts) (allFixed ts) (fieldsOf texts big nested ts)
+  unfolding emit emitOver
+  emit-structure nested ts h = let e : 65 - nested ≡ suc (64 - nested) = omega arith in rw e
+
+  pub emit-variant : (nested : ℕ) → nested ≤ 64 → valueOf texts big nested variant ≡ emitVariant texts big (λ u. emit texts big (64 - nested) u)
+  unfolding emit emitOver
+  emit-variant nested h = let e : 65 - nested ≡ suc (64 - nested) = omega arith in rw e
+
+  pub emit-over : (nested : ℕ) (t : Tree) → nested ≤ 64 → emitOver texts big (emitVariant texts big (λ u. emit texts big (64 - nested) u)) t ≡ valueOf texts big nested t
+  unfolding emit
+  emit-over nested t h = let e : 65 - nested ≡ suc (64 - nested) = omega arith in rw e
+
+-- ---- keys
+
+pub key-of : (b : Basic) → keyBasic (basicKind b) ≡ b
+unfolding basicAmong
+key-of bool = refl
+key-of (number byte) = refl
+key-of (number int16) = refl
+key-of (number uint16) = refl
+key-of (number int32) = refl
+key-of (number uint32) = refl
+key-of (number int64) = refl
+key-of (number uint64) = refl
+key-of (number double) = refl
+key-of (text string) = refl
+key-of (text objectPath) = refl
+key-of (text signature) = refl
+
+pub is-key : (b : Basic) → IsKey (basicKind b)
+is-key b = record { is = ap basicKind (key-of b) }
+
+both-first : (x y : Bool) → (x && y) ≡ true → x ≡ true
+both-first true y h = refl
+both-first false y h = h
+
+-- ---- items
+
+abbrev item : Bool → Shape → Letter → Bool → ℕ → Bool → Letter → Item
+item entry child key keyed a f m = record { entry = entry; child = child; key = key; keyed = keyed; alignment = a; fixed = f; number = m }
+
+same-item : {e e′ : Bool} (c : Shape) {k k′ : Letter} {x x′ : Bool} {a a′ : ℕ} {f f′ : Bool} (m : Letter)
+    → e ≡ e′ → k ≡ k′ → x ≡ x′ → a ≡ a′ → f ≡ f′ → item e c k x a f m ≡ item e′ c k′ x′ a′ f′ m
+same-item c m p r s t u = cc
+
+-- a dictionary of a key and a value
+module _ (text shapes : List ℕ) (at : ℕ) (b : Basic) (t : Tree) (whole : treeAt text at ≡ dictionary b t) (c : Shape) (there : Described text shapes c) (value : treeAt text (c .at) ≡ t) where
+  entry-item : (i : Item) (m : Letter) → i ≡ item true c (basicKind b) (basicFixed b) (entryAlignment b t) (entryFixed b t) m → ItemAt text shapes at i
+  unfolding itemOf
+  entry-item i m e = rw e (record {
+    repeated = record {
+      child = there;
+      aligned = (unfold alignment in aligned (dictionary b t));
+      key = λ q. is-key b;
+      keyed = λ q. ap basicFixed (sym (key-of b));
+      whole = λ q f. ap basicFixed (key-of b) ∙ both-first (basicFixed b) (fixed t) f;
+      alone = λ q. absurd (false≢true (sym q));
+    };
+    body = λ texts big nested h. rw (whole, value, key-of b) (emit-dictionary texts big (65 - nested) b t);
+  })
+
+-- an array of an element
+module _ (text shapes : List ℕ) (at : ℕ) (t : Tree) (whole : treeAt text at ≡ array t) (c : Shape) (there : Described text shapes c) (value : treeAt text (c .at) ≡ t) where
+  element-item : (i : Item) (keyed : Bool) (m : Letter) → i ≡ item false c End keyed (alignment t) (fixed t) m → ItemAt text shapes at i
+  unfolding itemOf
+  element-item i keyed m e = rw e (record {
+    repeated = record {
+      child = there;
+      aligned = aligned t;
+      key = λ q. absurd (false≢true q);
+      keyed = λ q. absurd (false≢true q);
+      whole = λ q. absurd (false≢true q);
+      alone = λ q. ap alignment (sym value);
+    };
+    body = λ texts big nested h. rw (whole, value) (emit-array texts big (65 - nested) t);
+  })
+
+-- what the code finds is what the array or dictionary repeats
+pub item-at : (l t : List ℕ) (s : Shape) → Described l t s → letterAt l (s .at) ≡ Array → (i : Item) → i ≡ itemIn l t s → ItemAt l t (s .at) i
+item-at l t s d first i e = rw e (opens (letterAt l (s .at + 1)) (λ h. entry (entry-of l t s d first h)) (λ h. element (element-of l t s d first h)))
+  where
+    entry : EntryOf l t (s .at) (itemIn l t s) → ItemAt l t (s .at) (itemIn l t s)
+    entry o = entry-item l t (s .at) (o .key) (o .it) (o .tree) (itemIn l t s .child) (o .child) (o .value) (itemIn l t s) (itemIn l t s .number)
+        (same-item (itemIn l t s .child) (itemIn l t s .number) (o .entry) (o .same-key) (o .same-keyed) (unfold alignment in o .same-alignment) (o .same-fixed))
+
+    element : ElementOf l t (s .at) (itemIn l t s) → ItemAt l t (s .at) (itemIn l t s)
+    element o = element-item l t (s .at) (o .it) (o .tree) (itemIn l t s .child) (o .child) (o .value) (itemIn l t s) (itemIn l t s .keyed) (itemIn l t s .number)
+        (same-item (itemIn l t s .child) (itemIn l t s .number) (o .entry) (o .same-key) refl (o .same-alignment) (o .same-fixed))

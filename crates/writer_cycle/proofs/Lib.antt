@@ -1,0 +1,5 @@
+pub mod Openings
+pub mod ItemLaws
+pub mod FieldRows
+pub mod EntryRows
+pub mod Values

@@ -1,0 +1,160 @@
+-- A law for each way out of the walk over a whole frame and of `write`. Assumes nothing.
+use mathlib.Core.Path.{_≡_, refl, ap, sym, subst, _∙_}
+use mathlib.Core.List.{List, [], _∷_, _++_}
+use mathlib.Core.Bool.{Bool, true, false}
+use native.Mathlib.Omega.{arith}
+use Prim.Native.Nat.{ℕ, _+_, _-_, _≤_, _<_, min}
+use lib.Dec.{leb}
+use lib.ListN.{length, take, drop, length-drop, drop-of-length-le}
+use lib.Seq.{take-all, length-take-le}
+use borrow.Author.Tests.{le-leb, lt-leb}
+use Rattle.meaning.specs.Depths.{Depths, noneOpen, depthRefusal}
+use Rattle.meaning.specs.Limits.{largestFrame, mostVariants}
+use Rattle.meaning.specs.Types.{Tree}
+use Rattle.meaning.specs.Written.{Piece}
+use Rattle.meaning_writing.specs.Writing.{Built, built, fault, Framed, framed, limited, frameWriting, roomed, WriteAnswer, writeAnswer, writeAnswered, outputWith, write, writeSlice}
+use Rattle.meaning_writing.specs.Emitting.{emit, frameEmitted}
+use Rattle.meaning_writing.proofs.EmitLaws.{frame-untyped, frame-emitted}
+use Rattle.container_depths.specs.Opening.{depthsOf}
+use Rattle.container_depths.specs.declared.ContainerDepths.{ContainerDepths}
+use Rattle.signature.specs.Places.{isType}
+use Rattle.signature.specs.Trees.{treeAt}
+use Rattle.signature.proofs.Answers.{judged-none}
+use Rattle.signature.proofs.TreeLaws.{front}
+use Rattle.writer_basic.specs.Stores.{cap}
+use Rattle.writer_basic.specs.Wrote.{Made, Done, Placed}
+use Rattle.writer_basic.specs.declared.Answer.{Answer}
+use Rattle.writer_basic.specs.declared.Context.{Context}
+use Rattle.writer_basic.proofs.Answers.{made-of, fault-of}
+use Rattle.writer_cycle.specs.Places.{valueOf, Shallow}
+use Rattle.writer.specs.Answers.{answerOf, frameOf, MadeFrame, SaysFrame, WroteFrame}
+
+-- ---- the walk
+
+-- at the start nothing is open
+pub start-shallow : (big : Bool) (d : ContainerDepths) → depthsOf d ≡ noneOpen → Shallow (record { big = big; depths = d })
+start-shallow big d e = record { is = rw e (unfold depthRefusal in refl) }
+
+-- a piece that stands at the front of an output of its length is the output
+whole-bytes : (bs l l′ : List ℕ) → take (0 + length bs) l′ ≡ take 0 l ++ bs → length l′ ≡ length l → length bs ≡ length l → l′ ≡ bs
+whole-bytes bs l l′ e n h = let z : 0 + length bs ≡ length bs = omega arith in sym (take-all (length bs) l′ (omega arith)) ∙ (rw z at e)
+
+pub whole-done : (type : List ℕ) (big : Bool) (ns texts : List ℕ) (d : ContainerDepths) (x : ℕ) (l l′ s s′ : List ℕ) (r : Answer) → depthsOf d ≡ noneOpen → x ≡ 0 → length s ≡ 128 → length l′ ≡ length l
+    → Done (valueOf texts big (d .variant) (treeAt type x) (depthsOf d) (drop 0 ns)) ns 0 0 0 l l′ s s′ r → WroteFrame (frameOf type big ns texts) ns l l′ r
+whole-done type big ns texts d x l l′ s s′ r e h m n g =
+    let y : Done (valueOf texts big (d .variant) (treeAt type 0) (depthsOf d) (drop 0 ns)) ns 0 0 0 l l′ s s′ r = rw h at g in
+    let w : Done (frameOf type big ns texts) ns 0 0 0 l l′ s s′ r = subst (λ (x : Depths). Done (emit texts big (65 - x .variant) (treeAt type 0) x (drop 0 ns)) ns 0 0 0 l l′ s s′ r) e y in
+    record { says = go (frameOf type big ns texts) (w .says) }
+  where
+    go : (y : Built Piece) → Rattle.writer_basic.specs.Wrote.Says y ns 0 0 0 l l′ s s′ r → SaysFrame y ns l l′ r
+    go (built c rest) f = record {
+      refusal = f .refusal;
+      behind = f .behind;
+      size = f .size;
+      stored = λ k i. whole-bytes (c .bytes) l l′ (f .stored (record { inside = omega arith; limit = i; ready = omega arith }) .bytes-are) n k;
+    }
+    go (fault k) f = f
+
+-- what it says of what it answers
+record IsFrame (x : Built Piece) (ns l l′ : List ℕ) (r : Answer) : Type 0 where
+  pub piece : Piece
+  pub rest : List ℕ
+  pub is : x ≡ built piece rest
+  pub facts : MadeFrame piece rest ns l l′ r
+
+module _ {x : Built Piece} {ns l l′ : List ℕ} {r : Answer} (d : WroteFrame x ns l l′ r) where
+  frame-of : r .refusal ≡ 0 → IsFrame x ns l l′ r
+  frame-of z = go x refl (d .says)
+    where
+      go : (y : Built Piece) → x ≡ y → SaysFrame y ns l l′ r → IsFrame x ns l l′ r
+      go (built c rest) e d = record { piece = c; rest = rest; is = e; facts = d }
+      go (fault n) e d = absurd (d .real (sym (d .refusal) ∙ z))
+
+  frame-fault : (r .refusal ≡ 0 → ⊥) → x ≡ fault (r .refusal)
+  frame-fault z = go x (d .says)
+    where
+      go : (y : Built Piece) → SaysFrame y ns l l′ r → y ≡ fault (r .refusal)
+      go (built c rest) d = absurd (z (d .refusal))
+      go (fault n) d = rw (d .refusal)
+
+-- ---- write
+
+module _ (type : List ℕ) (big : Bool) (ns texts out : List ℕ) where
+  -- an answer, and the output afterwards
+  abbrev pub Answers : ℕ → ℕ → List ℕ → Type 0
+  Answers n u out′ = (writeAnswer n u ≡ write type big ns texts out) × (out′ ≡ writeSlice type big ns texts out)
+
+  answer-is : (f : Framed) → frameWriting type big ns texts ≡ f → length (f .frame) ≤ length out → write type big ns texts out ≡ writeAnswer (f .refusal) (length (f .frame))
+  unfolding write roomed writeAnswered
+  answer-is f e h = rw (e, le-leb (length (f .frame)) (length out) h)
+
+  slice-is : (f : Framed) → frameWriting type big ns texts ≡ f → length (f .frame) ≤ length out → writeSlice type big ns texts out ≡ f .frame ++ drop (length (f .frame)) out
+  unfolding writeSlice roomed outputWith
+  slice-is f e h = rw (e, le-leb (length (f .frame)) (length out) h)
+
+  refused-is : (n : ℕ) → frameWriting type big ns texts ≡ framed n [] → Answers n 0 out
+  refused-is n e = (sym (answer-is (framed n []) e (omega arith)), sym (slice-is (framed n []) e (omega arith)))
+
+  pub write-untyped : isType type ≡ false → Answers 1 0 out
+  write-untyped h = refused-is 1 (frame-untyped type big ns texts (judged-none type h))
+
+  module _ (h : isType type ≡ true) where
+    emitted-is : frameWriting type big ns texts ≡ frameEmitted (frameOf type big ns texts)
+    emitted-is = frame-emitted type big ns texts (treeAt type 0) (front type h .type)
+
+    module _ (l l′ : List ℕ) (r : Answer) (d : WroteFrame (frameOf type big ns texts) ns l l′ r) where
+      pub write-fault : (r .refusal ≡ 0 → ⊥) → Answers (r .refusal) 0 out
+      unfolding frameEmitted
+      write-fault z = refused-is (r .refusal) (emitted-is ∙ ap frameEmitted (frame-fault d z))
+
+      module _ (z : r .refusal ≡ 0) where
+        more-left : (x : List ℕ) (c : Piece) → 0 < length x → frameEmitted (built c x) ≡ framed 17 []
+        unfolding frameEmitted
+        more-left [] c p = absurd (omega arith)
+        more-left (k ∷ x) c p = refl
+
+        pub write-left : r .next < length ns → Answers 17 0 out
+        write-left p =
+            let m = frame-of d z in
+            refused-is 17 (emitted-is ∙ ap frameEmitted (m .is ∙ ap (built (m .piece)) (m .facts .behind)) ∙ more-left (drop (r .next) ns) (m .piece) (rw (length-drop (r .next) ns) (omega arith)))
+
+        module _ (p : length ns ≤ r .next) where
+          whole-is : (m : IsFrame (frameOf type big ns texts) ns l l′ r) → frameWriting type big ns texts ≡ limited (m .piece .bytes)
+          unfolding frameEmitted
+          whole-is m =
+              let y : drop (r .next) ns ≡ [] = drop-of-length-le ns p in
+              emitted-is ∙ ap frameEmitted (m .is ∙ ap (built (m .piece)) (m .facts .behind ∙ y))
+
+          pub write-long : 65536 < r .size → Answers 2 0 out
+          unfolding limited
+          write-long q = let m = frame-of d z in refused-is 2 (whole-is m ∙ rw (lt-leb (length (m .piece .bytes)) largestFrame (omega (arith, m .facts .size))))
+
+          module _ (q : r .size ≤ 65536) where
+            short-is : (m : IsFrame (frameOf type big ns texts) ns l l′ r) → frameWriting type big ns texts ≡ framed 0 (m .piece .bytes)
+            unfolding limited
+            short-is m = whole-is m ∙ rw (le-leb (length (m .piece .bytes)) largestFrame (omega (arith, m .facts .size)))
+
+            size-is : (m : IsFrame (frameOf type big ns texts) ns l l′ r) → r .size ≡ length (m .piece .bytes)
+            size-is m = omega (arith, m .facts .size)
+
+            pub write-full : length out < r .size → Answers 13 0 out
+            unfolding write writeSlice roomed writeAnswered outputWith
+            write-full w =
+                let m = frame-of d z in
+                let e = short-is m in
+                let k = lt-leb (length (m .piece .bytes)) (length out) (omega (arith, size-is m)) in
+                (rw (e, k), rw (e, k))
+
+            -- the second walk, over an output of the frame's length
+            pub write-done : (part part′ : List ℕ) (r′ : Answer) → length part ≡ r .size → r .size ≤ length out → WroteFrame (frameOf type big ns texts) ns part part′ r′ → Answers 0 (r .size) (part′ ++ drop (r .size) out)
+            write-done part part′ r′ n w g =
+                let m = frame-of d z in
+                let y = size-is m in
+                let k : part′ ≡ m .piece .bytes = stored-by (frameOf type big ns texts) (m .piece) (m .rest) (m .is) (g .says) (sym y ∙ sym n) (omega arith) in
+                let b : length (m .piece .bytes) ≤ length out = omega arith in (
+                  ap (writeAnswer 0) y ∙ sym (answer-is (framed 0 (m .piece .bytes)) (short-is m) b),
+                  ap (λ (x : List ℕ). x ++ drop (r .size) out) k ∙ (ap (λ (u : ℕ). m .piece .bytes ++ drop u out) y ∙ sym (slice-is (framed 0 (m .piece .bytes)) (short-is m) b)),
+                )
+              where
+                stored-by : (x : Built Piece) (c : Piece) (rest : List ℕ) → x ≡ built c rest → SaysFrame x ns part part′ r′ → length (c .bytes) ≡ length part → length part ≤ 65536 → part′ ≡ c .bytes
+                stored-by x c rest e f i j = (rw e at f) .stored i j

@@ -1,0 +1,5 @@
+pub mod EndLaws
+pub mod ElementLaws
+pub mod SizeLaws
+pub mod TableLaws
+pub mod ItemLaws

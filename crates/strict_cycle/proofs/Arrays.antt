@@ -1,0 +1,144 @@
+-- A law for each way out of arrays, dictionaries and their entries. Assumes nothing.
+use mathlib.Core.Path.{_≡_, refl, sym, ap, _∙_}
+use mathlib.Core.List.{List, [], _∷_}
+use mathlib.Core.Bool.{Bool, true, false, _&&_}
+use Prim.Native.Nat.{ℕ, _+_, _-_, _*_, _≤_, _<_}
+use native.Mathlib.Omega.{arith}
+use lib.ListN.{length, take, drop}
+use Rattle.meaning.specs.Choice.{pick}
+use Rattle.meaning.specs.Padding.{Aligns}
+use Rattle.meaning.specs.Depths as Depth
+use Rattle.meaning.specs.Depths.{Depths, opened}
+use Rattle.meaning.specs.Written.{deeper}
+use Rattle.meaning_writing.specs.Shapes.{oneMore, offsetCount, fieldEnd, offsetsLeft}
+use Rattle.meaning_writing.specs.Strict.{Test, testShapes, childWritten, elementsWritten, arrayWritten, arrayTest, fieldsWritten, structureWritten, entryTest}
+use Rattle.container_depths.specs.Opening.{depthsOf, Raises}
+use Rattle.container_depths.specs.declared.ContainerDepths.{ContainerDepths}
+use Rattle.container_depths.specs.declared.Raised.{Raised}
+use Rattle.reader_cycle.proofs.Readers.{raised-to}
+use Rattle.strict_basic.specs.Ends.{letterExtent, letterTest, textTest, endOf, RowsOf, TableOf}
+use Rattle.strict_basic.specs.Items.{treeTest, itemTest, Repeated, ItemAt}
+use Rattle.strict_basic.specs.declared.ends.Extent.{Extent}
+use Rattle.strict_basic.specs.declared.ends.Rows.{Rows}
+use Rattle.strict_basic.specs.declared.items.Item.{Item}
+use Rattle.strict_basic.proofs.EndLaws.{child-within}
+use Rattle.strict_basic.proofs.SizeLaws.{Some}
+use Rattle.strict_cycle.specs.Walks.{lastWritten}
+use Rattle.strict_cycle.proofs.Values.{deeper-not, deeper-on}
+use Rattle.strict_cycle.proofs.Structures.{fields-one, fields-turn, offsets-one, offsets-two}
+
+-- ---- an array or a dictionary
+
+module _ {text tables : List ℕ} {at : ℕ} (i : Item) (g : ItemAt text tables at i) (d : ContainerDepths) (l : List ℕ) (r : Raised) (u : Raises (depthsOf d) (opened Depth.array (depthsOf d)) r) where
+  array-accepts : treeTest (d .variant) text at .accepts (depthsOf d) l ≡ deeper (opened Depth.array (depthsOf d)) (arrayWritten (i .extent .fixed) (itemTest (d .variant) text i) l)
+  unfolding arrayTest
+  array-accepts = ap (λ (x : Test). x .accepts (depthsOf d) l) (g .repeats (d .variant))
+
+  pub array-deep : (r .refusal ≡ 0 → ⊥) → false ≡ treeTest (d .variant) text at .accepts (depthsOf d) l
+  array-deep z = sym (array-accepts ∙ deeper-not Depth.array d r u (arrayWritten (i .extent .fixed) (itemTest (d .variant) text i) l) z)
+
+  module _ (z : r .refusal ≡ 0) where
+    abbrev t : Test
+    t = itemTest (r .depths .variant) text i
+
+    array-in : treeTest (d .variant) text at .accepts (depthsOf d) l ≡ arrayWritten (i .extent .fixed) t l (depthsOf (r .depths))
+    array-in =
+        let v : r .depths .variant ≡ d .variant = ap (λ (x : Depths). x .variant) (raised-to Depth.array d r u z) in
+        array-accepts ∙ deeper-on Depth.array d r u (arrayWritten (i .extent .fixed) (itemTest (d .variant) text i) l) z
+        ∙ ap (λ (n : ℕ). arrayWritten (i .extent .fixed) (itemTest n text i) l (depthsOf (r .depths))) (sym v)
+
+    pub array-any : (b : Bool) → b ≡ arrayWritten (i .extent .fixed) t l (depthsOf (r .depths)) → b ≡ treeTest (d .variant) text at .accepts (depthsOf d) l
+    array-any b h = h ∙ sym array-in
+
+    module _ (s : Rows) (w : RowsOf l (i .extent .fixed) (i .extent .size) s) where
+      array-rows : treeTest (d .variant) text at .accepts (depthsOf d) l ≡ (s .stands && elementsWritten (i .extent .fixed) t (depthsOf (r .depths)) l (s .width) (s .body) (s .count) (s .from) 0)
+      array-rows = array-in ∙ w .is t (depthsOf (r .depths)) (g .repeated .known .same-size (r .depths .variant))
+
+      pub array-not : s .stands ≡ false → false ≡ treeTest (d .variant) text at .accepts (depthsOf d) l
+      array-not h = sym (array-rows ∙ rw h)
+
+      pub array-on : (b : Bool) → s .stands ≡ true → b ≡ elementsWritten (i .extent .fixed) t (depthsOf (r .depths)) l (s .width) (s .body) (s .count) (s .from) 0
+          → b ≡ treeTest (d .variant) text at .accepts (depthsOf d) l
+      array-on b h k = k ∙ sym (array-rows ∙ rw h)
+
+      -- of texts, which are not fixed
+      text-loose : i .text ≡ true → i .extent .fixed ≡ false
+      unfolding textTest
+      text-loose h = sym (g .repeated .known .same-fixed 0) ∙ ap (λ (x : Test). x .shape .fixed) (g .repeated .texts h 0)
+
+      pub array-wide : i .text ≡ true → Aligns (s .width)
+      array-wide h = w .wide (text-loose h)
+
+      pub array-texts : (b : Bool) → s .stands ≡ true → i .text ≡ true → ((e : Depths) → b ≡ elementsWritten false textTest e l (s .width) (s .body) (s .count) (s .from) 0)
+          → b ≡ treeTest (d .variant) text at .accepts (depthsOf d) l
+      array-texts b h x k =
+          array-on b h (k (depthsOf (r .depths)) ∙ ap (λ (y : Test). elementsWritten false y (depthsOf (r .depths)) l (s .width) (s .body) (s .count) (s .from) 0) (sym (g .repeated .texts x (r .depths .variant)))
+          ∙ ap (λ (f : Bool). elementsWritten f t (depthsOf (r .depths)) l (s .width) (s .body) (s .count) (s .from) 0) (sym (text-loose x)))
+
+-- ---- what is repeated
+
+pub plain-is : (nested : ℕ) (text : List ℕ) (i : Item) → i .entry ≡ false → itemTest nested text i ≡ treeTest nested text (i .child .at)
+unfolding itemTest
+plain-is nested text i h =
+    ap (λ (b : Bool). pick b (entryTest (i .extent .alignment) (i .extent .fixed) (letterTest (i .key) ∷ treeTest nested text (i .child .at) ∷ [])) (treeTest nested text (i .child .at))) h
+
+pub step-plain : (nested : ℕ) (text : List ℕ) (i : Item) (d : Depths) (l : List ℕ) (s k e : ℕ) → i .entry ≡ false → (b : Bool) → b ≡ childWritten (treeTest nested text (i .child .at)) d l s k e
+    → b ≡ childWritten (itemTest nested text i) d l s k e
+step-plain nested text i d l s k e h b g = g ∙ ap (λ (t : Test). childWritten t d l s k e) (sym (plain-is nested text i h))
+
+entry-is : (nested : ℕ) (text : List ℕ) (i : Item) → i .entry ≡ true
+    → itemTest nested text i ≡ entryTest (i .extent .alignment) (i .extent .fixed) (letterTest (i .key) ∷ treeTest nested text (i .child .at) ∷ [])
+unfolding itemTest
+entry-is nested text i h =
+    ap (λ (b : Bool). pick b (entryTest (i .extent .alignment) (i .extent .fixed) (letterTest (i .key) ∷ treeTest nested text (i .child .at) ∷ [])) (treeTest nested text (i .child .at))) h
+
+-- ---- an entry
+
+pub more-small : (f : Bool) (n r : ℕ) → r ≡ oneMore f n → r ≤ n + 1
+more-small true n r h = omega arith
+more-small false n r h = omega arith
+
+module _ (nested : ℕ) (text : List ℕ) (i : Item) (h : i .entry ≡ true) (d : Depths) (l : List ℕ) (x : Extent) (hx : x ≡ letterExtent (i .key)) (n : ℕ) (hn : n ≡ oneMore (x .fixed) 0) (s : Rows) (w : TableOf (length l) n s) where
+  abbrev u : Test
+  u = letterTest (i .key)
+
+  abbrev v : Test
+  v = treeTest nested text (i .child .at)
+
+  one : Some (v ∷ [])
+  one = record { first = v; others = []; it = refl }
+
+  entry-accepts : itemTest nested text i .accepts d l ≡ structureWritten (i .extent .fixed) (i .extent .alignment) (u ∷ v ∷ []) l d
+  unfolding entryTest
+  entry-accepts = ap (λ (t : Test). t .accepts d l) (entry-is nested text i h)
+
+  entry-count : offsetCount (testShapes (u ∷ v ∷ [])) ≡ n
+  unfolding letterTest
+  entry-count = offsets-two u v [] ∙ ap (λ (m : ℕ). oneMore (u .shape .fixed) m) (offsets-one v) ∙ ap (λ (y : Extent). oneMore (y .fixed) 0) (sym hx) ∙ sym hn
+
+  entry-rows : itemTest nested text i .accepts d l ≡ (s .stands && fieldsWritten (i .extent .fixed) (i .extent .alignment) d l (s .body) (s .width) (u ∷ v ∷ []) 0 (length l))
+  entry-rows = entry-accepts ∙ w .is (i .extent .fixed) (i .extent .alignment) (u ∷ v ∷ []) l d refl entry-count
+
+  pub entry-not : s .stands ≡ false → false ≡ itemTest nested text i .accepts d l
+  entry-not z = sym (entry-rows ∙ rw z)
+
+  -- room for the key's offset
+  pub entry-room : s .stands ≡ true → x .fixed ≡ false → s .width ≤ length l
+  entry-room z f = let q = w .room z in let m : n ≡ 1 = hn ∙ ap (λ (b : Bool). oneMore b 0) f in omega (arith, rw m at q)
+
+  module _ (z : s .stands ≡ true) (e : ℕ) (he : e ≡ fieldEnd (x .fixed) l (s .width) (length l) (endOf x 0)) (c : Bool) (hc : (d : Depths) → c ≡ childWritten u d l (s .body) 0 e) where
+    entry-turn : itemTest nested text i .accepts d l ≡ (c && lastWritten (i .extent .fixed) (i .extent .alignment) v d l (s .body) e)
+    unfolding letterTest
+    entry-turn =
+        entry-rows ∙ rw z (fields-turn (i .extent .fixed) (i .extent .alignment) d l (s .body) (s .width) u (v ∷ []) one x (ap (λ (y : Extent). y .fixed) (sym hx)) (ap (λ (y : Extent). y .alignment) (sym hx)) (λ f. ap (λ (y : Extent). y .size) (sym hx)) 0 (length l) e he
+        ∙ ap (λ (b : Bool). b && fieldsWritten (i .extent .fixed) (i .extent .alignment) d l (s .body) (s .width) (v ∷ []) e (offsetsLeft (x .fixed) (s .width) (length l))) (sym (hc d))
+        ∙ ap (λ (b : Bool). c && b) (fields-one (i .extent .fixed) (i .extent .alignment) d l (s .body) (s .width) v e (offsetsLeft (x .fixed) (s .width) (length l))))
+
+    pub entry-stop : c ≡ false → false ≡ itemTest nested text i .accepts d l
+    entry-stop y = sym (entry-turn ∙ rw y)
+
+    pub entry-last : (b : Bool) → c ≡ true → b ≡ lastWritten (i .extent .fixed) (i .extent .alignment) v d l (s .body) e → b ≡ itemTest nested text i .accepts d l
+    entry-last b y q = q ∙ sym (entry-turn ∙ rw y)
+
+    pub entry-within : c ≡ true → e ≤ s .body
+    entry-within y = child-within u d l (s .body) 0 e (sym (hc d) ∙ y)

@@ -1,0 +1,4 @@
+pub mod Values
+pub mod Structures
+pub mod Arrays
+pub mod Variants

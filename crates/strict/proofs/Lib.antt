@@ -1,0 +1,3 @@
+pub mod Wholes
+pub mod WrittenFrames
+pub mod Unique

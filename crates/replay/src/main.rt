@@ -1,9 +1,11 @@
 // Reads frames and answers them as the oracle does. A question is a line `TYPE l|b POSITION HEX`, parted by single blanks, `-` for no
 // bytes; the last line may have no line end. Its answer is a line `REFUSAL USED NEVENTS kind:place:payload ..`, without the events where
-// there are more than 73,728 of them. A line that is not understood, or is longer than 262,144 bytes, ends the program with a message.
+// there are more than 73,728 of them. A line that is not understood, or is longer than 2,097,152 bytes, ends the program with a message.
 mod print;
 mod words;
 
+use lines::front;
+use lines::gather;
 use std::num::wrapping_add_u64;
 ghost use mathlib.Core.Path.{_≡_};
 ghost use Prim.Native.Nat.{_≤_};
@@ -39,12 +41,11 @@ fn read(
     let refusal = r.refusal;
     if refusal == 13 {
         let s = reader::size(signature, big, position, frame);
-        let next = print::counts(out, at, s.refusal, s.used, s.count);
-        return print::end(out, next);
+        return print::counts(out, at, s.refusal, s.used, s.count, b'\n');
     }
-    let next = print::counts(out, at, refusal, r.used, r.count);
-    let last = print::events(out, next, room, r.count);
-    print::end(out, last)
+    let count = r.count;
+    let next = print::counts(out, at, refusal, r.used, count, print::behind(0, count));
+    print::events(out, next, room, count)
 }
 
 fn answer(
@@ -92,7 +93,6 @@ fn answer(
 // What goes before a line that is not understood is answered all the same.
 fn stopped(out: &[u8; 65536], at: usize, number: u64) -> Progress
     requires { ⌜ at ≤ 65536 ⌝ }
-    ensures { λ r. ⌜ r .kept ≤ 0 ⌝ }
 {
     print::flush(out, at);
     Progress {
@@ -102,35 +102,44 @@ fn stopped(out: &[u8; 65536], at: usize, number: u64) -> Progress
     }
 }
 
-// The answers to the lines that end in the first `n` bytes of a block.
+// A block is answered, and its last bytes begin the next line.
+fn answered(out: &[u8; 65536], at: usize, number: u64, kept: usize) -> Progress
+    requires { ⌜ at ≤ 65536 ⌝ }
+{
+    print::flush(out, at);
+    Progress {
+        kept,
+        number,
+        going: true,
+    }
+}
+
+// The answers to the lines that end in a block.
 fn answer_block(
-    block: &[u8; 65536],
-    n: usize,
+    block: &[u8],
     line: &mut [u8],
     frame: &mut [u8],
     room: &mut [u64; 221184],
     before: Progress,
 ) -> Progress
-    requires { ⌜ (n ≤ 65536) × (length (now line) ≡ 262144) × (length (now frame) ≡ 131072) × (before .kept ≤ 262144) ⌝ }
-    ensures { λ r. ⌜ r .kept ≤ 262144 ⌝ }
+    requires { ⌜ length (now frame) ≡ 131072 ⌝ }
 {
     let mut out = io::large_buffer();
     let mut at = 0;
     let mut kept = before.kept;
     let mut number = before.number;
-    let mut i = 0;
-    while i < n {
-        let byte = block[i];
-        i += 1;
-        if byte != b'\n' {
-            if kept == 262144 {
-                return stopped(&out, at, number);
-            }
-            line[kept] = byte;
-            kept += 1;
-            continue;
+    let mut from = 0;
+    while from < block.len() {
+        let gathered = gather(&block[from..], line, kept);
+        kept = gathered.kept;
+        if line.len() < kept {
+            return stopped(&out, at, number);
         }
-        let step = answer(&line[..kept], frame, room, &mut out, at);
+        if !gathered.ended {
+            return answered(&out, at, number, kept);
+        }
+        from += gathered.passed;
+        let step = answer(front(line, kept), frame, room, &mut out, at);
         at = step.at;
         if !step.understood {
             return stopped(&out, at, number);
@@ -138,12 +147,7 @@ fn answer_block(
         number = wrapping_add_u64(number, 1);
         kept = 0;
     }
-    print::flush(&out, at);
-    Progress {
-        kept,
-        number,
-        going: true,
-    }
+    answered(&out, at, number, kept)
 }
 
 fn complain(number: u64) {
@@ -154,20 +158,20 @@ fn complain(number: u64) {
 
 // The answer to a last line that has no line end.
 fn answer_rest(line: &mut [u8], frame: &mut [u8], room: &mut [u64; 221184], before: Progress)
-    requires { ⌜ (length (now line) ≡ 262144) × (length (now frame) ≡ 131072) × (before .kept ≤ 262144) ⌝ }
+    requires { ⌜ length (now frame) ≡ 131072 ⌝ }
 {
     if before.kept == 0 {
         return;
     }
-    let block = [b'\n'; 65536];
-    let after = answer_block(&block, 1, line, frame, room, before);
+    let end = [b'\n'; 1];
+    let after = answer_block(&end, line, frame, room, before);
     if !after.going {
         complain(after.number);
     }
 }
 
 fn answer_all(line: &mut [u8], frame: &mut [u8], room: &mut [u64; 221184])
-    requires { ⌜ (length (now line) ≡ 262144) × (length (now frame) ≡ 131072) ⌝ }
+    requires { ⌜ length (now frame) ≡ 131072 ⌝ }
 {
     let mut progress = Progress {
         kept: 0,
@@ -183,7 +187,7 @@ fn answer_all(line: &mut [u8], frame: &mut [u8], room: &mut [u64; 221184])
             answer_rest(line, frame, room, progress);
             return;
         }
-        progress = answer_block(&block, n, line, frame, room, progress);
+        progress = answer_block(&block[..n], line, frame, room, progress);
         if !progress.going {
             complain(progress.number);
             return;
@@ -193,7 +197,7 @@ fn answer_all(line: &mut [u8], frame: &mut [u8], room: &mut [u64; 221184])
 }
 
 fn main() {
-    let mut line = [0u8; 262144];
+    let mut line = [0u8; 2097152];
     let mut frame = [0u8; 131072];
     let mut room = [0u64; 221184];
     answer_all(&mut line, &mut frame, &mut room);

@@ -1,96 +1,113 @@
--- `replay::answer_block` meets its contract. The invariant: the present line and the output lie within their room. The measure is what
--- is left of the block. Assumes nothing.
-use mathlib.Core.Path.{_≡_, sym}
-use Prim.Native.Nat.{_-_, _≤_}
+-- `replay::answer_block` is safe and ends: each line passes a byte of the block, and the output lies within its room. The measure is what is left
+-- of the block. Assumes nothing.
+use mathlib.Core.Path.{_≡_, refl, sym}
+use Prim.Native.Nat.{ℕ, _-_, _≤_}
 use native.Mathlib.Omega.{arith}
-use lib.ListN.{length, length-set}
+use lib.ListN.{length, length-replicate}
 use lib.Seq.{length-take-le}
+use borrow.Author.Needs.{needs}
+use Rattle.lines.proofs.GatherLaws.{part-passed}
 use Rattle.replay.proofs.answer_block.Statement.{statement}
 use Rattle.replay.proofs.answer_block.Tie as tie
+use Rattle.replay.proofs.answer_block.Reads as reads
+use Rattle.replay.proofs.answer_block.Lts as lts
+use Rattle.io.proofs.large_buffer.Reads as large-buffer-reads
+use Rattle.lines.proofs.front.Reads as front-reads
+use Rattle.lines.proofs.gather.Reads as gather-reads
+use Rattle.replay.proofs.answer.Reads as answer-reads
+use Rattle.replay.proofs.answered.Reads as answered-reads
+use Rattle.replay.proofs.stopped.Reads as stopped-reads
+use Rattle.std.proofs.num.wrapping_add_u64.Reads as wrapping-add-u64-reads
 
 abbrev Inv-loop : tie.InvT-loop
-Inv-loop block n line₀ frame₀ room₀ out₀ at₀ kept₀ number₀ i₀ line frame room out at kept number i = (i ≤ n) × (length line ≡ 262144) × (length frame ≡ 131072) × (at ≤ 65536) × (kept ≤ 262144)
+Inv-loop block line₀ frame₀ room₀ out₀ at₀ kept₀ number₀ from₀ line frame room out at kept number from = (from ≤ length block) × (length line ≡ length line₀) × (length frame ≡ 131072) × (at ≤ 65536)
 
 abbrev μ-loop : tie.MeasureT-loop
-μ-loop block n line₀ frame₀ room₀ out₀ at₀ kept₀ number₀ i₀ line frame room out at kept number i = n - i
+μ-loop block line₀ frame₀ room₀ out₀ at₀ kept₀ number₀ from₀ line frame room out at kept number from = length block - from
 
 large-buffer-requires : tie.Need-large-buffer-requires Inv-loop μ-loop
-large-buffer-requires c κs = omega arith
+large-buffer-requires c κs = search needs
 
 loop-holds : tie.Need-loop-holds Inv-loop μ-loop
-loop-holds c = omega arith
+loop-holds c = (omega arith, refl, c .before .before .before .before .pre, omega arith)
 
-element-copy-out-byte : tie.Need-element-copy-out-byte Inv-loop μ-loop
-element-copy-out-byte c = omega arith
+sub-gather : tie.Need-sub-gather Inv-loop μ-loop
+sub-gather c = c .before .loop .inv .0
 
-add-i : tie.Need-add-i Inv-loop μ-loop
-add-i c = omega arith
+part-gather-start : tie.Need-part-gather-start Inv-loop μ-loop
+part-gather-start c = search needs
+
+part-gather-end : tie.Need-part-gather-end Inv-loop μ-loop
+part-gather-end c = search needs
+
+gather-requires : tie.Need-gather-requires Inv-loop μ-loop
+gather-requires c κs = tt
 
 stopped-requires : tie.Need-stopped-requires Inv-loop μ-loop
-stopped-requires c κs = omega arith
+stopped-requires c κs = search needs
 
 same-length : tie.Need-same-length Inv-loop μ-loop
-same-length c = omega arith
+same-length c = search needs
 
 same-length-2 : tie.Need-same-length-2 Inv-loop μ-loop
-same-length-2 c = omega arith
+same-length-2 c = search needs
 
 returns : tie.Need-returns Inv-loop μ-loop
-returns c = omega arith
+returns c = search needs
 
-slice-write-line : tie.Need-slice-write-line Inv-loop μ-loop
-slice-write-line c = omega arith
-
-add-kept : tie.Need-add-kept Inv-loop μ-loop
-add-kept c = omega arith
-
-loop-less : tie.Need-loop-less Inv-loop μ-loop
-loop-less c = omega arith
-
-loop-again : tie.Need-loop-again Inv-loop μ-loop
-loop-again c = simp length-set (omega arith)
-
-slice-reshare-prefix-answer : tie.Need-slice-reshare-prefix-answer Inv-loop μ-loop
-slice-reshare-prefix-answer c = omega arith
-
-slice-aggregate-answer : tie.Need-slice-aggregate-answer Inv-loop μ-loop
-slice-aggregate-answer c = sym (length-take-le _ _ (slice-reshare-prefix-answer (c .before)))
-
-answer-requires : tie.Need-answer-requires Inv-loop μ-loop
-answer-requires c κs = omega arith
-
-stopped-requires-2 : tie.Need-stopped-requires-2 Inv-loop μ-loop
-stopped-requires-2 c κs = omega arith
+answered-requires : tie.Need-answered-requires Inv-loop μ-loop
+answered-requires c κs = search needs
 
 same-length-3 : tie.Need-same-length-3 Inv-loop μ-loop
-same-length-3 c = omega arith
+same-length-3 c = search needs
 
 same-length-4 : tie.Need-same-length-4 Inv-loop μ-loop
-same-length-4 c = omega arith
+same-length-4 c = search needs
 
 returns-2 : tie.Need-returns-2 Inv-loop μ-loop
-returns-2 c = omega arith
+returns-2 c = search needs
 
-wrapping-add-u64-requires : tie.Need-wrapping-add-u64-requires Inv-loop μ-loop
-wrapping-add-u64-requires c κs = omega arith
+add-from : tie.Need-add-from Inv-loop μ-loop
+add-from c = let b = part-passed (c .before .before .before .before .before .before .before .before .before .before .before .before .before .before .before .args .block .now) _ _ _ _ _ (c .before .before .before .before .before .before .gather .ensures) (c .before .before .before .before .before .before .before .before .before .loop-test .taken) in let g = c .before .before .before .before .before .before .before .before .before .before .before .before .before .before .before .good in omega arith
 
-loop-less-2 : tie.Need-loop-less-2 Inv-loop μ-loop
-loop-less-2 c = omega arith
+front-requires : tie.Need-front-requires Inv-loop μ-loop
+front-requires c κs = tt
 
-loop-again-2 : tie.Need-loop-again-2 Inv-loop μ-loop
-loop-again-2 c = omega arith
+answer-requires : tie.Need-answer-requires Inv-loop μ-loop
+answer-requires c κs = search needs
 
-flush-requires : tie.Need-flush-requires Inv-loop μ-loop
-flush-requires c κs = omega arith
+stopped-requires-2 : tie.Need-stopped-requires-2 Inv-loop μ-loop
+stopped-requires-2 c κs = search needs
 
 same-length-5 : tie.Need-same-length-5 Inv-loop μ-loop
-same-length-5 c = omega arith
+same-length-5 c = omega (arith, c .before .before .before .before .before .before .before .before .before .before .before .before .before .before .before .before .before .before .gather .kept .1 .0, c .before .before .before .before .before .before .before .before .before .before .before .before .before .before .before .before .before .before .before .before .before .before .loop .inv .1)
 
 same-length-6 : tie.Need-same-length-6 Inv-loop μ-loop
-same-length-6 c = omega arith
+same-length-6 c = omega (arith, c .before .before .before .before .before .before .answer .kept .1 .0, c .before .before .before .before .before .before .before .before .before .before .before .before .before .before .before .before .before .before .before .before .before .before .loop .inv .2, c .before .before .before .before .before .before .before .before .before .before .before .before .before .before .before .before .before .before .before .before .before .before .before .before .before .before .before .pre)
 
 returns-3 : tie.Need-returns-3 Inv-loop μ-loop
-returns-3 c = omega arith
+returns-3 c = search needs
+
+wrapping-add-u64-requires : tie.Need-wrapping-add-u64-requires Inv-loop μ-loop
+wrapping-add-u64-requires c κs = search needs
+
+loop-less : tie.Need-loop-less Inv-loop μ-loop
+loop-less c = let b = part-passed (c .before .before .before .before .before .before .before .before .before .before .before .before .before .before .before .before .before .before .before .before .before .before .before .before .before .before .args .block .now) _ _ _ _ _ (c .before .before .before .before .before .before .before .before .before .before .before .before .before .before .before .before .before .gather .ensures) (c .before .before .before .before .before .before .before .before .before .before .before .before .before .before .before .before .before .before .before .before .loop-test .taken) in omega arith
+
+loop-again : tie.Need-loop-again Inv-loop μ-loop
+loop-again c = let b = part-passed (c .before .before .before .before .before .before .before .before .before .before .before .before .before .before .before .before .before .before .before .before .before .before .before .before .before .before .args .block .now) _ _ _ _ _ (c .before .before .before .before .before .before .before .before .before .before .before .before .before .before .before .before .before .gather .ensures) (c .before .before .before .before .before .before .before .before .before .before .before .before .before .before .before .before .before .before .before .before .loop-test .taken) in (b .1, search needs, search needs, search needs)
+
+answered-requires-2 : tie.Need-answered-requires-2 Inv-loop μ-loop
+answered-requires-2 c κs = search needs
+
+same-length-7 : tie.Need-same-length-7 Inv-loop μ-loop
+same-length-7 c = search needs
+
+same-length-8 : tie.Need-same-length-8 Inv-loop μ-loop
+same-length-8 c = search needs
+
+returns-4 : tie.Need-returns-4 Inv-loop μ-loop
+returns-4 c = search needs
 
 pub answer-block-spec : {M : Type 1} → statement M
 answer-block-spec =
@@ -100,27 +117,29 @@ answer-block-spec =
     μ-loop
     large-buffer-requires
     loop-holds
-    element-copy-out-byte
-    add-i
+    sub-gather
+    part-gather-start
+    part-gather-end
+    gather-requires
     stopped-requires
     same-length
     same-length-2
     returns
-    slice-write-line
-    add-kept
-    loop-less
-    loop-again
-    slice-reshare-prefix-answer
-    slice-aggregate-answer
-    answer-requires
-    stopped-requires-2
+    answered-requires
     same-length-3
     same-length-4
     returns-2
-    wrapping-add-u64-requires
-    loop-less-2
-    loop-again-2
-    flush-requires
+    add-from
+    front-requires
+    answer-requires
+    stopped-requires-2
     same-length-5
     same-length-6
-    returns-3)
+    returns-3
+    wrapping-add-u64-requires
+    loop-less
+    loop-again
+    answered-requires-2
+    same-length-7
+    same-length-8
+    returns-4)

@@ -1,22 +1,27 @@
 -- `replay::main` is safe and ends: the arrays have the lengths that `answer_all` asks for. Assumes nothing.
-use mathlib.Core.Path.{sym}
-use Prim.Native.Nat.{ℕ}
+use mathlib.Core.Path.{_≡_, refl, sym}
+use Prim.Native.Nat.{ℕ, _-_, _≤_}
 use native.Mathlib.Omega.{arith}
-use lib.ListN.{length-replicate}
+use lib.ListN.{length, length-replicate}
+use lib.Seq.{length-take-le}
+use borrow.Author.Needs.{needs}
 use Rattle.replay.proofs.main.Statement.{statement}
 use Rattle.replay.proofs.main.Tie as tie
+use Rattle.replay.proofs.main.Reads as reads
+use Rattle.replay.proofs.main.Lts as lts
+use Rattle.replay.proofs.answer_all.Reads as answer-all-reads
 
 slice-aggregate-answer-all : tie.Need-slice-aggregate-answer-all
-slice-aggregate-answer-all c = sym (length-replicate {A = ℕ} 262144 0)
+slice-aggregate-answer-all c = sym (length-replicate {A = ℕ} 2097152 0)
 
 slice-aggregate-answer-all-2 : tie.Need-slice-aggregate-answer-all-2
-slice-aggregate-answer-all-2 c = sym (length-replicate {A = ℕ} 131072 0)
+slice-aggregate-answer-all-2 c = search needs
 
 answer-all-requires : tie.Need-answer-all-requires
-answer-all-requires c κs = (length-replicate {A = ℕ} 262144 0, length-replicate {A = ℕ} 131072 0)
+answer-all-requires c κs = search needs
 
 returns : tie.Need-returns
-returns c = omega arith
+returns c = search needs
 
 pub main-spec : {M : Type 1} → statement M
 main-spec =

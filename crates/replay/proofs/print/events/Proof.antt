@@ -1,8 +1,13 @@
 -- `replay::print::events` meets its contract. The measure is what is left of the room. Assumes nothing.
 use Prim.Native.Nat.{_-_, _≤_}
 use native.Mathlib.Omega.{arith}
+use borrow.Author.Needs.{needs}
 use Rattle.replay.proofs.print.events.Statement.{statement}
 use Rattle.replay.proofs.print.events.Tie as tie
+use Rattle.replay.proofs.print.events.Reads as reads
+use Rattle.replay.proofs.print.events.Lts as lts
+use Rattle.replay.proofs.print.behind.Reads as behind-reads
+use Rattle.replay.proofs.print.event.Reads as event-reads
 
 abbrev Inv-loop : tie.InvT-loop
 Inv-loop out₀ at room count next₀ i₀ out next i = (next ≤ 65536) × (i ≤ 73728)
@@ -11,25 +16,31 @@ abbrev μ-loop : tie.MeasureT-loop
 μ-loop out₀ at room count next₀ i₀ out next i = 73728 - i
 
 loop-holds : tie.Need-loop-holds Inv-loop μ-loop
-loop-holds c = omega arith
+loop-holds c = search needs
 
 returns : tie.Need-returns Inv-loop μ-loop
-returns c = omega arith
+returns c = search needs
+
+add-behind : tie.Need-add-behind Inv-loop μ-loop
+add-behind c = search needs
+
+behind-requires : tie.Need-behind-requires Inv-loop μ-loop
+behind-requires c κs = search needs
 
 event-requires : tie.Need-event-requires Inv-loop μ-loop
-event-requires c κs = omega arith
+event-requires c κs = search needs
 
 add-i : tie.Need-add-i Inv-loop μ-loop
-add-i c = omega arith
+add-i c = search needs
 
 loop-less : tie.Need-loop-less Inv-loop μ-loop
-loop-less c = omega arith
+loop-less c = search needs
 
 loop-again : tie.Need-loop-again Inv-loop μ-loop
-loop-again c = omega arith
+loop-again c = search needs
 
 returns-2 : tie.Need-returns-2 Inv-loop μ-loop
-returns-2 c = omega arith
+returns-2 c = search needs
 
 pub events-spec : {M : Type 1} → statement M
 events-spec =
@@ -39,6 +50,8 @@ events-spec =
     μ-loop
     loop-holds
     returns
+    add-behind
+    behind-requires
     event-requires
     add-i
     loop-less

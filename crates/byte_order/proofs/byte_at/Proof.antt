@@ -1,3 +1,4 @@
+-- `byte_order::byte_at` gives the byte at a place, or refuses a place past the part, as `numberAt` says. Assumes nothing.
 use mathlib.Core.Bool.{false}
 use mathlib.Core.Path.{sym, _∙_}
 use native.Mathlib.Omega.{arith}

@@ -1,3 +1,4 @@
+-- `byte_order::eight_at` gives what `numberAt` says for eight bytes. Assumes nothing.
 use mathlib.Core.Path.{_∙_}
 use borrow.Author.Needs.{needs}
 use Rattle.utils.proofs.Places.{within}

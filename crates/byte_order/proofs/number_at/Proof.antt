@@ -1,3 +1,4 @@
+-- `byte_order::number_at` gives what `numberOf` says, for every width: a law for each that is a width, and one for the rest. Assumes nothing.
 use mathlib.Core.Path.{sym, _∙_}
 use borrow.Author.Needs.{needs}
 use Rattle.meaning.proofs.PaddingLaws.{by1, by2, by4, by8}

@@ -1,3 +1,4 @@
+-- `byte_order::two` gives the number of two bytes, from its halves, in either byte order. Assumes nothing.
 use Rattle.meaning.proofs.NumberSteps.{spelled-byte, first-high, first-low}
 use native.Mathlib.Omega.{arith}
 use Prim.Native.Nat.{_+_}

@@ -1,3 +1,4 @@
+-- `container_depths::check` gives the limit that the counts are over, as `depthRefusal` says, structures first. Assumes nothing.
 use mathlib.Core.Path.{sym}
 use Rattle.meaning.proofs.DepthLaws.{over-structure, over-array, over-total, within-limits}
 use borrow.Author.Needs.{needs}

@@ -1,3 +1,4 @@
+-- `de::next_place` gives the place after so many bytes, or refuses, as `placeAfter` says. Assumes nothing.
 use Rattle.utils.proofs.Places.{within}
 use Rattle.de.proofs.PartAnswers.{place-passed, place-failed}
 use native.Mathlib.Omega.{arith}

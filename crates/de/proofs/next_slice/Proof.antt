@@ -1,3 +1,4 @@
+-- `de::next_slice` gives the part that `partAt` says, empty where the place is refused. Assumes nothing.
 use Rattle.utils.proofs.Places.{within}
 use Rattle.de.proofs.PartAnswers.{part-passed, part-failed}
 use native.Mathlib.Omega.{arith}

@@ -1,3 +1,4 @@
+-- `de::parse_padding` gives what `paddingAt` says: the sum is taken first, then the alignment judged, then the bytes. Assumes nothing.
 use Rattle.de.proofs.PaddingAnswers.{sum-past, sum-within, none-due, due-short, due-there, due-not-zero}
 use Rattle.utils.proofs.Places.{within}
 use mathlib.Core.Path.{_∙_}

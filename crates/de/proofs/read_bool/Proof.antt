@@ -1,3 +1,4 @@
+-- `de::read_bool` gives what `boolAt` says: any byte but 0 is true. Assumes nothing.
 use Rattle.utils.proofs.Places.{within}
 use Rattle.de.proofs.PartAnswers.{bool-false, bool-true, bool-failed}
 use native.Mathlib.Omega.{arith}

@@ -1,3 +1,4 @@
+-- `de::read_number` gives what `numberAt` says, for each width. Assumes nothing.
 use mathlib.Core.Path.{_∙_}
 use borrow.Author.Needs.{needs}
 use Rattle.byte_order.proofs.Standings.{numberOf-is}

@@ -1,3 +1,4 @@
+-- `de::zeros` says whether so many bytes at a place are 0. The loop passes a zero a turn. Assumes nothing.
 use Rattle.meaning.proofs.TextSteps.{run-next, run-stop, run-end}
 use Rattle.meaning.specs.Padding.{leadingZeros}
 use native.Mathlib.Nat.{add-zero, sub-zero}

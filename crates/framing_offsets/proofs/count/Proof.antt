@@ -1,3 +1,4 @@
+-- `framing_offsets::count` gives how many offsets stand from a start on, as `countFrom` says. Assumes nothing.
 use Rattle.framing_offsets.proofs.TableLaws.{count-past, count-there}
 use Rattle.framing_offset_size.specs.Widths.{widthOf}
 use borrow.Author.Needs.{needs}

@@ -1,3 +1,4 @@
+-- `framing_offsets::from_encoded_array` finds the table of an array, or refuses it, as `Encoded` says. Assumes nothing.
 use Rattle.framing_offsets.proofs.TableLaws.{encoded-stands, encoded-falls}
 use borrow.Author.Needs.{needs}
 use Rattle.framing_offsets.proofs.from_encoded_array.Statement.{statement}

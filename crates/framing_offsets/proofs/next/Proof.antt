@@ -1,3 +1,4 @@
+-- `framing_offsets::next` gives the i-th offset of a table, as `offsetIn` says. Assumes nothing.
 use Rattle.framing_offset_size.proofs.WidthLaws.{width-positive}
 use Rattle.framing_offsets.proofs.TableLaws.{offset-behind, offset-past, offset-inside, offset-there}
 use Rattle.framing_offsets.specs.Tables.{tableIn}

@@ -1,3 +1,4 @@
+-- `framing_offsets::stands` judges a table as `tableStands` does. The loop passes one offset a turn. Assumes nothing.
 use mathlib.Core.Path.{_≡_, sym, _∙_}
 use Prim.Native.Nat.{_-_, _≤_}
 use native.Mathlib.Omega.{arith}

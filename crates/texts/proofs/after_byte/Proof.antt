@@ -1,3 +1,4 @@
+-- `texts::after_byte` gives what `afterByte` says is wanted after one more byte: a law for each way out. Assumes nothing.
 use Rattle.meaning.proofs.TextSteps.{after-letter, after-low, after-high, after-inside}
 use Rattle.texts.specs.Letters.{wantedOf}
 use mathlib.Core.Path.{sym, _∙_}

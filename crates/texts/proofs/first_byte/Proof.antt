@@ -1,3 +1,4 @@
+-- `texts::first_byte` gives what `following` says a first byte wants: a law for each row of the table. Assumes nothing.
 use Rattle.meaning.proofs.TextSteps.{following-ascii, following-low, following-two, following-224, following-237, following-three, following-240, following-four, following-244, following-high}
 use mathlib.Core.Path.{sym, _∙_}
 use borrow.Author.Needs.{needs}

@@ -1,3 +1,4 @@
+-- `texts::plain` says yes only of a byte that is a letter by itself. Assumes nothing.
 use native.Mathlib.Omega.{arith}
 use borrow.Author.Tests.{leb-true}
 use Rattle.texts.proofs.Runs.{false-is}

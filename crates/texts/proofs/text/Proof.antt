@@ -1,3 +1,4 @@
+-- `texts::text` gives the part without its final nul, as `withoutFinalNul` says. Assumes nothing.
 use Rattle.meaning.proofs.TextSteps.{nul-empty, nul-dropped, nul-missing}
 use lib.ListN.{length-take}
 use native.Mathlib.Omega.{arith}

@@ -1,3 +1,4 @@
+-- `utils::is_alignment` says yes of 1, 2, 4 and 8 alone, as `isAlignment` does. Assumes nothing.
 use Rattle.utils.proofs.Masks.{alignment-last}
 use borrow.Author.Tests.{eq-eqb, ne-eqb}
 use Rattle.meaning.specs.Padding.{isAlignment}

@@ -1,3 +1,4 @@
+-- `utils::padding_for_n_bytes` gives what `paddingFor` says, for every value and every alignment. Assumes nothing.
 use Prim.Native.Nat.{_<_, _^_}
 use native.Mathlib.Omega.{arith}
 use mathlib.Core.Path.{sym, _∙_}

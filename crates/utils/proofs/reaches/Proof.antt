@@ -1,3 +1,4 @@
+-- `utils::reaches` says, as `holds` does, whether so many bytes stand at a place; no sum is taken that could wrap. Assumes nothing.
 use Rattle.utils.proofs.Places.{holds-not, holds-rest}
 use borrow.Author.Needs.{needs}
 use Rattle.utils.proofs.reaches.Statement.{statement}

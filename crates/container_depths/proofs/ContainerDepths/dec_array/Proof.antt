@@ -1,3 +1,4 @@
+-- `ContainerDepths::dec_array` closes an array. Assumes nothing.
 use borrow.Author.Needs.{needs}
 use Rattle.container_depths.proofs.ContainerDepths.dec_array.Statement.{statement}
 use Rattle.container_depths.proofs.ContainerDepths.dec_array.Tie as tie

@@ -1,3 +1,4 @@
+-- `ContainerDepths::dec_maybe` closes a maybe. Assumes nothing.
 use borrow.Author.Needs.{needs}
 use Rattle.container_depths.proofs.ContainerDepths.dec_maybe.Statement.{statement}
 use Rattle.container_depths.proofs.ContainerDepths.dec_maybe.Tie as tie

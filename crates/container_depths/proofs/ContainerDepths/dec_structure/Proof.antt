@@ -1,3 +1,4 @@
+-- `ContainerDepths::dec_structure` closes a structure. Assumes nothing.
 use borrow.Author.Needs.{needs}
 use Rattle.container_depths.proofs.ContainerDepths.dec_structure.Statement.{
   statement,

@@ -1,3 +1,4 @@
+-- `ContainerDepths::inc_array` opens an array, or refuses and keeps the record. Assumes nothing.
 use native.Mathlib.Nat.{add-zero}
 use borrow.Author.Needs.{needs}
 use Rattle.container_depths.proofs.ContainerDepths.inc_array.Statement.{statement}

@@ -1,3 +1,4 @@
+-- `ContainerDepths::raised` raises the counts where no limit is in the way, as `Raises` says; their sums do not wrap. Assumes nothing.
 use Rattle.container_depths.proofs.Raising.{raise-failed, raise-passed}
 use Rattle.meaning.proofs.DepthLaws.{limits}
 use native.Mathlib.Omega.{arith}

@@ -1,5 +1,6 @@
 /*
- * bogtassel.h: reads GVariant frames. Link with libbogtassel.a, which `rt staticlib bogtassel` writes to target/staticlib.
+ * bogtassel.h: reads and writes GVariant frames, and tells which frames are as writing makes them. Link with libbogtassel.a,
+ * which `rt staticlib bogtassel` writes to target/staticlib.
  *
  * The archive is for x86-64 Linux. It allocates nothing and keeps nothing between calls, so calls may run in several threads
  * at once, each with memory of its own.
@@ -8,23 +9,27 @@
  *          m and a type; ( with one or more types and ); or a{ with a basic key, a value type and }. No nul ends the text:
  *          its length is passed.
  * LIMITS   A frame has at most 65,536 bytes. `position` is where its first byte stands, 0 to 65,536, and alignment counts
- *          from there: pass 0 if in doubt. At most 32 structures, 32 arrays or dictionaries, and 64 containers in all
- *          (variants and present maybes too) may be open at once.
+ *          from there: pass 0 if in doubt. A written frame stands at 0. At most 32 structures, 32 arrays or dictionaries, and
+ *          64 containers in all (variants and present maybes too) may be open at once.
  * ORDER    `big_endian` is the byte order of the frame's numbers. Offsets are little-endian always.
+ * EVENTS   A value is a row of events, three 64-bit numbers each: kind, place, payload. Reading gives them and writing takes
+ *          them. See enum bogtassel_kind.
  *
  * PROMISES, proved for all arguments:
  *   - Every call returns, with BOGTASSEL_DONE or with the number of a refusal: any bytes, any type text, any length and any
  *     position have an answer.
- *   - A refusal leaves `out` as it was and sets *used and *event_count to 0.
+ *   - A refusal leaves `out` as it was and sets *used and *event_count, or *length, to 0.
  *   - What is given depends on the arguments alone.
  *
  * WHAT THE CALLER OWES:
- *   - Each pointer is valid for its length: `type` and `frame` for so many readable bytes, `out` for so many writable 64-bit
- *     numbers, `used` and `event_count` for one size_t each. Numbers stand at addresses that are multiples of 8, as C's own do.
+ *   - Each pointer is valid for its length: `type`, `frame` and `texts` for so many readable bytes, `events` for so many
+ *     readable 64-bit numbers, `out` for so many writable 64-bit numbers where it takes events and writable bytes where it
+ *     takes a frame, `used`, `event_count` and `length` for one size_t each. Numbers stand at addresses that are multiples of
+ *     8, as C's own do.
  *   - No pointer is NULL. For an empty slice (length 0) pass any pointer that is not NULL; nothing is read or written
  *     through it.
- *   - `out`, *used and *event_count overlap neither one another nor the type and the frame. The type and the frame are only
- *     read, and may overlap. Nothing else writes to any of them during the call.
+ *   - `out`, *used, *event_count and *length overlap neither one another nor the type, the frame, the events and the texts.
+ *     These four are only read, and may overlap one another. Nothing else writes to any of them during the call.
  *   - There is room on the stack: see docs/STACK.md for the most that a call uses.
  */
 #ifndef BOGTASSEL_H
@@ -48,20 +53,25 @@ extern "C" {
 /* The most characters that a type may have. */
 #define BOGTASSEL_TYPE_LIMIT 255
 
-/* The 64-bit numbers of one event in `out`: kind, place, payload. */
+/* The 64-bit numbers of one event: kind, place, payload. */
 #define BOGTASSEL_EVENT_NUMBERS 3
 
 /*
- * What a call returns. The order in which refusals are judged is: BOGTASSEL_TYPE, BOGTASSEL_LIMITS, then whatever reading
- * meets first, then BOGTASSEL_ROOM. bogtassel_size never gives BOGTASSEL_ROOM. Neither call gives 14 to 18.
+ * What a call returns, and in which order it judges:
+ *   bogtassel_size         TYPE, LIMITS, then whatever of 3 to 12 reading meets first
+ *   bogtassel_read         the same, then ROOM
+ *   bogtassel_write        TYPE, then the first fault in the order of the events (VALUE, NUL, UTF8, VARIANT_TYPE, a depth), then
+ *                          LIMITS, then ROOM
+ *   bogtassel_is_written   TYPE, LIMITS, then whatever of 3 to 12 reading meets first, then NOT_WRITTEN
+ * No call gives a number that is not named for it here; 14, 16 and 18 are given by none of them.
  */
 enum bogtassel_refusal {
-    BOGTASSEL_DONE = 0,             /* no refusal: the frame was read */
+    BOGTASSEL_DONE = 0,             /* no refusal: the frame was read, or written, or is a written form */
     BOGTASSEL_TYPE = 1,             /* the type text is no single complete type, or is over 255 characters */
-    BOGTASSEL_LIMITS = 2,           /* the frame has more than 65,536 bytes, or the position is past 65,536 */
+    BOGTASSEL_LIMITS = 2,           /* the frame, read or written, has more than 65,536 bytes, or the position is past 65,536 */
     BOGTASSEL_BOUNDS = 3,           /* a value, an offset or padding runs past the bytes that it has */
     BOGTASSEL_PADDING = 4,          /* a padding byte is not 0 */
-    BOGTASSEL_NUL = 5,              /* a nul inside a text */
+    BOGTASSEL_NUL = 5,              /* a nul inside a text; in a text that is to be written, also at its end */
     BOGTASSEL_UTF8 = 6,             /* a text is not UTF-8 */
     BOGTASSEL_MAYBE = 7,            /* the byte after a present maybe is not 0 */
     BOGTASSEL_SEPARATOR = 8,        /* a variant has no nul between its value and its type */
@@ -69,11 +79,11 @@ enum bogtassel_refusal {
     BOGTASSEL_STRUCTURE_DEPTH = 10, /* more than 32 structures in one another */
     BOGTASSEL_ARRAY_DEPTH = 11,     /* more than 32 arrays or dictionaries in one another */
     BOGTASSEL_DEPTH = 12,           /* more than 64 containers in one another */
-    BOGTASSEL_ROOM = 13,            /* `out` is too short for all events: 3 times their number is over its length */
+    BOGTASSEL_ROOM = 13,            /* `out` is too short: for all events, 3 numbers each, or for the frame */
     BOGTASSEL_OFFSET = 14,          /* a table of offsets has no further offset */
-    BOGTASSEL_NOT_WRITTEN = 15,     /* editing: the frame reads, but is not in the form that a writer gives it */
+    BOGTASSEL_NOT_WRITTEN = 15,     /* the frame reads, but is not the form that writing gives its value */
     BOGTASSEL_NO_READING = 16,      /* editing: there is no such reading */
-    BOGTASSEL_VALUE = 17,           /* writing and editing: number or events are no value of the type */
+    BOGTASSEL_VALUE = 17,           /* the events spell no value of the type */
     BOGTASSEL_HEXADECIMAL = 18      /* the frame lister: a line is not pairs of hexadecimal digits */
 };
 
@@ -86,6 +96,9 @@ enum bogtassel_refusal {
  *   A number's payload is its bits in its own width, the bits above them 0: read an `n` of -1 as 65,535 and convert by
  *   (int16_t)payload; a `d` is the 64 bits of the double.
  *   A text's payload is its length: the text is the `payload` bytes from frame + place, and no nul ends it.
+ *
+ * Writing takes the same events. Of a text, place and payload are where it begins in `texts`, and its length; every other
+ * place is passed over. So the events of a reading can be written as they are, with the frame that they came from as `texts`.
  */
 enum bogtassel_kind {
     BOGTASSEL_BOOL = 98,        /* b: payload 0 or 1 */
@@ -130,6 +143,36 @@ uint8_t bogtassel_size(const uint8_t *type, size_t type_length, bool big_endian,
  */
 uint8_t bogtassel_read(const uint8_t *type, size_t type_length, bool big_endian, size_t position, const uint8_t *frame,
                        size_t frame_length, uint64_t *out, size_t out_length, size_t *used, size_t *event_count);
+
+/*
+ * Writes the frame of the value that `events` spell, which has `number_count` 64-bit numbers, three an event, into `out`, which
+ * has room for `out_length` bytes.
+ *
+ * Returns BOGTASSEL_DONE, and sets *length to the frame's length. The frame stands at the front of `out`; the bytes behind it
+ * are as they were. It is the form that the GVariant Specification gives the value: padding is 0, offsets have the smallest
+ * width that the container's length allows, a bool is 0 or 1, and a text ends in one nul. Dictionaries keep their order and
+ * their doubles. bogtassel_read reads the whole of it, and gives back these events but for their places.
+ *
+ * Returns BOGTASSEL_VALUE where the events are not those of one value of the type: another kind than the type has there, an
+ * event too few or too many, numbers left over that make no event, a number that is wider than its type, a bool above 1, a
+ * payload where 0 belongs, a text whose place and length leave `texts`. A text with a nul is BOGTASSEL_NUL, one that is not
+ * UTF-8 BOGTASSEL_UTF8; the type of a variant, which follows its event as the text of a `g`, is judged as a text and then by
+ * BOGTASSEL_VARIANT_TYPE. A container's depth is judged at the event that opens it, a variant's after its type.
+ *
+ * Returns BOGTASSEL_LIMITS where the frame would have more than 65,536 bytes, whatever room there is, and else BOGTASSEL_ROOM
+ * exactly where its length is over `out_length`.
+ */
+uint8_t bogtassel_write(const uint8_t *type, size_t type_length, bool big_endian, const uint64_t *events, size_t number_count,
+                        const uint8_t *texts, size_t texts_length, uint8_t *out, size_t out_length, size_t *length);
+
+/*
+ * Tells whether a frame, at position 0, is a written form: the bytes that bogtassel_write makes of some value.
+ *
+ * Returns BOGTASSEL_DONE exactly where it is. Else returns what bogtassel_size refuses the frame with, or, where it reads,
+ * BOGTASSEL_NOT_WRITTEN: bytes that are not used, a bool above 1, a text without its nul, offsets wider than needed, and
+ * whatever else reading takes and writing does not make.
+ */
+uint8_t bogtassel_is_written(const uint8_t *type, size_t type_length, bool big_endian, const uint8_t *frame, size_t frame_length);
 
 #ifdef __cplusplus
 }

@@ -5,6 +5,10 @@ use Rattle.bogtassel.proofs.bogtassel_size.Kinds as size-kinds
 use Rattle.bogtassel.proofs.bogtassel_size.Reads as size
 use Rattle.bogtassel.proofs.bogtassel_read.Kinds as read-kinds
 use Rattle.bogtassel.proofs.bogtassel_read.Reads as read
+use Rattle.bogtassel.proofs.bogtassel_write.Kinds as write-kinds
+use Rattle.bogtassel.proofs.bogtassel_write.Reads as write
+use Rattle.bogtassel.proofs.bogtassel_is_written.Kinds as strict-kinds
+use Rattle.bogtassel.proofs.bogtassel_is_written.Reads as strict
 
 -- signature, big, position, frame, used, count
 pub size-unique : OneAnswer size-kinds.ps size-kinds.r size.Learnt
@@ -18,3 +22,14 @@ read-unique κs a z z′ w w′ p q =
     let e = p .0 ∙ sym (q .0) in
     let slice = p .1 ∙ sym (q .1) in
     (λ i. e i .refusal, λ i. (tt, (tt, (tt, (tt, (slice i, (e i .used, (e i .count, tt))))))))
+
+-- signature, big, events, texts, out, length
+pub write-unique : OneAnswer write-kinds.ps write-kinds.r write.Learnt
+write-unique κs a z z′ w w′ p q =
+    let e = p .0 ∙ sym (q .0) in
+    let slice = p .1 ∙ sym (q .1) in
+    (λ i. e i .refusal, λ i. (tt, (tt, (tt, (tt, (slice i, (e i .used, tt)))))))
+
+-- signature, big, frame
+pub strict-unique : OneAnswer strict-kinds.ps strict-kinds.r strict.Learnt
+strict-unique κs a z z′ w w′ p q = (p ∙ sym q, λ i. (tt, (tt, (tt, tt))))

@@ -1,6 +1,8 @@
 // The calls as C sees them; include/bogtassel.h declares them.
 ghost use mathlib.Core.Path.{_≡_};
 ghost use Rattle.meaning.specs.Calls.{counts, size as sizeOf, read as readOf, readSlice};
+ghost use Rattle.meaning_writing.specs.Writing.{writeAnswer, write as writeOf, writeSlice};
+ghost use Rattle.strict.specs.Answers.{writtenRefusal};
 
 // Sizes a reading: the refusal, and through the lent numbers the bytes used and the number of events.
 #[no_mangle]
@@ -38,4 +40,30 @@ pub extern "C" fn bogtassel_read(
     *used = answer.used;
     *count = answer.count;
     answer.refusal
+}
+
+// Writes the value that events spell into a lent slice: the refusal, and through the lent number the frame's length.
+#[no_mangle]
+pub extern "C" fn bogtassel_write(
+    signature: &[u8],
+    big: bool,
+    events: &[u64],
+    texts: &[u8],
+    out: &mut [u8],
+    length: &mut usize,
+) -> u8
+    ensures answer { λ r. ⌜ writeAnswer r (now (length .exit)) ≡ writeOf (now (signature .entry)) big (now (events .entry)) (now (texts .entry)) (now (out .entry)) ⌝ }
+    ensures slice { λ r. ⌜ now (out .exit) ≡ writeSlice (now (signature .entry)) big (now (events .entry)) (now (texts .entry)) (now (out .entry)) ⌝ }
+{
+    let answer = writer::write(signature, big, events, texts, out);
+    *length = answer.length;
+    answer.refusal
+}
+
+// Whether a frame is a written form: 0 if it is.
+#[no_mangle]
+pub extern "C" fn bogtassel_is_written(signature: &[u8], big: bool, frame: &[u8]) -> u8
+    ensures { λ r. ⌜ r ≡ writtenRefusal (now (signature .entry)) big (now (frame .entry)) ⌝ }
+{
+    strict::is_written(signature, big, frame)
 }

@@ -25,7 +25,7 @@ SPARE = b"\xa5"
 RULES = {
     "empty structures": "a structure, or an entry, of no bytes, whose fields all have none",
     "types": "`()`, `h` and bare entries in the type of a variant, which may have more than 255 characters",
-    "depth": "128 containers in one another, whatever they are",
+    "depth": "fewer than 128 containers round every value, whatever they are; see `too_deep`",
     "paths": "the text of an `o` is an object path, that of a `g` a signature",
     "length": "frames of more than 65,536 bytes",
 }
@@ -119,7 +119,14 @@ def type_of(text, more=False):
 
 
 def type_depth(kind):
-    return 1 + max((type_depth(part) for part in kind.parts), default=-1)
+    return 1 + max((type_depth(part) for part in kind.parts), default=0)
+
+
+def too_deep(open_now, held):
+    """GLib's rule for the type of a variant: 128 less its depth, a basic type's being 1, is above what is open. It takes the difference
+    of two numbers without sign, so that a type of depth 129, the most that it knows, passes anywhere."""
+    depth = type_depth(held)
+    return depth > 129 or open_now >= (128 - depth) % 2**32
 
 
 # Depth: open structures, arrays, and variants and maybes.
@@ -298,19 +305,17 @@ class Bytes:
         self.order, self.rules = order, rules
 
     def inside(self, open_now, which):
-        """What is open then, of GLib's rule just how much."""
+        """What is open then, by GLib's rule just how much."""
         if "depth" in self.rules:
-            then = open_now + 1
-            refusal = then > 128
-        else:
-            refusal, then = deeper(open_now, which)
+            return open_now + 1
+        refusal, then = deeper(open_now, which)
         if refusal:
             raise NotWritten
         return then
 
     def value(self, kind, data, open_now):
         letter = kind.kind
-        if kind.size is not None and len(data) != kind.size:
+        if kind.size is not None and len(data) != kind.size or "depth" in self.rules and open_now >= 128:
             raise NotWritten
         if letter in WIDTHS:
             value = int.from_bytes(data, self.order)
@@ -343,10 +348,9 @@ class Bytes:
         held = type_of(text, "types" in self.rules)
         if not nul or held is None:
             raise NotWritten
-        inside = self.inside(open_now, "v")
-        if "depth" in self.rules and inside + type_depth(held) > 128:
+        if "depth" in self.rules and too_deep(open_now, held):
             raise NotWritten
-        return text, held, self.value(held, before, inside)
+        return text, held, self.value(held, before, self.inside(open_now, "v"))
 
     def elements(self, element, data, open_now):
         value, place = [], 0

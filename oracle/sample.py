@@ -1,12 +1,13 @@
 #!/usr/bin/env python3
-"""Picks the questions and the oracle's answers that the program `replay` is checked on.
+"""Picks the questions that the program `replay` is checked on, and their answers: the oracle's to frames, the model's to questions of writing.
 
 Usage: oracle/sample.py [QUESTIONS ANSWERS]     crates/replay/stdin and crates/replay/stdout of the project, if none are named
 
 Of each mode of gen.py, frames of one seed are generated and answered by target/oracle/oracle. A mode's lines are classed by refusal, and
 the classes take turns: each gives its first line that is short enough and whose type and byte order it has not given yet, until the mode's
 share of bytes is used up. A class whose lines are all too long gives its shortest. Of the mode `wide`, whose lines have 131,000 characters,
-one is taken: a frame of 65,536 bytes that is read. A frame where the oracle says PANIC is left out. No answer is our own.
+one is taken: a frame of 65,536 bytes that is read. A frame where the oracle says PANIC is left out.
+Questions of writing are picked in the same way from the modes of values.py, and answered by model.py. No answer is our own.
 
 A table of the lines taken, by mode and refusal, is printed. The same oracle gives the same sample.
 """
@@ -14,6 +15,10 @@ import collections
 import pathlib
 import subprocess
 import sys
+
+sys.dont_write_bytecode = True
+import model  # noqa: E402
+import values  # noqa: E402
 
 HERE = pathlib.Path(__file__).resolve().parent
 TOP = HERE.parent
@@ -24,6 +29,14 @@ MODES = {"valid": (20_000, 160, 12_000), "fixed": (40_000, 120, 16_000), "bounda
          "tiny": (40_000, 100, 14_000), "positions": (40_000, 120, 10_000)}
 WIDE = 60
 WIDE_BYTES = 65_536
+# The same for the modes of values.py.
+WRITING = {"valid": (4_000, 400, 24_000), "boundary": (2_000, 2_500, 40_000), "depth": (4_000, 2_500, 40_000), "long": (150, 25_000, 200_000),
+           "many": (150, 8_000, 16_000), "sig": (4_000, 1_200, 30_000), "wrong": (8_000, 400, 40_000), "noise": (4_000, 200, 16_000)}
+
+
+def answered_writing(mode, count):
+    """Pairs of a question of writing and the model's answer."""
+    return [(question, model.answer(question)) for question in values.lines(SEED, count, mode)]
 
 
 def answered(mode, count):
@@ -42,15 +55,15 @@ def turns(lines, longest):
     """The lines of one class in the order in which it gives them."""
     given = set()
     for question, answer in [line for line in lines if size(line) <= longest] or [min(lines, key=size)]:
-        shape = tuple(question.split(b" ")[:2])
+        shape = tuple(question.split(b" ")[:3 if question.startswith(b"write: ") else 2])
         if shape not in given:
             given.add(shape)
             yield question, answer
 
 
-def picked(mode, count, longest, share):
+def picked(pairs, longest, share):
     classes = collections.defaultdict(list)
-    for question, answer in answered(mode, count):
+    for question, answer in pairs:
         classes[int(answer.split(b" ")[0])].append((question, answer))
     waiting = {refusal: turns(classes[refusal], longest) for refusal in sorted(classes)}
     while waiting:
@@ -73,11 +86,11 @@ def picked_wide():
 
 def print_table(sample):
     refusals = sorted({refusal for counts in sample.values() for refusal in counts})
-    print(f"{'mode':10}" + "".join(f"{refusal:6}" for refusal in refusals) + "   all")
+    print(f"{'mode':15}" + "".join(f"{refusal:6}" for refusal in refusals) + "   all")
     for mode, counts in sample.items():
-        print(f"{mode:10}" + "".join(f"{counts[refusal]:6}" for refusal in refusals) + f"{sum(counts.values()):6}")
+        print(f"{mode:15}" + "".join(f"{counts[refusal]:6}" for refusal in refusals) + f"{sum(counts.values()):6}")
     whole = sum(sample.values(), collections.Counter())
-    print(f"{'all':10}" + "".join(f"{whole[refusal]:6}" for refusal in refusals) + f"{sum(whole.values()):6}")
+    print(f"{'all':15}" + "".join(f"{whole[refusal]:6}" for refusal in refusals) + f"{sum(whole.values()):6}")
 
 
 def main(words):
@@ -85,14 +98,16 @@ def main(words):
         sys.exit(__doc__)
     folder = TOP / "crates" / "replay"
     questions, answers = map(pathlib.Path, words) if words else (folder / "stdin", folder / "stdout")
-    lines, sample = [], {}
-    for mode in [*MODES, "wide"]:
-        chosen = list(picked(mode, *MODES[mode])) if mode in MODES else picked_wide()
-        sample[mode] = collections.Counter(int(answer.split(b" ")[0]) for _, answer in chosen)
-        lines += chosen
+    sample = {}
+    for mode, (count, longest, share) in MODES.items():
+        sample[mode] = list(picked(answered(mode, count), longest, share))
+    sample["wide"] = picked_wide()
+    for mode, (count, longest, share) in WRITING.items():
+        sample["write " + mode] = list(picked(answered_writing(mode, count), longest, share))
+    lines = [line for chosen in sample.values() for line in chosen]
     questions.write_bytes(b"".join(question + b"\n" for question, _ in lines))
     answers.write_bytes(b"".join(answer + b"\n" for _, answer in lines))
-    print_table(sample)
+    print_table({mode: collections.Counter(int(answer.split(b" ")[0]) for _, answer in chosen) for mode, chosen in sample.items()})
 
 
 if __name__ == "__main__":

@@ -178,7 +178,7 @@ def mode_many(rng):
 
 
 def mode_sig(rng):
-    """Variants whose type is an odd text; refused types at the top."""
+    """Variants whose type is an odd text, at the limit of depth too; refused types at the top."""
     order = random_order(rng)
     tree = gen.random_type(rng, 2)
     numbers, texts = spelt(rng, "v", (tree, gen.random_value(rng, tree)))
@@ -186,7 +186,8 @@ def mode_sig(rng):
     if rng.random() < 0.15:
         yield text if not set(text) & set(b" \n") else b"", order, bytes(texts), 300, numbers
         return
-    outer, around = rng.choice([(b"v", []), (b"v", []), (b"mv", [109, 0, 0]), (b"(v)", [40, 0, 0]), (b"av", [97, 0, 0])])
+    maybes = rng.choice([1, 62, 63, 64, 65])
+    outer, around = rng.choice([(b"v", []), (b"v", []), (b"m" * maybes + b"v", [109, 0, 0] * maybes), (b"(v)", [40, 0, 0]), (b"av", [97, 0, 0])])
     numbers[4:6] = [len(texts), len(text)]
     closed = [41, 0, 0] if outer in (b"(v)", b"av") else []
     yield outer, order, bytes(texts) + text, 300, around + numbers + closed

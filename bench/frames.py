@@ -116,19 +116,38 @@ def station():
             (b"raw", variant("ay", list(range(32))))]
 
 
-# What is measured at three lengths: of each type the name of what it holds many of, how many, and the value with so many.
+def inside(kinds, text, value):
+    """Type text and value of containers of one element each around a value, from the outside in."""
+    for kind in reversed(kinds):
+        if kind == "v":
+            text, value = "v", variant(text, value)
+        elif kind == "(":
+            text, value = "(s" + text + ")", (b"k", value)
+        else:
+            text, value = "a" + text, [value]
+    return text, value
+
+
+# What is measured at three lengths: the name of a kind of frame, its type if there is no blank in it; the name of what it holds many of;
+# how many; and type and value with so many.
 GROWTH = {
-    "amn": ("readings", (40, 400, 4000), readings),
-    "as": ("texts", (41, 410, 4095), texts),
-    "a{sv}": ("settings", (10, 100, 1000), lambda count: [(b"setting %04d" % i, variant("n", i)) for i in range(count)]),
-    "a(tamn)": ("frames of 40 readings", (3, 30, 300), lambda count: [(1783771200 + 2 * i, readings(40)) for i in range(count)]),
-    "av": ("numbers", (10, 100, 1000), lambda count: [variant("n", i) for i in range(count)]),
+    "amn": ("readings", (40, 400, 4000), lambda count: ("amn", readings(count))),
+    "as": ("texts", (41, 410, 4095), lambda count: ("as", texts(count))),
+    "a{sv}": ("settings", (10, 100, 1000), lambda count: ("a{sv}", [(b"setting %04d" % i, variant("n", i)) for i in range(count)])),
+    "a(tamn)": ("frames of 40 readings", (3, 30, 300),
+                lambda count: ("a(tamn)", [(1783771200 + 2 * i, readings(40)) for i in range(count)])),
+    "av": ("numbers", (10, 100, 1000), lambda count: ("av", [variant("n", i) for i in range(count)])),
+    "31 arrays around as": ("texts", (41, 410, 4000), lambda count: inside("a" * 31, "as", texts(count))),
+    "32 structures around amn": ("readings", (40, 400, 4000), lambda count: inside("(" * 32, "amn", readings(count))),
+    "arrays around s": ("in one another", (8, 16, 32), lambda count: inside("a" * count, "s", b"text")),
+    "structures with a text": ("in one another", (8, 16, 32), lambda count: inside("(" * count, "s", b"text")),
+    "variants around s": ("in one another", (8, 16, 32), lambda count: inside("v" * count, "s", b"text")),
 }
 
 
-def grown(text, count):
-    """The name of a frame of GROWTH; the benchmark's names begin with the type."""
-    return "%s, %s %s" % (text, format(count, ","), GROWTH[text][0])
+def grown(kind, count):
+    """The name of a frame of GROWTH."""
+    return "%s, %s %s" % (kind, format(count, ","), GROWTH[kind][0])
 
 
 def masts():
@@ -173,8 +192,8 @@ def speed():
         refused_last(),
         slowest(),
         deepest(),
-    ] + [good(grown(text, count), text, value(count)) for text, (_, counts, value) in GROWTH.items()
-         for count in counts if (text, count) != ("amn", 40)]
+    ] + [good(grown(kind, count), *held(count)) for kind, (_, counts, held) in GROWTH.items()
+         for count in counts if (kind, count) != ("amn", 40)]
 
 
 def main():

@@ -1,15 +1,17 @@
 #!/usr/bin/env python3
 """Measures the programs of the benchmark on its frames and prints the tables. Called by bench/run, which builds them.
 
-Usage: bench/measure.py --frames FOLDER --ours PROGRAM --rust PROGRAM --glib PROGRAM --costs FILE [--before FILE]
-                        [--emulator PROGRAM --plugin FILE]
+Usage: bench/measure.py --frames FOLDER --ours PROGRAM --glib PROGRAM --build PROGRAM --costs FILE [--rust PROGRAM]
+                        [--before FILE] [--emulator PROGRAM --plugin FILE]
 
 First every program must answer every frame alike: the refusal, the bytes used, and events, leaves and sum as bench/frames.py has
 computed them from the value, as far as the program can know them. Otherwise nothing is measured.
 
 Instructions are those of one call: a run of 2n calls less a run of n calls, by n, so that start and end of the program cancel.
-They are counted by valgrind's callgrind; or, with --emulator, of all three programs, by a plugin of the emulator.
+They are counted by valgrind's callgrind; or, with --emulator, of all programs, by a plugin of the emulator.
 Time is the best of seven runs, without valgrind; there is none on an emulator.
+
+Without --rust only writing and the strict test are measured.
 
 The instructions go to the file --costs. A file of an earlier run, --before, is set beside them.
 """
@@ -32,8 +34,10 @@ LARGE = 8000            # from so many bytes on, fewer calls are counted
 HUGE = 500000           # from so many events on, one
 RUN_NANOSECONDS = 4e7   # how long a timed run takes, about
 ROUNDS = 7              # timed runs of each program on each frame
-TITLES = ["size", "Rust ignoring", "GLib normal form", "read", "Rust recording", "GLib walk"]
-SIZE, IGNORING, NORMAL, READ, RECORDING, WALK = range(6)
+TITLES = ["size", "Rust ignoring", "GLib normal form", "read", "Rust recording", "GLib walk", "is_written", "write", "GLib building"]
+SIZE, IGNORING, NORMAL, READ, RECORDING, WALK, STRICT, WRITE, BUILD = range(9)
+READING, WRITING = (SIZE, IGNORING, NORMAL, READ, RECORDING, WALK), (NORMAL, STRICT, WRITE, BUILD)
+BY_GLIB = (NORMAL, WALK, BUILD)
 
 # What GLib does not read: a type with more than 128 containers in one another, and what is not in normal form.
 UNREAD_BY_GLIB = ("v, 31 structures around 190 maybes, 32,640 times", "a(ny), 16,384 structures, refused at the last byte")
@@ -43,6 +47,11 @@ BARS = {"amn, 40 readings": (0.22, 0.28), "(tamn), 40 readings": (0.25, 0.30), "
         "as, 4,095 texts": (0.60, 0.70), "ay, 65,536 bytes": (0.01, 0.03)}
 READ_BAR = 1.00         # of all other frames
 EACH_BAR = 200          # instructions of size or read for each byte and event together
+
+# What the strict test may cost beside GLib's normal form, and write beside GLib building, of the frames that have a bar.
+STRICT_BAR = 0.5
+WRITE_BAR = 0.1
+WRITE_BARRED = ("amn, 40 readings", "(tamn), 40 readings", "a{sv}, nested", "as, 4,095 texts", "ay, 65,536 bytes")
 
 
 def fail(message):
@@ -61,14 +70,19 @@ def frames_of(folder):
 
 
 def sides_of(arguments):
-    """In the order of TITLES: what judges only, then what hands the values over."""
+    """By their places among TITLES: what judges only, what hands the values over, what writes."""
     programs = [[arguments.ours, "size"], [arguments.rust, "--bench", "ignore"], [arguments.glib, "normal"],
-                [arguments.ours, "read"], [arguments.rust, "--bench", "record"], [arguments.glib, "walk"]]
-    return [Side(title, words) for title, words in zip(TITLES, programs, strict=True)]
+                [arguments.ours, "read"], [arguments.rust, "--bench", "record"], [arguments.glib, "walk"],
+                [arguments.ours, "strict"], [arguments.ours, "write"], [arguments.build]]
+    wanted = range(len(TITLES)) if arguments.rust else WRITING
+    return {place: Side(TITLES[place], programs[place]) for place in wanted}
 
 
 def sees(place, frame):
-    return place not in (NORMAL, WALK) or frame.name not in UNREAD_BY_GLIB
+    """GLib does not read everything, and what is refused is not written."""
+    if place in BY_GLIB and frame.name in UNREAD_BY_GLIB:
+        return False
+    return place not in (WRITE, BUILD) or frame.refusal == 0
 
 
 def command(side, frame, calls):
@@ -105,9 +119,9 @@ def calls_to_time(side, frame):
 
 def nanoseconds(sides, frame):
     """The time of one call, for each side; the sides take turns, so that what else the machine does falls on all."""
-    timed = {place: calls_to_time(side, frame) for place, side in enumerate(sides) if sees(place, frame)}
+    timed = {place: calls_to_time(side, frame) for place, side in sides.items() if sees(place, frame)}
     rounds = [{place: int(answer(command(sides[place], frame, calls))[5]) / calls for place, calls in timed.items()} for _ in range(ROUNDS)]
-    return [min(times[place] for times in rounds) if place in timed else None for place in range(len(sides))]
+    return [min(times[place] for times in rounds) if place in timed else None for place in range(len(TITLES))]
 
 
 def counter_of(arguments):
@@ -144,7 +158,7 @@ def ratio(above, below):
 def title(name):
     """A frame's name, with its type as a type."""
     text, rest = name.split(", ", 1)
-    return "`%s`, %s" % (text, rest)
+    return name if " " in text else "`%s`, %s" % (text, rest)
 
 
 def print_table(name, heads, rows):
@@ -157,12 +171,12 @@ def print_table(name, heads, rows):
 
 
 def print_costs(name, frames, costs):
-    heads = ["Frame", "bytes", "events"] + TITLES[:3] + ["size / Rust", "size / GLib"] + TITLES[3:] + ["read / Rust", "read / GLib"]
+    heads = ["Frame", "bytes", "events"] + TITLES[:3] + ["size / Rust", "size / GLib"] + TITLES[3:6] + ["read / Rust", "read / GLib"]
     rows = []
     for frame in frames:
         found = costs[frame.name]
         ratios = [ratio(found[ours], found[theirs]) for ours, theirs in ((SIZE, IGNORING), (SIZE, NORMAL), (READ, RECORDING), (READ, WALK))]
-        numbers = [number(cost) for cost in found]
+        numbers = [number(found[place]) for place in READING]
         rows.append([title(frame.name), number(frame.length), number(frame.events)] + numbers[:3] + ratios[:2] + numbers[3:] + ratios[2:])
     print_table(name, heads, rows)
 
@@ -185,24 +199,50 @@ def print_bars(frames, costs):
                              "size, each byte and event", "read, each byte and event", "at most"], rows)
 
 
-def print_before(frames, costs, before):
+def print_writing(name, frames, costs, barred):
+    """The strict test and writing beside GLib. Where there are bars, a ratio above its own is bold."""
+    def beside(ours, theirs, bar):
+        if ours is None or theirs is None:
+            return ["-", "-"][:1 + barred]
+        shown = "%.3f" % (ours / theirs)
+        if not barred or bar is None:
+            return [shown, "-"][:1 + barred]
+        return [shown if float(shown) <= bar else "**%s**" % shown, "%.1f" % bar]
+
+    rows = []
+    for frame in frames:
+        found = costs[frame.name]
+        rows.append([title(frame.name), number(frame.length), number(frame.events), number(found[STRICT]), number(found[NORMAL])]
+                    + beside(found[STRICT], found[NORMAL], STRICT_BAR) + [number(found[WRITE]), number(found[BUILD])]
+                    + beside(found[WRITE], found[BUILD], WRITE_BAR if frame.name in WRITE_BARRED else None))
+    most = ["at most"] if barred else []
+    print_table(name, ["Frame", "bytes", "events", TITLES[STRICT], TITLES[NORMAL], "is_written / GLib"] + most
+                + [TITLES[WRITE], TITLES[BUILD], "write / GLib"] + most, rows)
+
+
+def print_before(frames, costs, before, places):
+    """Our calls beside those of an earlier run, as far as it had them."""
+    def cost(found, place):
+        return found[place] if place < len(found) else None
+
     rows = []
     for frame in frames:
         if frame.name in before:
             old, new = before[frame.name], costs[frame.name]
-            rows.append([title(frame.name)] + [word for place in (SIZE, READ)
-                                               for word in (number(old[place]), number(new[place]), ratio(new[place], old[place]))])
-    print_table("Before and after", ["Frame", "size before", "size", "after / before", "read before", "read", "after / before"], rows)
+            rows.append([title(frame.name)] + [word for place in places
+                                               for word in (number(cost(old, place)), number(new[place]), ratio(new[place], cost(old, place)))])
+    print_table("Before and after", ["Frame"] + [head for place in places
+                                                 for head in (TITLES[place] + " before", TITLES[place], "after / before")], rows)
 
 
-def print_growth(costs):
+def print_growth(costs, places):
     """The cost of one of the things that a frame holds, where there are more and more of them."""
     rows = []
-    for text, (_, counts, _) in made.GROWTH.items():
+    for kind, (_, counts, _) in made.GROWTH.items():
         for count in counts:
-            name = made.grown(text, count)
-            rows.append([title(name)] + ["-" if cost is None else "%.1f" % (cost / count) for cost in costs[name]])
-    print_table("Instructions for one more", ["Frame"] + TITLES, rows)
+            name = made.grown(kind, count)
+            rows.append([title(name)] + ["-" if costs[name][place] is None else "%.1f" % (costs[name][place] / count) for place in places])
+    print_table("Instructions for one more", ["Frame"] + [TITLES[place] for place in places], rows)
 
 
 def first_line(words):
@@ -222,7 +262,7 @@ def print_machine(arguments):
     print("%s, %s; GLib %s; %s; %s." % (platform.machine(), processor(), first_line(["pkg-config", "--modversion", "glib-2.0"]),
                                       first_line(["rustc", "--version"]), first_line(["cc", "--version"])))
     if arguments.emulator:
-        print("All three programs are x86-64's; their instructions were counted by the plugin of `bench/count.c` in %s.\n"
+        print("All programs are x86-64's; their instructions were counted by the plugin of `bench/count.c` in %s.\n"
               "There is no time: it would be the emulator's." % first_line([arguments.emulator, "--version"]))
     else:
         print("The instructions were counted by the callgrind of %s." % first_line(["valgrind", "--version"]))
@@ -231,11 +271,26 @@ def print_machine(arguments):
 
 def arguments_of():
     parser = argparse.ArgumentParser(usage=__doc__.split("\n\n")[1].replace("Usage: ", ""))
-    for option in ("--frames", "--ours", "--rust", "--glib", "--costs"):
+    for option in ("--frames", "--ours", "--glib", "--build", "--costs"):
         parser.add_argument(option, required=True)
-    for option in ("--before", "--emulator", "--plugin"):
+    for option in ("--rust", "--before", "--emulator", "--plugin"):
         parser.add_argument(option)
     return parser.parse_args()
+
+
+def print_tables(arguments, frames, costs, times):
+    if arguments.rust:
+        print_costs("Instructions for a frame", frames, costs)
+        print_bars(frames, costs)
+    print_writing("Instructions of the strict test and of writing", frames, costs, barred=True)
+    if arguments.before:
+        with open(arguments.before, encoding="utf-8") as file:
+            print_before(frames, costs, json.load(file), (SIZE, READ, STRICT, WRITE) if arguments.rust else (STRICT, WRITE))
+    print_growth(costs, range(len(TITLES)) if arguments.rust else WRITING)
+    if not arguments.emulator:
+        if arguments.rust:
+            print_costs("Nanoseconds for a frame", frames, times)
+        print_writing("Nanoseconds of the strict test and of writing", frames, times, barred=False)
 
 
 def main():
@@ -243,25 +298,19 @@ def main():
     frames, sides, counter = list(frames_of(arguments.frames)), sides_of(arguments), counter_of(arguments)
     emulator = [arguments.emulator] if arguments.emulator else []
     for frame in frames:
-        for place, side in enumerate(sides):
+        for place, side in sides.items():
             if sees(place, frame):
                 check(side, frame, emulator)
     costs, times = {}, {}
     for frame in frames:
         say("measuring " + frame.name)
-        costs[frame.name] = [instructions(counter, side, frame) if sees(place, frame) else None for place, side in enumerate(sides)]
+        costs[frame.name] = [instructions(counter, sides[place], frame) if place in sides and sees(place, frame) else None
+                             for place in range(len(TITLES))]
         times[frame.name] = None if emulator else nanoseconds(sides, frame)
     with open(arguments.costs, "w", encoding="utf-8") as file:
         json.dump(costs, file, indent=1)
     print_machine(arguments)
-    print_costs("Instructions for a frame", frames, costs)
-    print_bars(frames, costs)
-    if arguments.before:
-        with open(arguments.before, encoding="utf-8") as file:
-            print_before(frames, costs, json.load(file))
-    print_growth(costs)
-    if not emulator:
-        print_costs("Nanoseconds for a frame", frames, times)
+    print_tables(arguments, frames, costs, times)
     return 0
 
 

@@ -1,8 +1,9 @@
 /*
- * Sizes and reads many frames, with marks for the plugin of count.c. Called by bench/search.py.
+ * Sizes, reads, judges and writes many frames, with marks for the plugin of count.c. Called by bench/search.py.
  *
  * Usage: search < QUESTIONS      (frame.h says what a question is)
- * For each question it prints `REFUSAL EVENTS`, and makes four marks: before and after size, before and after read.
+ * For each question it prints `REFUSAL EVENTS`, and makes eight marks: before and after size, read, is_written, and write, which is handed
+ * the events that were read.
  */
 #define _GNU_SOURCE
 #include "bogtassel.h"
@@ -16,7 +17,8 @@ static void mark(void) {
 }
 
 static void answer(const struct question *q) {
-    size_t used = 0, count = 0, room;
+    static unsigned char out[BOGTASSEL_LIMIT];
+    size_t used = 0, count = 0, length = 0, room;
     uint64_t *events;
     uint8_t refusal;
 
@@ -30,6 +32,12 @@ static void answer(const struct question *q) {
     }
     mark();
     bogtassel_read(q->type, q->type_length, false, 0, q->frame, q->length, events, room, &used, &count);
+    mark();
+    mark();
+    bogtassel_is_written(q->type, q->type_length, false, q->frame, q->length);
+    mark();
+    mark();
+    bogtassel_write(q->type, q->type_length, false, events, room, q->frame, q->length, out, sizeof out, &length);
     mark();
     free(events);
     printf("%u %zu\n", refusal, count);

@@ -1,9 +1,10 @@
 #!/usr/bin/env python3
 """Hunts for the frames that cost the most instructions for each byte and event, and prints the worst. Called by bench/search.
 
-Usage: bench/search.py SEED ROUNDS BYTES WORD..
+Usage: bench/search.py reading|writing SEED ROUNDS BYTES WORD..
 
-The words run the program of bench/search.c and count it. All is random and follows from the seed. There are two hunts:
+The words run the program of bench/search.c and count it. Frames are sought for what size and read cost, or for what the strict test and
+writing do; of a refused frame there is nothing to write. All is random and follows from the seed. There are two hunts:
 
 - Frames of the oracle's generator, of all its modes. They are short, so their type's characters are added to bytes and events,
   since a call judges the type too; and those with fewer than LEAST of all three are left out, since a call as such costs something.
@@ -25,7 +26,8 @@ sys.path.insert(0, os.path.join(os.path.dirname(os.path.abspath(__file__)), ".."
 sys.dont_write_bytecode = True
 import gen  # noqa: E402
 
-Cost = namedtuple("Cost", "type frame refusal events size read")
+Cost = namedtuple("Cost", "type frame refusal events calls")
+CALLS = {"reading": ("size", "read"), "writing": ("is_written", "write")}
 Way = namedtuple("Way", "tree fill seed inside")    # how a frame of any length is made; inside nothing, a variant or many
 
 TRIED = 2048            # bytes of the frames that are bred
@@ -38,19 +40,21 @@ INSIDE = ("", "", "v", "av")
 
 
 def costs_of(words, questions):
-    """What size and read cost on each type and frame."""
+    """What the two calls cost on each type and frame."""
     asked = b"".join(struct.pack("<II", len(text), len(frame)) + text + frame for text, frame in questions)
-    done = subprocess.run(words, input=asked, capture_output=True, check=True)
+    sought, *program = words
+    first = 4 * list(CALLS).index(sought)
+    done = subprocess.run(program, input=asked, capture_output=True, check=True)
     answers = [line.split() for line in done.stdout.decode().splitlines()]
     marks = [int(line.split()[1]) for line in done.stderr.decode().splitlines() if line.startswith("mark ")]
-    assert len(answers) == len(questions) and len(marks) == 4 * len(questions)
-    return [Cost(text, frame, int(refusal), int(events), size, read)
-            for (text, frame), (refusal, events), size, read in zip(questions, answers, marks[1::4], marks[3::4], strict=True)]
+    assert len(answers) == len(questions) and len(marks) == 8 * len(questions)
+    return [Cost(text, frame, int(refusal), int(events), calls) for (text, frame), (refusal, events), calls
+            in zip(questions, answers, zip(marks[first + 1::8], marks[first + 3::8], strict=True), strict=True)]
 
 
 def each(cost, characters=True):
     """Instructions for each byte and event, and, where told, each character of the type."""
-    return max(cost.size, cost.read) / max(1, len(cost.frame) + cost.events + (len(cost.type) if characters else 0))
+    return max(cost.calls) / max(1, len(cost.frame) + cost.events + (len(cost.type) if characters else 0))
 
 
 def generated(rng):
@@ -196,14 +200,13 @@ def short(text):
     return " ".join(letter if count == 1 else "%d%s" % (count, letter) for letter, count in runs) or "-"
 
 
-def print_worst(title, rows, characters):
+def print_worst(sought, title, rows, characters):
     print("## %s\n" % title)
-    print("| Type | frame | bytes | events | refusal | size | read | each |")
+    print("| Type | frame | bytes | events | refusal | %s | %s | each |" % CALLS[sought])
     print("|---|---|---:|---:|---:|---:|---:|---:|")
     for cost, what in rows:
-        print("| `%s` | %s | %s | %s | %d | %s | %s | %.0f |" % (
-            short(cost.type)[:100], what, format(len(cost.frame), ","), format(cost.events, ","), cost.refusal,
-            format(cost.size, ","), format(cost.read, ","), each(cost, characters)))
+        numbers = " | ".join(format(number, ",") for number in (len(cost.frame), cost.events, cost.refusal, *cost.calls))
+        print("| `%s` | %s | %s | %.0f |" % (short(cost.type)[:100], what, numbers, each(cost, characters)))
     print()
 
 
@@ -215,7 +218,7 @@ def print_generated(words, rng):
     costs = [cost for cost in costs_of(words, generated(rng)) if len(cost.frame) + cost.events + len(cost.type) >= LEAST]
     for refused, kind in ((False, "read"), (True, "refused")):
         worst = sorted((cost for cost in costs if (cost.refusal != 0) == refused), key=each, reverse=True)[:SHOWN]
-        print_worst("The worst of %s generated frames that are %s, for each byte, event and character" % (format(GENERATED, ","), kind),
+        print_worst(words[0], "The worst of %s generated frames that are %s, for each byte, event and character" % (format(GENERATED, ","), kind),
                     [(cost, "`%s`" % (cost.frame[:16].hex(" ") or "-")) for cost in worst], True)
 
 
@@ -227,11 +230,11 @@ def lengthened(words, kept, length):
 
 
 def main():
-    seed, rounds, length = (int(word) for word in sys.argv[1:4])
-    words, rng = sys.argv[4:], random.Random(seed)
+    seed, rounds, length = (int(word) for word in sys.argv[2:5])
+    words, rng = [sys.argv[1]] + sys.argv[5:], random.Random(seed)
     print_generated(words, rng)
     for kept, kind in zip(breed(rng, words, rounds), ("read", "refused"), strict=True):
-        print_worst("The worst of %s bred frames that are %s, for each byte and event" % (format(rounds * BRED, ","), kind),
+        print_worst(words[0], "The worst of %s bred frames that are %s, for each byte and event" % (format(rounds * BRED, ","), kind),
                     lengthened(words, kept, length), False)
     return 0
 

@@ -1,16 +1,19 @@
 /*
- * The stack that the archive's calls use on frames. Called by bench/stack.py.
+ * The stack that the archive's calls use. Called by bench/stack.py.
  *
- * Usage: stack paint|thread < QUESTIONS      (frame.h says what a question is)
+ * Usage: stack paint|thread < QUESTIONS
  *
- * For each question paint prints `REFUSAL EVENTS SIZE READ`: what bogtassel_size returned, the number of events, and the bytes
- * of stack of bogtassel_size and of bogtassel_read. Each call runs on a stack of its own, of which every byte was painted. The
- * deepest byte that is no longer paint is as deep as the call wrote. This is done with two colours, since a call may write the
- * one that stands there. From it goes what a call of an empty function with the same parameters takes: so what the caller lays
- * down, the parameters and the return address, is not counted.
+ * A question is a type, a frame, and the events of a value with the slice of its texts. On standard input: the length of each, four bytes
+ * and little-endian, of the events the number of their 64-bit numbers; then each of them, in this order.
  *
- * thread runs both calls of each question in a thread whose stack has 128 KiB, and prints `REFUSAL EVENTS`. A stack that does
- * not do kills the program.
+ * For each question paint prints the number of events that reading finds, and then for bogtassel_size, bogtassel_read and
+ * bogtassel_is_written on the frame, and bogtassel_write on the events, `REFUSAL BYTES`: what it returned, and the bytes of stack. Each call
+ * runs on a stack of its own, of which every byte was painted. The deepest byte that is no longer paint is as deep as the call wrote. This is
+ * done with two colours, since a call may write the one that stands there. From it goes what a call of an empty function with the same
+ * parameters takes: so what the caller lays down, the parameters and the return address, is not counted.
+ *
+ * thread runs all calls of each question in a thread whose stack has 128 KiB, and prints the number of events. A stack that does not do
+ * kills the program.
  */
 #define _GNU_SOURCE
 #include "bogtassel.h"
@@ -22,18 +25,26 @@
 
 enum { STACK = 512 << 10, PAGE = 4096, THREAD_STACK = 128 << 10 };
 
-/* One call, and its answer. A call of `size` is handed the room too, so that all are called alike. */
-struct call {
-    uint8_t (*function)(const struct call *call, size_t *used, size_t *count);
-    struct question question;
-    uint64_t *out;
-    size_t room;
-    uint8_t refusal;
+struct asked {
+    unsigned char *type;
+    size_t type_length;
+    unsigned char *frame;
+    size_t length;
+    uint64_t *events;
+    size_t numbers;
+    unsigned char *texts;
+    size_t texts_length;
+    uint64_t *room; /* of the events that reading finds */
+    size_t room_length;
     size_t count;
 };
 
+static unsigned char written[BOGTASSEL_LIMIT];
+
 typedef uint8_t size_function(const uint8_t *, size_t, bool, size_t, const uint8_t *, size_t, size_t *, size_t *);
 typedef uint8_t read_function(const uint8_t *, size_t, bool, size_t, const uint8_t *, size_t, uint64_t *, size_t, size_t *, size_t *);
+typedef uint8_t strict_function(const uint8_t *, size_t, bool, const uint8_t *, size_t);
+typedef uint8_t write_function(const uint8_t *, size_t, bool, const uint64_t *, size_t, const uint8_t *, size_t, uint8_t *, size_t, size_t *);
 
 static uint8_t empty_size(const uint8_t *type, size_t type_length, bool big_endian, size_t position, const uint8_t *frame,
                           size_t length, size_t *used, size_t *count) {
@@ -48,28 +59,65 @@ static uint8_t empty_read(const uint8_t *type, size_t type_length, bool big_endi
     return 0;
 }
 
+static uint8_t empty_strict(const uint8_t *type, size_t type_length, bool big_endian, const uint8_t *frame, size_t length) {
+    (void)type, (void)type_length, (void)big_endian, (void)frame, (void)length;
+    return 0;
+}
+
+static uint8_t empty_write(const uint8_t *type, size_t type_length, bool big_endian, const uint64_t *events, size_t numbers,
+                           const uint8_t *texts, size_t texts_length, uint8_t *out, size_t room, size_t *length) {
+    (void)type, (void)type_length, (void)big_endian, (void)events, (void)numbers, (void)texts, (void)texts_length, (void)out;
+    (void)room, (void)length;
+    return 0;
+}
+
 /* What the calls below call; volatile, so that the compiler does not look into it. */
 static size_function *volatile size_target;
 static read_function *volatile read_target;
+static strict_function *volatile strict_target;
+static write_function *volatile write_target;
 
-static uint8_t call_size(const struct call *call, size_t *used, size_t *count) {
-    const struct question *const q = &call->question;
+static uint8_t call_size(struct asked *q) {
+    static size_t used;
 
-    return size_target(q->type, q->type_length, false, 0, q->frame, q->length, used, count);
+    return size_target(q->type, q->type_length, false, 0, q->frame, q->length, &used, &q->count);
 }
 
-static uint8_t call_read(const struct call *call, size_t *used, size_t *count) {
-    const struct question *const q = &call->question;
-
-    return read_target(q->type, q->type_length, false, 0, q->frame, q->length, call->out, call->room, used, count);
-}
-
-static void make(struct call *call) {
+static uint8_t call_read(struct asked *q) {
     static size_t used, count;
 
-    used = count = 0;
-    call->refusal = call->function(call, &used, &count);
-    call->count = count;
+    return read_target(q->type, q->type_length, false, 0, q->frame, q->length, q->room, q->room_length, &used, &count);
+}
+
+static uint8_t call_strict(struct asked *q) {
+    return strict_target(q->type, q->type_length, false, q->frame, q->length);
+}
+
+static uint8_t call_write(struct asked *q) {
+    static size_t length;
+
+    return write_target(q->type, q->type_length, false, q->events, q->numbers, q->texts, q->texts_length, written, sizeof written, &length);
+}
+
+static void aim(bool empty) {
+    size_target = empty ? empty_size : bogtassel_size;
+    read_target = empty ? empty_read : bogtassel_read;
+    strict_target = empty ? empty_strict : bogtassel_is_written;
+    write_target = empty ? empty_write : bogtassel_write;
+}
+
+/* One call, its answer, and what its empty function takes. */
+static struct call {
+    uint8_t (*function)(struct asked *q);
+    struct asked *asked;
+    uint8_t refusal;
+    size_t bare;
+} calls[] = {{call_size, NULL, 0, 0}, {call_read, NULL, 0, 0}, {call_strict, NULL, 0, 0}, {call_write, NULL, 0, 0}};
+
+enum { SIZE, READ, CALLS = sizeof calls / sizeof *calls };
+
+static void make(struct call *call) {
+    call->refusal = call->function(call->asked);
 }
 
 /* Where the painted stack's context finds its call. */
@@ -113,9 +161,18 @@ static size_t depth_in(struct call *call, unsigned char *stack, unsigned char co
     return STACK - clean_bytes(stack, colour);
 }
 
-static size_t depth(struct call *call, unsigned char *stack) {
-    const size_t first = depth_in(call, stack, 0xA5), second = depth_in(call, stack, 0x5A);
+static size_t depth(struct call *call) {
+    static unsigned char *stack;
+    size_t first, second;
 
+    if (stack == NULL) {
+        stack = mmap(NULL, STACK, PROT_READ | PROT_WRITE, MAP_PRIVATE | MAP_ANONYMOUS, -1, 0);
+    }
+    if (stack == MAP_FAILED) {
+        give_up("a stack");
+    }
+    first = depth_in(call, stack, 0xA5);
+    second = depth_in(call, stack, 0x5A);
     return first > second ? first : second;
 }
 
@@ -136,92 +193,100 @@ static void run_small(struct call *call) {
     pthread_attr_destroy(&attributes);
 }
 
-/* What bogtassel_size takes; sets the number of events. */
-static size_t painted_size(struct call *size, unsigned char *stack) {
-    static size_t bare;
+/* Room for the events that reading is to find. */
+static void make_room(struct asked *q) {
+    size_t used;
 
-    if (bare == 0) {
-        size_target = empty_size;
-        bare = depth(size, stack);
-    }
-    size_target = bogtassel_size;
-    return depth(size, stack) - bare;
-}
-
-static size_t painted_read(struct call *read, unsigned char *stack) {
-    static size_t bare;
-
-    if (bare == 0) {
-        read_target = empty_read;
-        bare = depth(read, stack);
-    }
-    read_target = bogtassel_read;
-    return depth(read, stack) - bare;
-}
-
-/* The call of `read` that a call of `size` has found the room for. */
-static struct call read_after(const struct call *size) {
-    struct call read = *size;
-
-    read.function = call_read;
-    read.room = BOGTASSEL_EVENT_NUMBERS * size->count;
-    read.out = calloc(read.room + 1, sizeof *read.out);
-    if (read.out == NULL) {
+    bogtassel_size(q->type, q->type_length, false, 0, q->frame, q->length, &used, &q->count);
+    q->room_length = BOGTASSEL_EVENT_NUMBERS * q->count;
+    q->room = calloc(q->room_length + 1, sizeof *q->room);
+    if (q->room == NULL) {
         give_up("no room for the events");
     }
-    return read;
 }
 
-static void must_agree(const struct call *size, const struct call *read) {
-    if (read->refusal != size->refusal || read->count != size->count) {
+static void must_agree(void) {
+    if (calls[READ].refusal != calls[SIZE].refusal) {
         fputs("stack: size and read differ\n", stderr);
         exit(1);
     }
 }
 
-static void paint(struct call *size) {
-    static unsigned char *stack;
-    struct call read;
-    size_t size_bytes, read_bytes;
+static void paint(const struct asked *q) {
+    size_t bytes[CALLS];
+    int i;
 
-    if (stack == NULL) {
-        stack = mmap(NULL, STACK, PROT_READ | PROT_WRITE, MAP_PRIVATE | MAP_ANONYMOUS, -1, 0);
+    aim(false);
+    for (i = 0; i < CALLS; i++) {
+        bytes[i] = depth(&calls[i]) - calls[i].bare;
     }
-    if (stack == MAP_FAILED) {
-        give_up("a stack");
+    must_agree();
+    printf("%zu", q->count);
+    for (i = 0; i < CALLS; i++) {
+        printf(" %u %zu", calls[i].refusal, bytes[i]);
     }
-    size_bytes = painted_size(size, stack);
-    read = read_after(size);
-    read_bytes = painted_read(&read, stack);
-    must_agree(size, &read);
-    printf("%u %zu %zu %zu\n", size->refusal, size->count, size_bytes, read_bytes);
-    free(read.out);
+    putchar('\n');
 }
 
-static void thread(struct call *size) {
-    struct call read;
+static void thread(const struct asked *q) {
+    int i;
 
-    size_target = bogtassel_size;
-    read_target = bogtassel_read;
-    run_small(size);
-    read = read_after(size);
-    run_small(&read);
-    must_agree(size, &read);
-    printf("%u %zu\n", size->refusal, size->count);
-    free(read.out);
+    aim(false);
+    for (i = 0; i < CALLS; i++) {
+        run_small(&calls[i]);
+    }
+    must_agree();
+    printf("%zu\n", q->count);
+}
+
+/* Whether there is one more question; its memory is the caller's to drop. */
+static bool next_asked(struct asked *q) {
+    if (!number_from_input(&q->type_length) || !number_from_input(&q->length) || !number_from_input(&q->numbers) ||
+        !number_from_input(&q->texts_length)) {
+        return false;
+    }
+    q->type = bytes_from_input(q->type_length);
+    q->frame = bytes_from_input(q->length);
+    q->events = (uint64_t *)(void *)bytes_from_input(q->numbers * sizeof *q->events);
+    q->texts = bytes_from_input(q->texts_length);
+    make_room(q);
+    return true;
+}
+
+static void drop_asked(const struct asked *q) {
+    free(q->type);
+    free(q->frame);
+    free(q->events);
+    free(q->texts);
+    free(q->room);
+}
+
+/* What an empty function takes, once for each call. */
+static void measure_bare(void) {
+    int i;
+
+    aim(true);
+    for (i = 0; i < CALLS; i++) {
+        calls[i].bare = depth(&calls[i]);
+    }
 }
 
 int main(int argc, char **argv) {
-    struct call size = {.function = call_size};
+    struct asked asked = {0};
+    int i;
 
     if (argc != 2 || (strcmp(argv[1], "paint") != 0 && strcmp(argv[1], "thread") != 0)) {
         fputs("usage: stack paint|thread < QUESTIONS\n", stderr);
         return 2;
     }
-    while (next_question(&size.question)) {
-        (strcmp(argv[1], "paint") == 0 ? paint : thread)(&size);
+    for (i = 0; i < CALLS; i++) {
+        calls[i].asked = &asked;
+    }
+    measure_bare();
+    while (next_asked(&asked)) {
+        (strcmp(argv[1], "paint") == 0 ? paint : thread)(&asked);
         fflush(stdout);
-        drop_question(&size.question);
+        drop_asked(&asked);
     }
     return 0;
 }

@@ -4,3 +4,5 @@ pub mod TableLaws
 pub mod Answers
 pub mod Rows
 pub mod Rounds
+pub mod Openings
+pub mod NumberRows

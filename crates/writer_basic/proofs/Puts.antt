@@ -1,8 +1,9 @@
 -- Laws of stores: one store and others, where there is room and where there is none; a store more, in a loop. Assumes nothing.
-use Prim.Native.Nat.{ℕ, zero, suc, _+_, _-_, _*_, _/_, _%_, _≤_, _<_}
+use Prim.Native.Nat.{ℕ, zero, suc, _+_, _-_, _*_, _/_, _%_, _≤_, _<_, min}
 use mathlib.Core.Path.{_≡_, refl, sym, ap, _∙_}
 use mathlib.Core.List.{List, [], _∷_, _++_, reverse, reverse-cons, append-assoc, append-nil}
 use native.Mathlib.Omega.{arith}
+use native.Mathlib.Decide.{decLt}
 use native.Mathlib.Numerals.{add-one}
 use native.Mathlib.Nat.{add-zero, sub-zero}
 use lib.ListN.{length, drop, take, set, getD, length-set, length-append, length-replicate, length-reverse, length-drop, drop-of-length-le}
@@ -88,6 +89,14 @@ part-step l part at i h =
 
 pub part-end : (l part : List ℕ) (at i : ℕ) → length part ≤ i → puts l (at + i) (drop i part) ≡ l
 part-end l part at i h = rw (drop-of-length-le part h) (puts-none l (at + i))
+
+-- as many as there is room for
+pub copied-end : (l part : List ℕ) (at i : ℕ) → min (length l - at) (length part) ≤ i → puts l (at + i) (drop i part) ≡ l
+copied-end l part at i h = go (decLt i (length part))
+  where
+    go : Dec (i < length part) → puts l (at + i) (drop i part) ≡ l
+    go (yes g) = puts-out (drop i part) l (at + i) (omega arith)
+    go (no g) = part-end l part at i (omega arith)
 
 -- the highest byte first, from the back
 pub turned-step : (l : List ℕ) (at i y : ℕ) → 0 < i → puts l at (reverse (bytes i y)) ≡ puts (set l (at + (i - 1)) (y % 256)) at (reverse (bytes (i - 1) (y / 256)))

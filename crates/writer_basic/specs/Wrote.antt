@@ -6,6 +6,7 @@ use mathlib.Core.Option.{Option, none, some}
 use mathlib.Core.Bool.{Bool, true, false}
 use lib.ListN.{length, take, drop}
 use Rattle.meaning.specs.Choice.{pick}
+use Rattle.meaning.specs.Depths.{depthRefusal}
 use Rattle.meaning.specs.Letters.{arrayLetter, dictionaryLetter}
 use Rattle.meaning.specs.Refusals.{noValue}
 use Rattle.meaning.specs.Types.{Basic, bool, Tree}
@@ -15,6 +16,7 @@ use Rattle.meaning.specs.Written.{Piece, layout, ends, maybePiece, structureByt
 use Rattle.meaning_writing.specs.Writing.{Built, built, fault, mapped, sealed}
 use Rattle.meaning_writing.specs.Emitting.{itself, variantOf}
 use Rattle.meaning_writing.proofs.WritingSteps.{PlainAt, NotPlain, TextAt, NotText, viewed}
+use Rattle.container_depths.specs.Opening.{depthsOf}
 use Rattle.signature.specs.Places.{basicKind}
 use Rattle.signature.specs.declared.Letter.{Letter}
 use Rattle.signature.specs.declared.Letter.the-variants.{End, Bad, Boolean, Number, Text, Variant, Maybe, Array, OpenStructure, CloseStructure, OpenEntry, CloseEntry}
@@ -22,6 +24,7 @@ use Rattle.signature.specs.declared.items.Item.{Item}
 use Rattle.writer_basic.specs.Stores.{cap}
 use Rattle.writer_basic.specs.Ends.{Stored, Room}
 use Rattle.writer_basic.specs.declared.Answer.{Answer}
+use Rattle.writer_basic.specs.declared.Context.{Context}
 use Rattle.writer_basic.specs.declared.Run.{Run}
 use Rattle.writer_basic.specs.declared.Spot.{Spot}
 use Rattle.writer_basic.specs.declared.basic.View.{View}
@@ -131,6 +134,10 @@ aroundValue t x = mapped variantOf (sealed (mapped {B = (u : Tree) × Piece} (λ
 -- a structure or an entry: a piece whose bytes are a structure's
 pub record Structured (a : ℕ) (fx : Bool) (P : List Piece → Piece) : Type 0 where
   pub bytes-are : (cs : List Piece) → P cs .bytes ≡ structureBytes a fx cs
+
+-- so many containers are nested, within their limits
+pub record Shallow (c : Context) : Type 0 where
+  pub is : depthRefusal (depthsOf (c .depths)) ≡ 0
 
 -- where a value is to be written
 pub record Placed (n : ℕ) (p : Spot) : Type 0 where

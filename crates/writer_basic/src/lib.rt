@@ -2,6 +2,7 @@
 pub mod basic;
 pub mod closing;
 pub mod ends;
+pub mod numbers;
 pub mod store;
 
 use container_depths::ContainerDepths;

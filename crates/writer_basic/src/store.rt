@@ -1,6 +1,6 @@
 // Stores, each where there is room for it. Over an output of no length they store nothing.
 ghost use mathlib.Core.Path.{_≡_};
-ghost use Prim.Native.Nat.{ℕ, _+_, _≤_, _<_, _^_, _%_};
+ghost use Prim.Native.Nat.{ℕ, _+_, _≤_, _<_, _^_, _%_, min};
 ghost use mathlib.Core.Bool.{true, false};
 ghost use lib.ListN.{set};
 ghost use Rattle.meaning.specs.Numbers.{bytes, ordered};
@@ -114,6 +114,15 @@ pub fn number_bytes(out: &mut [u8], at: usize, width: usize, x: u64, big: bool)
     }
 }
 
+fn smaller(a: usize, b: usize) -> usize
+    ensures { λ r. ⌜ r ≡ min a b ⌝ }
+{
+    if a < b {
+        return a;
+    }
+    b
+}
+
 // A part's bytes from a place on, as many as there is room for.
 pub fn copy(out: &mut [u8], at: usize, part: &[u8])
     ensures { λ r. ⌜ now (out .exit) ≡ puts (now (out .entry)) at (now (part .entry)) ⌝ }
@@ -121,12 +130,9 @@ pub fn copy(out: &mut [u8], at: usize, part: &[u8])
     if out.len() <= at {
         return;
     }
-    let room = out.len() - at;
+    let count = smaller(out.len() - at, part.len());
     let mut i: usize = 0;
-    while i < part.len() {
-        if room <= i {
-            return;
-        }
+    while i < count {
         out[at + i] = part[i];
         i = i + 1;
     }

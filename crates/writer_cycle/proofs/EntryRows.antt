@@ -8,11 +8,10 @@ use Prim.Native.Nat.{ℕ, zero, suc, _+_, _-_, _≤_, _<_, _%_, min}
 use lib.ListN.{length, drop}
 use Rattle.meaning.specs.Depths.{Depths}
 use Rattle.meaning.specs.Padding.{padding, zeros}
-use Rattle.meaning.specs.Types.{Basic, bool, number, text, basicAlignment, basicFixed, alignment}
-use Rattle.meaning.specs.Values.{BasicValue}
-use Rattle.meaning.specs.Written.{Piece, stop, unless, fieldEnds, basicPiece, entryPiece}
-use Rattle.meaning_writing.specs.Writing.{Built, built, fault, Builder, mapped, followed, buildBoth, buildBasic}
-use Rattle.meaning_writing.specs.Emitting.{entryOf, emitBasic, emitEntry, emit}
+use Rattle.meaning.specs.Types.{Basic, bool, number, text, basic, maybe, basicAlignment, basicFixed, alignment, fixed}
+use Rattle.meaning.specs.Written.{Piece, stop, unless, fieldEnds, entryPiece}
+use Rattle.meaning_writing.specs.Writing.{Built, built, fault, Builder, mapped, buildBoth, buildMany}
+use Rattle.meaning_writing.specs.Emitting.{entryOf, emitBasic, emitMaybe, emitEntry, emit}
 use Rattle.meaning_writing.proofs.EmitLaws.{emit-alignment, emit-shorter, basic-shorter, entry-shorter}
 use Rattle.meaning.specs.Padding.{Aligns}
 use Rattle.meaning.proofs.PaddingLaws.{by-alignment, padding-none}
@@ -20,42 +19,26 @@ use Rattle.meaning.proofs.TypeLaws.{basic-aligned}
 use Rattle.meaning_writing.proofs.WritingSteps.{Shorter, both-second, both-fault, mapped-built, mapped-fault}
 use Rattle.writer_basic.specs.Stores.{cap, sum, puts}
 use Rattle.writer_basic.specs.Ends.{Kept}
-use Rattle.writer_basic.specs.Wrote.{keyBasic, Made, Done, MadeAll, DoneAll, Structured}
+use Rattle.signature.specs.Places.{basicKind}
+use Rattle.signature.specs.declared.Letter.{Letter}
+use Rattle.signature.specs.declared.Letter.the-variants.{Number, Text}
+use Rattle.signature.proofs.Dispatch.{is-text}
+use Rattle.signature.proofs.TreeLaws.{described-kind}
+use Rattle.writer_basic.specs.Wrote.{keyBasic, IsKey, Made, Done, marksOf, MadeAll, DoneAll, Structured}
+use Rattle.writer_cycle.proofs.ItemLaws.{emit-basic, emit-maybe, key-of, is-key}
 use Rattle.signature.specs.Trees.{treeAt}
-use Rattle.writer_cycle.specs.Places.{valueOf, itemOf, Repeated}
+use Rattle.writer_cycle.specs.Places.{valueOf, itemOf, NumberItem, Repeated}
 use Rattle.writer_basic.specs.declared.Answer.{Answer}
 use Rattle.writer_basic.specs.declared.Run.{Run}
 use Rattle.signature.specs.declared.items.Item.{Item}
 use Rattle.writer_basic.proofs.Puts.{puts-none}
+use Rattle.writer_basic.proofs.NumberRows.{basic-has}
 use Rattle.writer_basic.proofs.EndLaws.{kept-not}
 use Rattle.writer_basic.proofs.Answers.{answer, made-of, fault-of, wrong}
 use Rattle.writer_basic.proofs.Rows.{run, none-more, says-on, fields-steady}
 
 value-of : {A : Type 0} (P : A → Type 0) (x y : A) (r q : List ℕ) → built x r ≡ built y q → P x → P y
 value-of P x y r q e p = let z : x ≡ y = cc in rw (← z) p
-
--- ---- basic pieces
-
-basic-piece-alignment : (big : Bool) (b : Basic) (v : BasicValue b) → basicPiece big b v .alignment ≡ basicAlignment b
-unfolding basicPiece
-basic-piece-alignment big bool v = refl
-basic-piece-alignment big (number n) v = refl
-basic-piece-alignment big (text n) v = refl
-
-basic-piece-fixed : (big : Bool) (b : Basic) (v : BasicValue b) → basicPiece big b v .fixed ≡ basicFixed b
-unfolding basicPiece
-basic-piece-fixed big bool v = refl
-basic-piece-fixed big (number n) v = refl
-basic-piece-fixed big (text n) v = refl
-
-module _ (texts : List ℕ) (big : Bool) (b : Basic) (D : Depths) (l : List ℕ) (c : Piece) (r : List ℕ) (e : emitBasic texts big b D l ≡ built c r) where
-  pub basic-has : (c .alignment ≡ basicAlignment b) × (c .fixed ≡ basicFixed b)
-  unfolding emitBasic
-  basic-has = go (buildBasic texts b l) e
-    where
-      go : (x : Built (BasicValue b)) → mapped (basicPiece big b) x ≡ built c r → (c .alignment ≡ basicAlignment b) × (c .fixed ≡ basicFixed b)
-      go (built v q) f = unfold mapped in (let z : c ≡ basicPiece big b v = cc in rw z (basic-piece-alignment big b v, basic-piece-fixed big b v))
-      go (fault n) f = unfold mapped in absurd (let z : _≡_ {A = ℕ} 0 1 = cc in omega arith)
 
 -- ---- items
 
@@ -220,3 +203,53 @@ entry-no-ends a fx texts big b value D ns i h cs r e = first (emitBasic texts bi
 
 pub entry-key : (texts : List ℕ) (big : Bool) (b : Basic) (D : Depths) (l : List ℕ) {c : Piece} {r : List ℕ} (keyed : Bool) → keyed ≡ basicFixed b → emitBasic texts big b D l ≡ built c r → (c .alignment ≡ basicAlignment b) × (c .fixed ≡ keyed)
 entry-key texts big b D l {c} {r} keyed h e = let q = basic-has texts big b D l c r e in (q .0, q .1 ∙ sym h)
+
+-- ---- elements that take one event, and readings
+
+module _ (texts : List ℕ) (big : Bool) (n : ℕ) (signature : List ℕ) (it : Item) (D : Depths) (e : it .entry ≡ false) (b : Basic) (f : ℕ) (l₀ ns : List ℕ) (i base top : ℕ) (l l′ s s′ : List ℕ) (r : Run) where
+  pub items-basic : (fx : Bool) → treeAt signature (it .child .at) ≡ basic b → it .fixed ≡ fx → DoneAll (marksOf fx) (buildMany f (emitBasic texts big b D) l₀) ns i base top 0 0 l l′ s s′ r
+      → DoneAll (marksOf (it .fixed)) (buildMany f (itemOf texts big n signature it D) l₀) ns i base top 0 0 l l′ s s′ r
+  items-basic fx t h g =
+      let q : itemOf texts big n signature it ≡ emitBasic texts big b = item-alone texts big n signature it e ∙ ap (λ u. valueOf texts big n u) t ∙ emit-basic texts big (65 - n) b in
+      subst⁻¹ (λ (x : Builder Piece). DoneAll (marksOf (it .fixed)) (buildMany f (x D) l₀) ns i base top 0 0 l l′ s s′ r) q (subst⁻¹ (λ (x : Bool). DoneAll (marksOf x) (buildMany f (emitBasic texts big b D) l₀) ns i base top 0 0 l l′ s s′ r) h g)
+
+  pub items-reading : treeAt signature (it .child .at) ≡ maybe (basic b) → basicFixed b ≡ true → it .fixed ≡ false → DoneAll (marksOf false) (buildMany f (emitMaybe (basicAlignment b) true (emitBasic texts big b) D) l₀) ns i base top 0 0 l l′ s s′ r
+      → DoneAll (marksOf (it .fixed)) (buildMany f (itemOf texts big n signature it D) l₀) ns i base top 0 0 l l′ s s′ r
+  unfolding alignment fixed
+  items-reading t w h g =
+      let m : emit texts big (65 - n) (maybe (basic b)) ≡ emitMaybe (basicAlignment b) true (emitBasic texts big b) =
+      emit-maybe texts big (65 - n) (basic b) ∙ ap (λ (x : Builder Piece). emitMaybe (basicAlignment b) (basicFixed b) x) (emit-basic texts big (65 - n) b) ∙ ap (λ (x : Bool). emitMaybe (basicAlignment b) x (emitBasic texts big b)) w in
+      let q : itemOf texts big n signature it ≡ emitMaybe (basicAlignment b) true (emitBasic texts big b) = item-alone texts big n signature it e ∙ ap (λ u. valueOf texts big n u) t ∙ m in
+      subst⁻¹ (λ (x : Builder Piece). DoneAll (marksOf (it .fixed)) (buildMany f (x D) l₀) ns i base top 0 0 l l′ s s′ r) q (subst⁻¹ (λ (x : Bool). DoneAll (marksOf x) (buildMany f (emitMaybe (basicAlignment b) true (emitBasic texts big b) D) l₀) ns i base top 0 0 l l′ s s′ r) h g)
+
+-- the alignment of what is repeated
+pub alone-basic : (signature shapes : List ℕ) (it : Item) → Repeated signature shapes it → it .entry ≡ false → (b : Basic) → treeAt signature (it .child .at) ≡ basic b → it .alignment ≡ basicAlignment b
+unfolding alignment
+alone-basic signature shapes it h e b t = h .alone e ∙ ap alignment t
+
+pub alone-reading : (signature shapes : List ℕ) (it : Item) → Repeated signature shapes it → it .entry ≡ false → (b : Basic) → treeAt signature (it .child .at) ≡ maybe (basic b) → it .alignment ≡ basicAlignment b
+unfolding alignment
+alone-reading signature shapes it h e b t = h .alone e ∙ ap alignment t
+
+-- an element that is a text
+pub record TextItem (text : List ℕ) (it : Item) (k : Letter) : Type 0 where
+  pub key : IsKey k
+  pub loose : basicFixed (keyBasic k) ≡ false
+  pub tree : treeAt text (it .child .at) ≡ basic (keyBasic k)
+  pub same-fixed : it .fixed ≡ false
+
+pub text-item : (signature shapes : List ℕ) (it : Item) → Repeated signature shapes it → it .entry ≡ false → (c : ℕ) → it .child .kind ≡ Text c → TextItem signature it (Text c)
+unfolding fixed
+text-item signature shapes it h e c q =
+    let m = is-text signature (it .child .at) _ _ c (h .child .typed .found) (sym (described-kind (h .child)) ∙ q) in
+    let k : Text c ≡ basicKind (text (m .it)) = ap Text (m .code-is) in
+    let b : keyBasic (Text c) ≡ text (m .it) = ap keyBasic k ∙ key-of (text (m .it)) in
+    let t : treeAt signature (it .child .at) ≡ basic (keyBasic (Text c)) = m .type ∙ ap basic (sym b) in
+    record { key = subst⁻¹ IsKey k (is-key (text (m .it))); loose = ap basicFixed b; tree = t; same-fixed = h .loose e ∙ ap fixed t ∙ ap basicFixed b }
+
+-- the same, as the code has the letters
+pub held-number : (signature shapes : List ℕ) (it : Item) → Repeated signature shapes it → it .entry ≡ false → (c w : ℕ) → it .number ≡ Number c w → NumberItem signature it (it .number)
+held-number signature shapes it h e c w q = subst⁻¹ (λ (k : Letter). NumberItem signature it k) q (h .number e c w q)
+
+pub held-text : (signature shapes : List ℕ) (it : Item) → Repeated signature shapes it → it .entry ≡ false → (c : ℕ) → it .child .kind ≡ Text c → TextItem signature it (it .child .kind)
+held-text signature shapes it h e c q = subst⁻¹ (λ (k : Letter). TextItem signature it k) q (text-item signature shapes it h e c q)

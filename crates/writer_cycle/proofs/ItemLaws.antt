@@ -1,25 +1,28 @@
 -- What an array or a dictionary repeats, and one step of what a type is written as. Assumes nothing.
 use mathlib.Core.Path.{_≡_, refl, ap, sym, subst⁻¹, _∙_}
+use mathlib.Core.Logic.{_⊎_, inl, inr}
 use mathlib.Core.List.{List}
 use mathlib.Core.Bool.{Bool, true, false, _&&_, false≢true}
 use native.Mathlib.Omega.{arith}
 use Prim.Native.Nat.{ℕ, zero, suc, _+_, _-_, _≤_}
-use Rattle.meaning.specs.Types.{byte, int16, uint16, int32, uint32, int64, uint64, double, string, objectPath, signature, Basic, bool, number, text, Tree, Fields, basic, variant, maybe, array, dictionary, structure, basicFixed, alignment, fixed, largestAlignment, allFixed, entryAlignment, entryFixed}
+use Rattle.meaning.specs.Letters.{numberLetter}
+use Rattle.meaning.specs.Types.{Number as NumberType, numberWidth, byte, int16, uint16, int32, uint32, int64, uint64, double, string, objectPath, signature, Basic, bool, number, text, Tree, Fields, basic, variant, maybe, array, dictionary, structure, basicFixed, alignment, fixed, largestAlignment, allFixed, entryAlignment, entryFixed}
 use Rattle.meaning.specs.TypeText.{basicAmong}
 use Rattle.meaning.specs.Written.{Piece}
 use Rattle.meaning.proofs.TypeLaws.{aligned}
 use Rattle.meaning_writing.specs.Writing.{Builder}
 use Rattle.meaning_writing.specs.Emitting.{emitBasic, emitMaybe, emitArray, emitEntry, emitStructure, emitVariant, emitOver, emitFields, emit}
 use Rattle.signature.specs.Places.{basicKind, letterAt}
-use Rattle.signature.specs.Items.{itemIn, EntryOf, ElementOf}
+use Rattle.signature.specs.Items.{heldNumber, itemIn, EntryOf, ElementOf}
 use Rattle.signature.specs.Trees.{treeAt, Described}
 use Rattle.signature.specs.declared.Letter.{Letter}
-use Rattle.signature.specs.declared.Letter.the-variants.{End, Array}
+use Rattle.signature.specs.declared.Letter.the-variants.{End, Number, Maybe, Array}
 use Rattle.signature.specs.declared.shapes.Shape.{Shape}
 use Rattle.signature.specs.declared.items.Item.{Item}
-use Rattle.signature.proofs.ItemLaws.{opens, entry-of, element-of}
+use Rattle.signature.proofs.Dispatch.{is-number, is-maybe}
+use Rattle.signature.proofs.ItemLaws.{opens, number-held, entry-of, element-of}
 use Rattle.writer_basic.specs.Wrote.{keyBasic, IsKey, itemKind}
-use Rattle.writer_cycle.specs.Places.{valueOf, fieldsOf, itemOf, Repeated, ItemAt}
+use Rattle.writer_cycle.specs.Places.{valueOf, fieldsOf, itemOf, NumberItem, Repeated, ItemAt}
 
 -- ---- what a type is written as, one step
 
@@ -102,15 +105,38 @@ module _ (text shapes : List ℕ) (at : ℕ) (b : Basic) (t : Tree) (whole : tre
       keyed = λ q. ap basicFixed (sym (key-of b));
       whole = λ q f. ap basicFixed (key-of b) ∙ both-first (basicFixed b) (fixed t) f;
       alone = λ q. absurd (false≢true (sym q));
+      loose = λ q. absurd (false≢true (sym q));
+      number = λ q. absurd (false≢true (sym q));
     };
     body = λ texts big nested h. rw (whole, value, key-of b) (emit-dictionary texts big (65 - nested) b t);
   })
 
+-- a number, plain or in a maybe
+number-item : (l : List ℕ) {t : List ℕ} (c : Shape) → Described l t c → (f : Bool) → f ≡ fixed (treeAt l (c .at)) → (m : Letter) → m ≡ heldNumber (letterAt l (c .at)) (letterAt l (c .at + 1)) → (keyed : Bool) (a d w : ℕ) → m ≡ Number d w → NumberItem l (item false c End keyed a f m) (Number d w)
+unfolding fixed
+number-item l c there f hf m h keyed a d w z = go (number-held (letterAt l (c .at)) (letterAt l (c .at + 1)) d w (sym h ∙ z))
+  where
+    key-is : (n : NumberType) → d ≡ numberLetter n → w ≡ numberWidth n → (keyBasic (Number d w) ≡ number n) × IsKey (Number d w)
+    key-is n x y = let k : Number d w ≡ basicKind (number n) = rw (x, y) in (ap keyBasic k ∙ key-of (number n), subst⁻¹ IsKey k (is-key (number n)))
+
+    go : (letterAt l (c .at) ≡ Number d w) ⊎ ((letterAt l (c .at) ≡ Maybe) × (letterAt l (c .at + 1) ≡ Number d w)) → NumberItem l (item false c End keyed a f m) (Number d w)
+    go (inl x) =
+        let n = is-number l (c .at) _ _ d w (there .typed .found) x in
+        let k = key-is (n .it) (n .code-is) (n .width-is) in
+        let s : treeAt l (c .at) ≡ basic (keyBasic (Number d w)) = n .type ∙ ap basic (sym (k .0)) in
+        record { key = k .1; whole = ap basicFixed (k .0); plain = λ y. s; held = λ y. absurd (false≢true (sym y ∙ hf ∙ ap fixed (n .type))) }
+    go (inr (x, y)) =
+        let m = is-maybe l (c .at) _ _ (there .typed .found) x in
+        let n = is-number l (c .at + 1) (m .it) _ d w (m .child) y in
+        let k = key-is (n .it) (n .code-is) (n .width-is) in
+        let s : treeAt l (c .at) ≡ maybe (basic (keyBasic (Number d w))) = m .type ∙ ap maybe (n .type ∙ ap basic (sym (k .0))) in
+        record { key = k .1; whole = ap basicFixed (k .0); plain = λ y. absurd (false≢true (sym (hf ∙ ap fixed s) ∙ y)); held = λ y. s }
+
 -- an array of an element
 module _ (text shapes : List ℕ) (at : ℕ) (t : Tree) (whole : treeAt text at ≡ array t) (c : Shape) (there : Described text shapes c) (value : treeAt text (c .at) ≡ t) where
-  element-item : (i : Item) (keyed : Bool) (m : Letter) → i ≡ item false c End keyed (alignment t) (fixed t) m → ItemAt text shapes at i
+  element-item : (i : Item) (keyed : Bool) (m : Letter) → m ≡ heldNumber (letterAt text (c .at)) (letterAt text (c .at + 1)) → i ≡ item false c End keyed (alignment t) (fixed t) m → ItemAt text shapes at i
   unfolding itemOf
-  element-item i keyed m e = rw e (record {
+  element-item i keyed m h e = rw e (record {
     repeated = record {
       child = there;
       aligned = aligned t;
@@ -118,6 +144,8 @@ module _ (text shapes : List ℕ) (at : ℕ) (t : Tree) (whole : treeAt text at 
       keyed = λ q. absurd (false≢true q);
       whole = λ q. absurd (false≢true q);
       alone = λ q. ap alignment (sym value);
+      loose = λ q. ap fixed (sym value);
+      number = λ q d w z. number-item text c there (fixed t) (ap fixed (sym value)) m h keyed (alignment t) d w z;
     };
     body = λ texts big nested h. rw (whole, value) (emit-array texts big (65 - nested) t);
   })
@@ -131,5 +159,5 @@ item-at l t s d first i e = rw e (opens (letterAt l (s .at + 1)) (λ h. entry (e
         (same-item (itemIn l t s .child) (itemIn l t s .number) (o .entry) (o .same-key) (o .same-keyed) (unfold alignment in o .same-alignment) (o .same-fixed))
 
     element : ElementOf l t (s .at) (itemIn l t s) → ItemAt l t (s .at) (itemIn l t s)
-    element o = element-item l t (s .at) (o .it) (o .tree) (itemIn l t s .child) (o .child) (o .value) (itemIn l t s) (itemIn l t s .keyed) (itemIn l t s .number)
+    element o = element-item l t (s .at) (o .it) (o .tree) (itemIn l t s .child) (o .child) (o .value) (itemIn l t s) (itemIn l t s .keyed) (itemIn l t s .number) (o .same-number)
         (same-item (itemIn l t s .child) (itemIn l t s .number) (o .entry) (o .same-key) refl (o .same-alignment) (o .same-fixed))

@@ -1,4 +1,3 @@
-pub mod Openings
 pub mod ItemLaws
 pub mod FieldRows
 pub mod EntryRows

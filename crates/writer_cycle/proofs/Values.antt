@@ -38,7 +38,7 @@ use Rattle.writer_basic.proofs.Answers.{answer}
 use Rattle.writer_basic.proofs.Rounds.{part-length}
 use Rattle.writer_cycle.specs.Places.{valueOf, fieldsOf, itemOf, ItemAt}
 use Rattle.writer_cycle.proofs.ItemLaws.{emit-basic, emit-maybe, emit-structure, emit-variant}
-use Rattle.writer_cycle.proofs.Openings.{raised-to, maybe-empty, maybe-neither, maybe-deep, maybe-on, array-not, array-deep, array-on, structure-not, structure-deep, structure-on, variant-not, variant-text, variant-type, variant-deep, variant-on}
+use Rattle.writer_basic.proofs.Openings.{raised-to, maybe-empty, maybe-neither, maybe-deep, maybe-on, array-not, array-deep, array-on, structure-not, structure-deep, structure-on, variant-not, variant-text, variant-type, variant-deep, variant-on}
 
 -- ---- value, by the letter
 

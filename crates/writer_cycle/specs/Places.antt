@@ -5,15 +5,16 @@ use mathlib.Core.Bool.{Bool, true, false}
 use Prim.Native.Nat.{ℕ, _-_, _≤_}
 use lib.ListN.{length, drop}
 use Rattle.meaning.specs.Choice.{pick}
-use Rattle.meaning.specs.Depths.{depthRefusal}
 use Rattle.meaning.specs.Limits.{mostVariants, mostContainers}
 use Rattle.meaning.specs.Padding.{Aligns}
-use Rattle.meaning.specs.Types.{Tree, Fields, variant, alignment, fixed, basicFixed}
+use Rattle.meaning.specs.Types.{Tree, Fields, basic, variant, maybe, alignment, fixed, basicFixed}
 use Rattle.meaning.specs.Written.{Piece}
 use Rattle.meaning_writing.specs.Writing.{Built, Builder, buildMany}
 use Rattle.meaning_writing.specs.Emitting.{emitBasic, emitArray, emitEntry, emitVariant, emitFields, emit}
 use Rattle.container_depths.specs.Opening.{depthsOf}
 use Rattle.signature.specs.Trees.{treeAt, Described}
+use Rattle.signature.specs.declared.Letter.{Letter}
+use Rattle.signature.specs.declared.Letter.the-variants.{Number}
 use Rattle.signature.specs.declared.items.Item.{Item}
 use Rattle.writer_basic.specs.Wrote.{keyBasic, IsKey, itemKind, Done, DoneAll}
 use Rattle.writer_basic.specs.declared.Answer.{Answer}
@@ -35,6 +36,13 @@ itemOf texts big nested text i =
     (emitEntry (i .alignment) (i .fixed) (emitBasic texts big (keyBasic (i .key))) (valueOf texts big nested (treeAt text (i .child .at))))
     (valueOf texts big nested (treeAt text (i .child .at)))
 
+-- what is repeated is a number: plain where it is fixed, in a maybe where it is not
+pub record NumberItem (text : List ℕ) (i : Item) (k : Letter) : Type 0 where
+  pub key : IsKey k
+  pub whole : basicFixed (keyBasic k) ≡ true
+  pub plain : i .fixed ≡ true → treeAt text (i .child .at) ≡ basic (keyBasic k)
+  pub held : i .fixed ≡ false → treeAt text (i .child .at) ≡ maybe (basic (keyBasic k))
+
 -- what is known of it: its type stands in the text, its alignment is one; of an entry, that its key is one
 pub record Repeated (text shapes : List ℕ) (i : Item) : Type 0 where
   pub child : Described text shapes (i .child)
@@ -43,6 +51,8 @@ pub record Repeated (text shapes : List ℕ) (i : Item) : Type 0 where
   pub keyed : i .entry ≡ true → i .keyed ≡ basicFixed (keyBasic (i .key))
   pub whole : i .entry ≡ true → i .fixed ≡ true → basicFixed (keyBasic (i .key)) ≡ true
   pub alone : i .entry ≡ false → i .alignment ≡ alignment (treeAt text (i .child .at))
+  pub loose : i .entry ≡ false → i .fixed ≡ fixed (treeAt text (i .child .at))
+  pub number : i .entry ≡ false → (c w : ℕ) → i .number ≡ Number c w → NumberItem text i (Number c w)
 
 -- and that it is what the array or dictionary at a place repeats
 pub record ItemAt (text shapes : List ℕ) (at : ℕ) (i : Item) : Type 0 where
@@ -68,10 +78,6 @@ WroteAt b ns p l l′ s s′ r = Done (b (drop (p .next) ns)) ns (p .next) (p .s
 
 abbrev pub RowAt : (ℕ → List Piece → List ℕ) → (List ℕ → Built (List Piece)) → List ℕ → Spot → List ℕ → List ℕ → List ℕ → List ℕ → Run → Type 0
 RowAt m b ns p l l′ s s′ r = DoneAll m (b (drop (p .next) ns)) ns (p .next) (p .start) (p .top) 0 0 l l′ s s′ r
-
--- so many containers are nested, within their limits
-pub record Shallow (c : Context) : Type 0 where
-  pub is : depthRefusal (depthsOf (c .depths)) ≡ 0
 
 abbrev pub variantTree : Tree
 variantTree = variant

@@ -33,6 +33,8 @@ use writer_basic::closing::present;
 use writer_basic::closing::structure_end;
 use writer_basic::closing::variant_end;
 use writer_basic::ends::keep;
+use writer_basic::numbers::basics;
+use writer_basic::numbers::readings;
 use writer_basic::ran;
 use writer_basic::refused;
 use writer_basic::stopped;
@@ -47,8 +49,8 @@ ghost use Rattle.meaning.specs.Written.{fieldEnds};
 ghost use Rattle.signature.specs.Places.{letterAt};
 ghost use Rattle.signature.specs.Shapes.{Shaped};
 ghost use Rattle.signature.specs.Trees.{treeAt, fieldsAt, Rowed, Described};
-ghost use Rattle.writer_basic.specs.Wrote.{marksOf, Placed};
-ghost use Rattle.writer_cycle.specs.Places.{WroteAt, RowAt, Shallow, valueIn, fieldsIn, itemIn, itemsIn, Repeated, variantTree};
+ghost use Rattle.writer_basic.specs.Wrote.{marksOf, Shallow, Placed};
+ghost use Rattle.writer_cycle.specs.Places.{WroteAt, RowAt, valueIn, fieldsIn, itemIn, itemsIn, Repeated, variantTree};
 
 // The value of a type. `variant` is called twice, so that it keeps its own stack frame.
 pub fn value(
@@ -188,7 +190,7 @@ fn array(
     array_end(item.fixed, closed, out, spot.start, ends, spot.top)
 }
 
-// Elements one behind another, up to an event that closes.
+// Elements one behind another, up to an event that closes. Numbers, readings and texts have loops of their own.
 fn elements(
     text: &[u8],
     shapes: &[u16],
@@ -203,9 +205,50 @@ fn elements(
     requires { ⌜ Repeated (now text) (now shapes) item × (item .entry ≡ false) × Shallow context × Placed (length (now events)) spot ⌝ }
     ensures { λ r. ⌜ RowAt (marksOf (item .fixed)) (itemsIn context (now (texts .entry)) (now (text .entry)) item) (now (events .entry)) spot (now (out .entry)) (now (out .exit)) (now (ends .entry)) (now (ends .exit)) r ⌝ }
 {
+    let child = item.child;
+    let held = item.number;
+    if let Letter::Number { code: _, width: _ } = held {
+        let fixed = item.fixed;
+        if fixed {
+            return basics(
+                held,
+                true,
+                item.alignment,
+                events,
+                texts,
+                context,
+                spot,
+                out,
+                ends,
+            );
+        }
+        return readings(
+            held,
+            item.alignment,
+            events,
+            texts,
+            context,
+            spot,
+            out,
+            ends,
+        );
+    }
+    let kind = child.kind;
+    if let Letter::Text { code: _ } = kind {
+        return basics(
+            kind,
+            false,
+            item.alignment,
+            events,
+            texts,
+            context,
+            spot,
+            out,
+            ends,
+        );
+    }
     let base = spot.start;
     let top = spot.top;
-    let child = item.child;
     let mut e = spot.next;
     let mut k: usize = 0;
     let mut j: usize = 0;

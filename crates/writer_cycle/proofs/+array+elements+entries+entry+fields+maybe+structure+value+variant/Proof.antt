@@ -1,7 +1,7 @@
 use borrow.Author.Needs.{needs}
 use native.Mathlib.Omega.{arith}
 use mathlib.Core.List.{[]}
-use mathlib.Core.Bool.{false}
+use mathlib.Core.Bool.{true, false}
 use mathlib.Core.Path.{refl, ap, sym, _∙_}
 use Prim.Native.Nat.{_+_, _-_, _*_, _≤_}
 use lib.ListN.{length}
@@ -21,10 +21,10 @@ use Rattle.writer_basic.specs.Wrote.{keyBasic}
 use Rattle.writer_basic.proofs.Answers.{bounds}
 use Rattle.writer_basic.proofs.Rows.{Left, left-all, left-short, left-shut, left-stop, left-on, row-bounds}
 use Rattle.writer_cycle.specs.Places.{itemIn}
-use Rattle.writer_cycle.proofs.Openings.{level, level-falls, raised-shallow, few-variants}
+use Rattle.writer_basic.proofs.Openings.{level, level-falls, raised-shallow, few-variants}
 use Rattle.writer_cycle.proofs.ItemLaws.{item-at}
 use Rattle.writer_cycle.proofs.FieldRows.{FieldsLeft, field-here, fields-begin, fields-stop, fields-last, fields-next, sealed-no-ends}
-use Rattle.writer_cycle.proofs.EntryRows.{item-shorter, item-alignment, item-as-value, item-as-entry, item-key-stop, item-value-stop, entry-structured, entry-no-ends, entry-row, entry-key, row-as, kept-few}
+use Rattle.writer_cycle.proofs.EntryRows.{item-shorter, item-alignment, item-as-value, item-as-entry, item-key-stop, item-value-stop, entry-structured, entry-no-ends, entry-row, entry-key, row-as, kept-few, items-basic, items-reading, alone-basic, alone-reading, held-number, held-text}
 use Rattle.writer_cycle.proofs.Values.{number-aligned-at, value-boolean, value-number, value-text, value-variant, value-none, value-nothing, value-neither, value-maybe-deep, value-present, value-array-not, value-array-deep, value-array, value-structure-not, value-structure-deep, value-structure, value-variant-not, value-variant-text, value-variant-type, value-variant-deep, value-variant-on, structure-structured, front-short, front-spells}
 use Prim.Native.Nat.{ℕ, _<_}
 use borrow.Fn.Kinds.{In}
@@ -89,6 +89,8 @@ use Rattle.writer_cycle.proofs.+array+elements+entries+entry+fields+may
 use Rattle.writer_cycle.proofs.+array+elements+entries+entry+fields+maybe+structure+value+variant.Tie.{
   close,
 }
+use Rattle.writer_basic.proofs.numbers.basics.Reads as basics-reads
+use Rattle.writer_basic.proofs.numbers.readings.Reads as readings-reads
 
 abbrev μ-array : Measures 6 array-kinds.ps ℕ
 μ-array κs a = level (a .1 .1 .1 .1 .1 .0 .depths) * 8 + 2
@@ -173,7 +175,7 @@ variant-at t = and 4 variant-kinds.ps (is 4 variant-kinds.ps μ-variant t) varia
 abbrev variant-below : ℕ → In 4 variant-kinds.ps
 variant-below t = and 4 variant-kinds.ps (falls 4 variant-kinds.ps _<_ μ-variant t) variant.Pre
 
--- src/lib.rt:161:9
+-- src/lib.rt:163:9
 array-item-of-requires : (t : ℕ) → array-lts.Need-item-of-requires (
   item-of-reads.Asked,
   item-of-reads.Learnt,
@@ -196,7 +198,7 @@ array-item-of-requires : (t : ℕ) → array-lts.Need-item-of-requires (
 ) (array-at t) array.Post
 array-item-of-requires t c κs = search needs
 
--- src/lib.rt:162:29
+-- src/lib.rt:164:29
 array-item-kind-requires : (t : ℕ) → array-lts.Need-item-kind-requires (
   item-of-reads.Asked,
   item-of-reads.Learnt,
@@ -219,7 +221,7 @@ array-item-kind-requires : (t : ℕ) → array-lts.Need-item-kind-requires (
 ) (array-at t) array.Post
 array-item-kind-requires t c κs = search needs
 
--- src/lib.rt:162:9
+-- src/lib.rt:164:9
 array-plain-at-requires : (t : ℕ) → array-lts.Need-plain-at-requires (
   item-of-reads.Asked,
   item-of-reads.Learnt,
@@ -242,7 +244,7 @@ array-plain-at-requires : (t : ℕ) → array-lts.Need-plain-at-requires (
 ) (array-at t) array.Post
 array-plain-at-requires t c κs = c .before .before .before .before .before .before .before .before .pre .1 .3 .within
 
--- src/lib.rt:163:9
+-- src/lib.rt:165:9
 array-refused-requires : (t : ℕ) → array-lts.Need-refused-requires (
   item-of-reads.Asked,
   item-of-reads.Learnt,
@@ -265,7 +267,7 @@ array-refused-requires : (t : ℕ) → array-lts.Need-refused-requires (
 ) (array-at t) array.Post
 array-refused-requires t c κs = search needs
 
--- src/lib.rt:163:9
+-- src/lib.rt:165:9
 array-returns : (t : ℕ) → array-lts.Need-returns (
   item-of-reads.Asked,
   item-of-reads.Learnt,
@@ -288,7 +290,7 @@ array-returns : (t : ℕ) → array-lts.Need-returns (
 ) (array-at t) array.Post
 array-returns t c = rw (c .refused .ensures) (value-array-not _ _ _ _ (item-at _ _ _ (c .before .before .before .before .before .before .before .before .before .before .before .pre .1 .0) (c .before .before .before .before .before .before .before .before .before .before .before .pre .1 .1) _ (c .before .before .before .before .item-of .ensures)) _ _ _ (few-variants (c .before .before .before .before .before .before .before .before .before .before .before .pre .1 .2)) _ _ _ _ _ _ _ (c .before .before .before .item-kind .ensures) (c .before .before .plain-at .ensures .not (not-true _ (c .before .if1 .taken))))
 
--- src/lib.rt:165:9
+-- src/lib.rt:167:9
 array-inc-array-requires : (t : ℕ) → array-lts.Need-inc-array-requires (
   item-of-reads.Asked,
   item-of-reads.Learnt,
@@ -311,7 +313,7 @@ array-inc-array-requires : (t : ℕ) → array-lts.Need-inc-array-requires (
 ) (array-at t) array.Post
 array-inc-array-requires t c κs = search needs
 
--- src/lib.rt:168:9
+-- src/lib.rt:170:9
 array-refused-requires-2 : (t : ℕ) → array-lts.Need-refused-requires-2 (
   item-of-reads.Asked,
   item-of-reads.Learnt,
@@ -334,7 +336,7 @@ array-refused-requires-2 : (t : ℕ) → array-lts.Need-refused-requires-2 (
 ) (array-at t) array.Post
 array-refused-requires-2 t c κs = search needs
 
--- src/lib.rt:168:9
+-- src/lib.rt:170:9
 array-returns-2 : (t : ℕ) → array-lts.Need-returns-2 (
   item-of-reads.Asked,
   item-of-reads.Learnt,
@@ -357,7 +359,7 @@ array-returns-2 : (t : ℕ) → array-lts.Need-returns-2 (
 ) (array-at t) array.Post
 array-returns-2 t c = rw (c .refused2 .ensures) (value-array-deep _ _ _ _ (item-at _ _ _ (c .before .before .before .before .before .before .before .before .before .before .before .before .before .pre .1 .0) (c .before .before .before .before .before .before .before .before .before .before .before .before .before .pre .1 .1) _ (c .before .before .before .before .before .before .item-of .ensures)) _ _ _ (few-variants (c .before .before .before .before .before .before .before .before .before .before .before .before .before .pre .1 .2)) _ _ _ _ _ _ _ (c .before .before .before .before .before .item-kind .ensures) (c .before .before .before .before .plain-at .ensures .here (not-false _ (c .before .before .before .if1 .left))) _ (c .before .before .inc-array .ensures) (c .before .if2 .taken))
 
--- src/lib.rt:176:15
+-- src/lib.rt:178:15
 array-add-t25 : (t : ℕ) → array-lts.Need-add-t25 (
   item-of-reads.Asked,
   item-of-reads.Learnt,
@@ -380,7 +382,7 @@ array-add-t25 : (t : ℕ) → array-lts.Need-add-t25 (
 ) (array-at t) array.Post
 array-add-t25 t c = omega (arith, c .before .before .before .before .plain-at .ensures .here (not-false _ (c .before .before .before .if1 .left)) .whole, c .before .before .before .before)
 
--- src/lib.rt:182:13
+-- src/lib.rt:184:13
 array-entries-requires : (t : ℕ) → array-lts.Need-entries-requires (
   item-of-reads.Asked,
   item-of-reads.Learnt,
@@ -403,7 +405,7 @@ array-entries-requires : (t : ℕ) → array-lts.Need-entries-requires (
 ) (array-at t) array.Post
 array-entries-requires t c κs = (omega (arith, level-falls Depth.array (c .before .before .before .before .before .before .before .before .before .before .before .before .before .before .before .before .args .context .depths) (c .before .before .before .before .before .inc-array .result) (c .before .before .before .before .before .inc-array .ensures) (c .before .before .before .before .if2 .left), c .before .before .before .before .before .before .before .before .before .before .before .before .before .before .before .before .pre .0), ((item-at _ _ _ (c .before .before .before .before .before .before .before .before .before .before .before .before .before .before .before .before .pre .1 .0) (c .before .before .before .before .before .before .before .before .before .before .before .before .before .before .before .before .pre .1 .1) _ (c .before .before .before .before .before .before .before .before .before .item-of .ensures)) .repeated, c .before .before .if3 .taken, raised-shallow Depth.array _ _ (c .before .before .before .before .before .inc-array .ensures) _ (c .before .before .before .before .if2 .left), record { within = c .before .before .before .before .before .before .before .plain-at .ensures .here (not-false _ (c .before .before .before .before .before .before .if1 .left)) .whole; near = c .before .before .before .before .before .before .before .before .before .before .before .before .before .before .before .before .pre .1 .3 .near; few = c .before .before .before .before .before .before .before .before .before .before .before .before .before .before .before .before .pre .1 .3 .few }))
 
--- src/lib.rt:183:13
+-- src/lib.rt:185:13
 array-ended-requires : (t : ℕ) → array-lts.Need-ended-requires (
   item-of-reads.Asked,
   item-of-reads.Learnt,
@@ -426,7 +428,7 @@ array-ended-requires : (t : ℕ) → array-lts.Need-ended-requires (
 ) (array-at t) array.Post
 array-ended-requires t c κs = λ z. row-bounds z (c .before .before .before .before .entries .ensures) .within
 
--- src/lib.rt:184:9
+-- src/lib.rt:186:9
 array-array-end-requires : (t : ℕ) → array-lts.Need-array-end-requires (
   item-of-reads.Asked,
   item-of-reads.Learnt,
@@ -449,7 +451,7 @@ array-array-end-requires : (t : ℕ) → array-lts.Need-array-end-requires (
 ) (array-at t) array.Post
 array-array-end-requires t c κs = (c .before .before .before .before .before .before .before .before .before .before .before .before .before .before .before .before .before .before .before .before .before .before .before .before .pre .1 .3 .near, c .before .before .before .before .before .before .before .before .before .before .before .before .before .before .before .before .before .before .before .before .before .before .before .before .pre .1 .3 .few, λ z. row-bounds z (c .before .before .ended .ensures _ _ _ _ _ _ _ _ _ _ _ (c .before .before .before .before .before .before .before .entries .ensures)) .small, λ z. row-bounds z (c .before .before .ended .ensures _ _ _ _ _ _ _ _ _ _ _ (c .before .before .before .before .before .before .before .entries .ensures)) .few)
 
--- src/lib.rt:184:9
+-- src/lib.rt:186:9
 array-same-length : (t : ℕ) → array-lts.Need-same-length (
   item-of-reads.Asked,
   item-of-reads.Learnt,
@@ -472,7 +474,7 @@ array-same-length : (t : ℕ) → array-lts.Need-same-length (
 ) (array-at t) array.Post
 array-same-length t c = search needs
 
--- src/lib.rt:184:9
+-- src/lib.rt:186:9
 array-same-length-2 : (t : ℕ) → array-lts.Need-same-length-2 (
   item-of-reads.Asked,
   item-of-reads.Learnt,
@@ -495,7 +497,7 @@ array-same-length-2 : (t : ℕ) → array-lts.Need-same-length-2 (
 ) (array-at t) array.Post
 array-same-length-2 t c = search needs
 
--- src/lib.rt:184:9
+-- src/lib.rt:186:9
 array-returns-3 : (t : ℕ) → array-lts.Need-returns-3 (
   item-of-reads.Asked,
   item-of-reads.Learnt,
@@ -518,7 +520,7 @@ array-returns-3 : (t : ℕ) → array-lts.Need-returns-3 (
 ) (array-at t) array.Post
 array-returns-3 t c = value-array _ _ _ _ (item-at _ _ _ (c .before .before .before .before .before .before .before .before .before .before .before .before .before .before .before .before .before .before .before .before .before .before .before .before .before .before .before .before .before .pre .1 .0) (c .before .before .before .before .before .before .before .before .before .before .before .before .before .before .before .before .before .before .before .before .before .before .before .before .before .before .before .before .before .pre .1 .1) _ (c .before .before .before .before .before .before .before .before .before .before .before .before .before .before .before .before .before .before .before .before .before .before .item-of .ensures)) _ _ _ (few-variants (c .before .before .before .before .before .before .before .before .before .before .before .before .before .before .before .before .before .before .before .before .before .before .before .before .before .before .before .before .before .pre .1 .2)) _ _ _ _ _ _ _ (c .before .before .before .before .before .before .before .before .before .before .before .before .before .before .before .before .before .before .before .before .before .item-kind .ensures) (c .before .before .before .before .before .before .before .before .before .before .before .before .before .before .before .before .before .before .before .before .plain-at .ensures .here (not-false _ (c .before .before .before .before .before .before .before .before .before .before .before .before .before .before .before .before .before .before .before .if1 .left))) _ (c .before .before .before .before .before .before .before .before .before .before .before .before .before .before .before .before .before .before .inc-array .ensures) _ _ _ (c .before .before .before .before .before .before .before .before .before .before .before .before .before .before .before .before .before .if2 .left) (item-shorter _ _ _ _ _ _) (c .before .before .before .before .array-end .ensures _ _ _ _ _ _ _ (omega arith) (omega arith) (c .before .before .before .before .before .before .before .ended .ensures _ _ _ _ _ _ _ _ _ _ _ (c .before .before .before .before .before .before .before .before .before .before .before .before .entries .ensures)))
 
--- src/lib.rt:186:9
+-- src/lib.rt:188:9
 array-elements-requires : (t : ℕ) → array-lts.Need-elements-requires (
   item-of-reads.Asked,
   item-of-reads.Learnt,
@@ -541,7 +543,7 @@ array-elements-requires : (t : ℕ) → array-lts.Need-elements-requires (
 ) (array-at t) array.Post
 array-elements-requires t c κs = (omega (arith, level-falls Depth.array (c .before .before .before .before .before .before .before .before .before .before .before .before .before .before .before .before .args .context .depths) (c .before .before .before .before .before .inc-array .result) (c .before .before .before .before .before .inc-array .ensures) (c .before .before .before .before .if2 .left), c .before .before .before .before .before .before .before .before .before .before .before .before .before .before .before .before .pre .0), ((item-at _ _ _ (c .before .before .before .before .before .before .before .before .before .before .before .before .before .before .before .before .pre .1 .0) (c .before .before .before .before .before .before .before .before .before .before .before .before .before .before .before .before .pre .1 .1) _ (c .before .before .before .before .before .before .before .before .before .item-of .ensures)) .repeated, c .before .before .if3 .left, raised-shallow Depth.array _ _ (c .before .before .before .before .before .inc-array .ensures) _ (c .before .before .before .before .if2 .left), record { within = c .before .before .before .before .before .before .before .plain-at .ensures .here (not-false _ (c .before .before .before .before .before .before .if1 .left)) .whole; near = c .before .before .before .before .before .before .before .before .before .before .before .before .before .before .before .before .pre .1 .3 .near; few = c .before .before .before .before .before .before .before .before .before .before .before .before .before .before .before .before .pre .1 .3 .few }))
 
--- src/lib.rt:187:9
+-- src/lib.rt:189:9
 array-ended-requires-2 : (t : ℕ) → array-lts.Need-ended-requires-2 (
   item-of-reads.Asked,
   item-of-reads.Learnt,
@@ -564,7 +566,7 @@ array-ended-requires-2 : (t : ℕ) → array-lts.Need-ended-requires-2 (
 ) (array-at t) array.Post
 array-ended-requires-2 t c κs = λ z. row-bounds z (c .before .before .before .before .elements .ensures) .within
 
--- src/lib.rt:188:5
+-- src/lib.rt:190:5
 array-array-end-requires-2 : (t : ℕ) → array-lts.Need-array-end-requires-2 (
   item-of-reads.Asked,
   item-of-reads.Learnt,
@@ -587,7 +589,7 @@ array-array-end-requires-2 : (t : ℕ) → array-lts.Need-array-end-requires-2 (
 ) (array-at t) array.Post
 array-array-end-requires-2 t c κs = (c .before .before .before .before .before .before .before .before .before .before .before .before .before .before .before .before .before .before .before .before .before .before .before .before .pre .1 .3 .near, c .before .before .before .before .before .before .before .before .before .before .before .before .before .before .before .before .before .before .before .before .before .before .before .before .pre .1 .3 .few, λ z. row-bounds z (c .before .before .ended2 .ensures _ _ _ _ _ _ _ _ _ _ _ (c .before .before .before .before .before .before .before .elements .ensures)) .small, λ z. row-bounds z (c .before .before .ended2 .ensures _ _ _ _ _ _ _ _ _ _ _ (c .before .before .before .before .before .before .before .elements .ensures)) .few)
 
--- src/lib.rt:146:1
+-- src/lib.rt:148:1
 array-same-length-3 : (t : ℕ) → array-lts.Need-same-length-3 (
   item-of-reads.Asked,
   item-of-reads.Learnt,
@@ -610,7 +612,7 @@ array-same-length-3 : (t : ℕ) → array-lts.Need-same-length-3 (
 ) (array-at t) array.Post
 array-same-length-3 t c = search needs
 
--- src/lib.rt:146:1
+-- src/lib.rt:148:1
 array-same-length-4 : (t : ℕ) → array-lts.Need-same-length-4 (
   item-of-reads.Asked,
   item-of-reads.Learnt,
@@ -633,7 +635,7 @@ array-same-length-4 : (t : ℕ) → array-lts.Need-same-length-4 (
 ) (array-at t) array.Post
 array-same-length-4 t c = search needs
 
--- src/lib.rt:146:1
+-- src/lib.rt:148:1
 array-returns-4 : (t : ℕ) → array-lts.Need-returns-4 (
   item-of-reads.Asked,
   item-of-reads.Learnt,
@@ -657,13 +659,17 @@ array-returns-4 : (t : ℕ) → array-lts.Need-returns-4 (
 array-returns-4 t c = value-array _ _ _ _ (item-at _ _ _ (c .before .before .before .before .before .before .before .before .before .before .before .before .before .before .before .before .before .before .before .before .before .before .before .before .before .before .before .before .before .pre .1 .0) (c .before .before .before .before .before .before .before .before .before .before .before .before .before .before .before .before .before .before .before .before .before .before .before .before .before .before .before .before .before .pre .1 .1) _ (c .before .before .before .before .before .before .before .before .before .before .before .before .before .before .before .before .before .before .before .before .before .before .item-of .ensures)) _ _ _ (few-variants (c .before .before .before .before .before .before .before .before .before .before .before .before .before .before .before .before .before .before .before .before .before .before .before .before .before .before .before .before .before .pre .1 .2)) _ _ _ _ _ _ _ (c .before .before .before .before .before .before .before .before .before .before .before .before .before .before .before .before .before .before .before .before .before .item-kind .ensures) (c .before .before .before .before .before .before .before .before .before .before .before .before .before .before .before .before .before .before .before .before .plain-at .ensures .here (not-false _ (c .before .before .before .before .before .before .before .before .before .before .before .before .before .before .before .before .before .before .before .if1 .left))) _ (c .before .before .before .before .before .before .before .before .before .before .before .before .before .before .before .before .before .before .inc-array .ensures) _ _ _ (c .before .before .before .before .before .before .before .before .before .before .before .before .before .before .before .before .before .if2 .left) (item-shorter _ _ _ _ _ _) (c .before .before .before .before .array-end2 .ensures _ _ _ _ _ _ _ (omega arith) (omega arith) (c .before .before .before .before .before .before .before .ended2 .ensures _ _ _ _ _ _ _ _ _ _ _ (c .before .before .before .before .before .before .before .before .before .before .before .before .elements .ensures)))
 
 abbrev elements-Inv-loop : elements-lts.InvT-loop
-elements-Inv-loop text shapes item events texts context out₀ ends₀ base top child e₀ k₀ j₀ out ends e k j = Left (item .fixed) (itemIn context texts text item) events e₀ base top out₀ ends₀ e k j out ends
+elements-Inv-loop text shapes item events texts context out₀ ends₀ child′ base top e₀ k₀ j₀ out ends e k j = Left (item .fixed) (itemIn context texts text item) events e₀ base top out₀ ends₀ e k j out ends
 
 abbrev elements-μ-loop : elements-lts.MeasureT-loop
-elements-μ-loop text shapes item events texts context out₀ ends₀ base top child e₀ k₀ j₀ out ends e k j = length events - e
+elements-μ-loop text shapes item events texts context out₀ ends₀ child′ base top e₀ k₀ j₀ out ends e k j = length events - e
 
--- src/lib.rt:212:5
-elements-loop-holds : (t : ℕ) → elements-lts.Need-loop-holds (
+-- src/lib.rt:211:13
+elements-enum-told : (t : ℕ) → elements-lts.Need-enum-told (
+  basics-reads.Asked,
+  basics-reads.Learnt,
+  readings-reads.Asked,
+  readings-reads.Learnt,
   ran-reads.Asked,
   ran-reads.Learnt,
   pad-reads.Asked,
@@ -677,10 +683,14 @@ elements-loop-holds : (t : ℕ) → elements-lts.Need-loop-holds (
   keep-reads.Asked,
   keep-reads.Learnt,
 ) (elements-at t) elements.Post elements-Inv-loop elements-μ-loop
-elements-loop-holds t c = left-all _ _ _ _ _ _ _ _ (c .before .before .before .before .before .before .before .pre .1 .3 .within)
+elements-enum-told t c = search needs
 
--- src/lib.rt:212:16
-elements-sub-loop : (t : ℕ) → elements-lts.Need-sub-loop (
+-- src/lib.rt:213:13
+elements-basics-requires : (t : ℕ) → elements-lts.Need-basics-requires (
+  basics-reads.Asked,
+  basics-reads.Learnt,
+  readings-reads.Asked,
+  readings-reads.Learnt,
   ran-reads.Asked,
   ran-reads.Learnt,
   pad-reads.Asked,
@@ -694,61 +704,14 @@ elements-sub-loop : (t : ℕ) → elements-lts.Need-sub-loop (
   keep-reads.Asked,
   keep-reads.Learnt,
 ) (elements-at t) elements.Post elements-Inv-loop elements-μ-loop
-elements-sub-loop t c = omega (arith, c .loop .inv .within)
+elements-basics-requires t c κs = ((held-number _ _ _ (c .before .before .before .before .before .before .before .before .before .before .before .before .pre .1 .0) (c .before .before .before .before .before .before .before .before .before .before .before .before .pre .1 .1) _ _ (c .before .before .before .enum-told .given .1)) .key, sym ((held-number _ _ _ (c .before .before .before .before .before .before .before .before .before .before .before .before .pre .1 .0) (c .before .before .before .before .before .before .before .before .before .before .before .before .pre .1 .1) _ _ (c .before .before .before .enum-told .given .1)) .whole), alone-basic _ _ _ (c .before .before .before .before .before .before .before .before .before .before .before .before .pre .1 .0) (c .before .before .before .before .before .before .before .before .before .before .before .before .pre .1 .1) _ ((held-number _ _ _ (c .before .before .before .before .before .before .before .before .before .before .before .before .pre .1 .0) (c .before .before .before .before .before .before .before .before .before .before .before .before .pre .1 .1) _ _ (c .before .before .before .enum-told .given .1)) .plain (c .before .before .if1 .taken)), c .before .before .before .before .before .before .before .before .before .before .before .before .pre .1 .3)
 
--- src/lib.rt:213:12
-elements-mul-if1 : (t : ℕ) → elements-lts.Need-mul-if1 (
-  ran-reads.Asked,
-  ran-reads.Learnt,
-  pad-reads.Asked,
-  pad-reads.Learnt,
-  add-reads.Asked,
-  add-reads.Learnt,
-  value-below t,
-  value.Post,
-  stopped-reads.Asked,
-  stopped-reads.Learnt,
-  keep-reads.Asked,
-  keep-reads.Learnt,
-) (elements-at t) elements.Post elements-Inv-loop elements-μ-loop
-elements-mul-if1 t c = omega arith
-
--- src/lib.rt:213:12
-elements-shared-slice-read-if1 : (t : ℕ) → elements-lts.Need-shared-slice-read-if1 (
-  ran-reads.Asked,
-  ran-reads.Learnt,
-  pad-reads.Asked,
-  pad-reads.Learnt,
-  add-reads.Asked,
-  add-reads.Learnt,
-  value-below t,
-  value.Post,
-  stopped-reads.Asked,
-  stopped-reads.Learnt,
-  keep-reads.Asked,
-  keep-reads.Learnt,
-) (elements-at t) elements.Post elements-Inv-loop elements-μ-loop
-elements-shared-slice-read-if1 t c = (omega (arith, c .before .before .loop .inv .within, c .before .loop-test .taken))
-
--- src/lib.rt:214:13
-elements-ran-requires : (t : ℕ) → elements-lts.Need-ran-requires (
-  ran-reads.Asked,
-  ran-reads.Learnt,
-  pad-reads.Asked,
-  pad-reads.Learnt,
-  add-reads.Asked,
-  add-reads.Learnt,
-  value-below t,
-  value.Post,
-  stopped-reads.Asked,
-  stopped-reads.Learnt,
-  keep-reads.Asked,
-  keep-reads.Learnt,
-) (elements-at t) elements.Post elements-Inv-loop elements-μ-loop
-elements-ran-requires t c κs = search needs
-
--- src/lib.rt:214:13
+-- src/lib.rt:213:13
 elements-same-length : (t : ℕ) → elements-lts.Need-same-length (
+  basics-reads.Asked,
+  basics-reads.Learnt,
+  readings-reads.Asked,
+  readings-reads.Learnt,
   ran-reads.Asked,
   ran-reads.Learnt,
   pad-reads.Asked,
@@ -764,8 +727,12 @@ elements-same-length : (t : ℕ) → elements-lts.Need-same-length (
 ) (elements-at t) elements.Post elements-Inv-loop elements-μ-loop
 elements-same-length t c = search needs
 
--- src/lib.rt:214:13
+-- src/lib.rt:213:13
 elements-same-length-2 : (t : ℕ) → elements-lts.Need-same-length-2 (
+  basics-reads.Asked,
+  basics-reads.Learnt,
+  readings-reads.Asked,
+  readings-reads.Learnt,
   ran-reads.Asked,
   ran-reads.Learnt,
   pad-reads.Asked,
@@ -781,8 +748,12 @@ elements-same-length-2 : (t : ℕ) → elements-lts.Need-same-length-2 (
 ) (elements-at t) elements.Post elements-Inv-loop elements-μ-loop
 elements-same-length-2 t c = search needs
 
--- src/lib.rt:214:13
+-- src/lib.rt:213:13
 elements-returns : (t : ℕ) → elements-lts.Need-returns (
+  basics-reads.Asked,
+  basics-reads.Learnt,
+  readings-reads.Asked,
+  readings-reads.Learnt,
   ran-reads.Asked,
   ran-reads.Learnt,
   pad-reads.Asked,
@@ -796,10 +767,14 @@ elements-returns : (t : ℕ) → elements-lts.Need-returns (
   keep-reads.Asked,
   keep-reads.Learnt,
 ) (elements-at t) elements.Post elements-Inv-loop elements-μ-loop
-elements-returns t c = rw (c .ran .ensures) (left-shut _ _ _ _ _ _ _ _ _ _ _ _ _ (c .before .before .before .before .loop .inv) (omega (arith, c .before .before .before .before .loop .inv .within, c .before .before .before .loop-test .taken)) (c .before .if1 .taken))
+elements-returns t c = items-basic _ _ _ _ _ _ (c .before .before .before .before .before .before .before .before .before .before .before .before .before .before .before .before .before .pre .1 .1) _ _ _ _ _ _ _ _ _ _ _ _ true ((held-number _ _ _ (c .before .before .before .before .before .before .before .before .before .before .before .before .before .before .before .before .before .pre .1 .0) (c .before .before .before .before .before .before .before .before .before .before .before .before .before .before .before .before .before .pre .1 .1) _ _ (c .before .before .before .before .before .before .before .before .enum-told .given .1)) .plain (c .before .before .before .before .before .before .before .if1 .taken)) (c .before .before .before .before .before .before .before .if1 .taken) (c .before .before .before .before .basics .ensures)
 
--- src/lib.rt:216:26
-elements-add-pad : (t : ℕ) → elements-lts.Need-add-pad (
+-- src/lib.rt:225:9
+elements-readings-requires : (t : ℕ) → elements-lts.Need-readings-requires (
+  basics-reads.Asked,
+  basics-reads.Learnt,
+  readings-reads.Asked,
+  readings-reads.Learnt,
   ran-reads.Asked,
   ran-reads.Learnt,
   pad-reads.Asked,
@@ -813,112 +788,14 @@ elements-add-pad : (t : ℕ) → elements-lts.Need-add-pad (
   keep-reads.Asked,
   keep-reads.Learnt,
 ) (elements-at t) elements.Post elements-Inv-loop elements-μ-loop
-elements-add-pad t c = omega (arith, c .before .before .before .before .loop .inv .small, c .before .before .before .before .before .before .before .before .before .before .before .before .pre .1 .3 .near)
+elements-readings-requires t c κs = ((held-number _ _ _ (c .before .before .before .before .before .before .before .before .before .before .before .before .pre .1 .0) (c .before .before .before .before .before .before .before .before .before .before .before .before .pre .1 .1) _ _ (c .before .before .before .enum-told .given .1)) .key, (held-number _ _ _ (c .before .before .before .before .before .before .before .before .before .before .before .before .pre .1 .0) (c .before .before .before .before .before .before .before .before .before .before .before .before .pre .1 .1) _ _ (c .before .before .before .enum-told .given .1)) .whole, alone-reading _ _ _ (c .before .before .before .before .before .before .before .before .before .before .before .before .pre .1 .0) (c .before .before .before .before .before .before .before .before .before .before .before .before .pre .1 .1) _ ((held-number _ _ _ (c .before .before .before .before .before .before .before .before .before .before .before .before .pre .1 .0) (c .before .before .before .before .before .before .before .before .before .before .before .before .pre .1 .1) _ _ (c .before .before .before .enum-told .given .1)) .held (c .before .before .if1 .left)), c .before .before .before .before .before .before .before .before .before .before .before .before .pre .1 .3)
 
--- src/lib.rt:216:13
-elements-pad-requires : (t : ℕ) → elements-lts.Need-pad-requires (
-  ran-reads.Asked,
-  ran-reads.Learnt,
-  pad-reads.Asked,
-  pad-reads.Learnt,
-  add-reads.Asked,
-  add-reads.Learnt,
-  value-below t,
-  value.Post,
-  stopped-reads.Asked,
-  stopped-reads.Learnt,
-  keep-reads.Asked,
-  keep-reads.Learnt,
-) (elements-at t) elements.Post elements-Inv-loop elements-μ-loop
-elements-pad-requires t c κs = (omega (arith, c .before .before .before .before .loop .inv .small, c .before .before .before .before .before .before .before .before .before .before .before .before .pre .1 .3 .near), c .before .before .before .before .before .before .before .before .before .before .before .before .pre .1 .0 .aligned)
-
--- src/lib.rt:219:30
-elements-add-add : (t : ℕ) → elements-lts.Need-add-add (
-  ran-reads.Asked,
-  ran-reads.Learnt,
-  pad-reads.Asked,
-  pad-reads.Learnt,
-  add-reads.Asked,
-  add-reads.Learnt,
-  value-below t,
-  value.Post,
-  stopped-reads.Asked,
-  stopped-reads.Learnt,
-  keep-reads.Asked,
-  keep-reads.Learnt,
-) (elements-at t) elements.Post elements-Inv-loop elements-μ-loop
-elements-add-add t c = omega (arith, c .before .before .before .before .before .before .before .loop .inv .small, c .before .before .pad .ensures .0 .1)
-
--- src/lib.rt:219:20
-elements-add-requires : (t : ℕ) → elements-lts.Need-add-requires (
-  ran-reads.Asked,
-  ran-reads.Learnt,
-  pad-reads.Asked,
-  pad-reads.Learnt,
-  add-reads.Asked,
-  add-reads.Learnt,
-  value-below t,
-  value.Post,
-  stopped-reads.Asked,
-  stopped-reads.Learnt,
-  keep-reads.Asked,
-  keep-reads.Learnt,
-) (elements-at t) elements.Post elements-Inv-loop elements-μ-loop
-elements-add-requires t c κs = search needs
-
--- src/lib.rt:220:18
-elements-add-requires-2 : (t : ℕ) → elements-lts.Need-add-requires-2 (
-  ran-reads.Asked,
-  ran-reads.Learnt,
-  pad-reads.Asked,
-  pad-reads.Learnt,
-  add-reads.Asked,
-  add-reads.Learnt,
-  value-below t,
-  value.Post,
-  stopped-reads.Asked,
-  stopped-reads.Learnt,
-  keep-reads.Asked,
-  keep-reads.Learnt,
-) (elements-at t) elements.Post elements-Inv-loop elements-μ-loop
-elements-add-requires-2 t c κs = search needs
-
--- src/lib.rt:222:13
-elements-value-requires : (t : ℕ) → elements-lts.Need-value-requires (
-  ran-reads.Asked,
-  ran-reads.Learnt,
-  pad-reads.Asked,
-  pad-reads.Learnt,
-  add-reads.Asked,
-  add-reads.Learnt,
-  value-below t,
-  value.Post,
-  stopped-reads.Asked,
-  stopped-reads.Learnt,
-  keep-reads.Asked,
-  keep-reads.Learnt,
-) (elements-at t) elements.Post elements-Inv-loop elements-μ-loop
-elements-value-requires t c κs = (omega (arith, c .before .before .before .before .before .before .before .before .before .before .before .before .before .before .before .before .before .before .before .pre .0), (c .before .before .before .before .before .before .before .before .before .before .before .before .before .before .before .before .before .before .before .pre .1 .0 .child, c .before .before .before .before .before .before .before .before .before .before .before .before .before .before .before .before .before .before .before .pre .1 .2, record { within = c .before .before .before .before .before .before .before .before .before .before .before .loop .inv .within; near = omega (arith, c .before .before .before .add .ensures); few = omega (arith, c .before .before .add2 .ensures) }))
-
--- src/lib.rt:235:13
-elements-stopped-requires : (t : ℕ) → elements-lts.Need-stopped-requires (
-  ran-reads.Asked,
-  ran-reads.Learnt,
-  pad-reads.Asked,
-  pad-reads.Learnt,
-  add-reads.Asked,
-  add-reads.Learnt,
-  value-below t,
-  value.Post,
-  stopped-reads.Asked,
-  stopped-reads.Learnt,
-  keep-reads.Asked,
-  keep-reads.Learnt,
-) (elements-at t) elements.Post elements-Inv-loop elements-μ-loop
-elements-stopped-requires t c κs = search needs
-
--- src/lib.rt:235:13
+-- src/lib.rt:225:9
 elements-same-length-3 : (t : ℕ) → elements-lts.Need-same-length-3 (
+  basics-reads.Asked,
+  basics-reads.Learnt,
+  readings-reads.Asked,
+  readings-reads.Learnt,
   ran-reads.Asked,
   ran-reads.Learnt,
   pad-reads.Asked,
@@ -934,8 +811,12 @@ elements-same-length-3 : (t : ℕ) → elements-lts.Need-same-length-3 (
 ) (elements-at t) elements.Post elements-Inv-loop elements-μ-loop
 elements-same-length-3 t c = search needs
 
--- src/lib.rt:235:13
+-- src/lib.rt:225:9
 elements-same-length-4 : (t : ℕ) → elements-lts.Need-same-length-4 (
+  basics-reads.Asked,
+  basics-reads.Learnt,
+  readings-reads.Asked,
+  readings-reads.Learnt,
   ran-reads.Asked,
   ran-reads.Learnt,
   pad-reads.Asked,
@@ -951,8 +832,12 @@ elements-same-length-4 : (t : ℕ) → elements-lts.Need-same-length-4 (
 ) (elements-at t) elements.Post elements-Inv-loop elements-μ-loop
 elements-same-length-4 t c = search needs
 
--- src/lib.rt:235:13
+-- src/lib.rt:225:9
 elements-returns-2 : (t : ℕ) → elements-lts.Need-returns-2 (
+  basics-reads.Asked,
+  basics-reads.Learnt,
+  readings-reads.Asked,
+  readings-reads.Learnt,
   ran-reads.Asked,
   ran-reads.Learnt,
   pad-reads.Asked,
@@ -966,10 +851,14 @@ elements-returns-2 : (t : ℕ) → elements-lts.Need-returns-2 (
   keep-reads.Asked,
   keep-reads.Learnt,
 ) (elements-at t) elements.Post elements-Inv-loop elements-μ-loop
-elements-returns-2 t c = rw (c .stopped .ensures) (left-stop _ _ _ _ _ _ _ _ _ _ _ _ _ (c .before .before .before .before .before .before .before .before .before .before .before .before .before .before .before .before .before .before .loop .inv) (omega (arith, c .before .before .before .before .before .before .before .before .before .before .before .before .before .before .before .before .before .before .loop .inv .within, c .before .before .before .before .before .before .before .before .before .before .before .before .before .before .before .before .before .loop-test .taken)) (c .before .before .before .before .before .before .before .before .before .before .before .before .before .before .before .if1 .left) _ _ _ _ _ _ (item-as-value _ _ _ _ _ _ _ _ _ _ _ _ _ _ _ (c .before .before .before .before .before .before .before .before .before .before .before .before .before .before .before .before .before .before .before .before .before .before .before .before .before .before .pre .1 .1) (c .before .before .before .before .before .before .value .ensures)) (c .before .if2 .taken))
+elements-returns-2 t c = items-reading _ _ _ _ _ _ (c .before .before .before .before .before .before .before .before .before .before .before .before .before .before .before .before .before .pre .1 .1) _ _ _ _ _ _ _ _ _ _ _ _ ((held-number _ _ _ (c .before .before .before .before .before .before .before .before .before .before .before .before .before .before .before .before .before .pre .1 .0) (c .before .before .before .before .before .before .before .before .before .before .before .before .before .before .before .before .before .pre .1 .1) _ _ (c .before .before .before .before .before .before .before .before .enum-told .given .1)) .held (c .before .before .before .before .before .before .before .if1 .left)) ((held-number _ _ _ (c .before .before .before .before .before .before .before .before .before .before .before .before .before .before .before .before .before .pre .1 .0) (c .before .before .before .before .before .before .before .before .before .before .before .before .before .before .before .before .before .pre .1 .1) _ _ (c .before .before .before .before .before .before .before .before .enum-told .given .1)) .whole) (c .before .before .before .before .before .before .before .if1 .left) (c .before .before .before .before .readings .ensures)
 
--- src/lib.rt:237:17
-elements-add-add-2 : (t : ℕ) → elements-lts.Need-add-add-2 (
+-- src/lib.rt:246:13
+elements-enum-told-2 : (t : ℕ) → elements-lts.Need-enum-told-2 (
+  basics-reads.Asked,
+  basics-reads.Learnt,
+  readings-reads.Asked,
+  readings-reads.Learnt,
   ran-reads.Asked,
   ran-reads.Learnt,
   pad-reads.Asked,
@@ -983,10 +872,14 @@ elements-add-add-2 : (t : ℕ) → elements-lts.Need-add-add-2 (
   keep-reads.Asked,
   keep-reads.Learnt,
 ) (elements-at t) elements.Post elements-Inv-loop elements-μ-loop
-elements-add-add-2 t c = omega (arith, c .before .before .before .before .before .before .before .before .before .before .before .before .before .before .before .before .before .loop .inv .small, c .before .before .before .before .before .before .before .before .before .before .before .before .pad .ensures .0 .1)
+elements-enum-told-2 t c = search needs
 
--- src/lib.rt:237:9
-elements-add-requires-3 : (t : ℕ) → elements-lts.Need-add-requires-3 (
+-- src/lib.rt:238:9
+elements-basics-requires-2 : (t : ℕ) → elements-lts.Need-basics-requires-2 (
+  basics-reads.Asked,
+  basics-reads.Learnt,
+  readings-reads.Asked,
+  readings-reads.Learnt,
   ran-reads.Asked,
   ran-reads.Learnt,
   pad-reads.Asked,
@@ -1000,78 +893,14 @@ elements-add-requires-3 : (t : ℕ) → elements-lts.Need-add-requires-3 (
   keep-reads.Asked,
   keep-reads.Learnt,
 ) (elements-at t) elements.Post elements-Inv-loop elements-μ-loop
-elements-add-requires-3 t c κs = search needs
+elements-basics-requires-2 t c κs = ((held-text _ _ _ (c .before .before .before .before .before .before .before .before .before .before .before .before .pre .1 .0) (c .before .before .before .before .before .before .before .before .before .before .before .before .pre .1 .1) _ (c .before .before .enum-told2 .given .1)) .key, sym ((held-text _ _ _ (c .before .before .before .before .before .before .before .before .before .before .before .before .pre .1 .0) (c .before .before .before .before .before .before .before .before .before .before .before .before .pre .1 .1) _ (c .before .before .enum-told2 .given .1)) .loose), alone-basic _ _ _ (c .before .before .before .before .before .before .before .before .before .before .before .before .pre .1 .0) (c .before .before .before .before .before .before .before .before .before .before .before .before .pre .1 .1) _ ((held-text _ _ _ (c .before .before .before .before .before .before .before .before .before .before .before .before .pre .1 .0) (c .before .before .before .before .before .before .before .before .before .before .before .before .pre .1 .1) _ (c .before .before .enum-told2 .given .1)) .tree), c .before .before .before .before .before .before .before .before .before .before .before .before .pre .1 .3)
 
--- src/lib.rt:239:9
-elements-keep-requires : (t : ℕ) → elements-lts.Need-keep-requires (
-  ran-reads.Asked,
-  ran-reads.Learnt,
-  pad-reads.Asked,
-  pad-reads.Learnt,
-  add-reads.Asked,
-  add-reads.Learnt,
-  value-below t,
-  value.Post,
-  stopped-reads.Asked,
-  stopped-reads.Learnt,
-  keep-reads.Asked,
-  keep-reads.Learnt,
-) (elements-at t) elements.Post elements-Inv-loop elements-μ-loop
-elements-keep-requires t c κs = omega (arith, c .before .before .before .before .before .before .before .before .before .before .before .before .before .before .before .before .before .before .before .before .loop .inv .few, c .before .before .before .before .before .before .before .before .before .before .before .before .before .before .before .before .before .before .before .before .before .before .before .before .before .before .before .before .pre .1 .3 .few)
-
--- src/lib.rt:212:5
-elements-loop-less : (t : ℕ) → elements-lts.Need-loop-less (
-  ran-reads.Asked,
-  ran-reads.Learnt,
-  pad-reads.Asked,
-  pad-reads.Learnt,
-  add-reads.Asked,
-  add-reads.Learnt,
-  value-below t,
-  value.Post,
-  stopped-reads.Asked,
-  stopped-reads.Learnt,
-  keep-reads.Asked,
-  keep-reads.Learnt,
-) (elements-at t) elements.Post elements-Inv-loop elements-μ-loop
-elements-loop-less t c = let q = bounds (c .before .before .before .before .before .before .before .before .if2 .left) (c .before .before .before .before .before .before .before .before .before .before .before .before .before .value .ensures) in omega (arith, q .forward, q .within)
-
--- src/lib.rt:212:5
-elements-loop-again : (t : ℕ) → elements-lts.Need-loop-again (
-  ran-reads.Asked,
-  ran-reads.Learnt,
-  pad-reads.Asked,
-  pad-reads.Learnt,
-  add-reads.Asked,
-  add-reads.Learnt,
-  value-below t,
-  value.Post,
-  stopped-reads.Asked,
-  stopped-reads.Learnt,
-  keep-reads.Asked,
-  keep-reads.Learnt,
-) (elements-at t) elements.Post elements-Inv-loop elements-μ-loop
-elements-loop-again t c = left-on _ _ _ _ _ _ _ _ _ _ _ _ _ (c .before .before .before .before .before .before .before .before .before .before .before .before .before .before .before .before .before .before .before .before .before .before .before .before .before .loop .inv) (omega (arith, c .before .before .before .before .before .before .before .before .before .before .before .before .before .before .before .before .before .before .before .before .before .before .before .before .before .loop .inv .within, c .before .before .before .before .before .before .before .before .before .before .before .before .before .before .before .before .before .before .before .before .before .before .before .before .loop-test .taken)) (c .before .before .before .before .before .before .before .before .before .before .before .before .before .before .before .before .before .before .before .before .before .before .if1 .left) _ _ _ _ _ _ (item-as-value _ _ _ _ _ _ _ _ _ _ _ _ _ _ _ (c .before .before .before .before .before .before .before .before .before .before .before .before .before .before .before .before .before .before .before .before .before .before .before .before .before .before .before .before .before .before .before .before .before .pre .1 .1) (c .before .before .before .before .before .before .before .before .before .before .before .before .before .value .ensures)) _ _ _ _ _ _ (item-shorter _ _ _ _ _ _) (item-alignment _ _ _ _ _ _ (c .before .before .before .before .before .before .before .before .before .before .before .before .before .before .before .before .before .before .before .before .before .before .before .before .before .before .before .before .before .before .before .before .before .pre .1 .0) _ _) (c .before .before .before .before .before .before .before .before .if2 .left) (c .before .before .before .before .before .before .before .before .before .before .before .before .before .before .before .before .before .before .before .before .pad .ensures .0 .0) (c .before .before .before .before .before .before .before .before .before .before .before .before .before .before .before .before .before .before .before .before .pad .ensures .1) (c .before .before .before .before .before .before .before .before .before .before .before .before .before .before .before .before .before .add .ensures) (c .before .before .before .before .before .before .before .before .before .before .before .before .before .before .before .before .add2 .ensures) (c .before .before .before .before .before .before .before .add3 .ensures) (c .before .before .before .before .keep .ensures) (omega (arith, c .before .before .before .before .before .before .before .before .before .before .before .before .before .before .before .before .before .before .before .before .before .before .before .before .before .loop .inv .same)) (omega (arith, c .before .before .before .before .before .before .before .before .before .before .before .before .before .before .before .before .before .before .before .before .before .before .before .before .before .loop .inv .same)) (omega (arith, c .before .before .before .before .before .before .before .before .before .before .before .before .before .before .before .before .before .before .before .before .before .before .before .before .before .loop .inv .sames)) (omega (arith, c .before .before .before .before .before .before .before .before .before .before .before .before .before .before .before .before .before .before .before .before .before .before .before .before .before .loop .inv .sames))
-
--- src/lib.rt:241:5
-elements-stopped-requires-2 : (t : ℕ) → elements-lts.Need-stopped-requires-2 (
-  ran-reads.Asked,
-  ran-reads.Learnt,
-  pad-reads.Asked,
-  pad-reads.Learnt,
-  add-reads.Asked,
-  add-reads.Learnt,
-  value-below t,
-  value.Post,
-  stopped-reads.Asked,
-  stopped-reads.Learnt,
-  keep-reads.Asked,
-  keep-reads.Learnt,
-) (elements-at t) elements.Post elements-Inv-loop elements-μ-loop
-elements-stopped-requires-2 t c κs = search needs
-
--- src/lib.rt:192:1
+-- src/lib.rt:238:9
 elements-same-length-5 : (t : ℕ) → elements-lts.Need-same-length-5 (
+  basics-reads.Asked,
+  basics-reads.Learnt,
+  readings-reads.Asked,
+  readings-reads.Learnt,
   ran-reads.Asked,
   ran-reads.Learnt,
   pad-reads.Asked,
@@ -1087,8 +916,12 @@ elements-same-length-5 : (t : ℕ) → elements-lts.Need-same-length-5 (
 ) (elements-at t) elements.Post elements-Inv-loop elements-μ-loop
 elements-same-length-5 t c = search needs
 
--- src/lib.rt:192:1
+-- src/lib.rt:238:9
 elements-same-length-6 : (t : ℕ) → elements-lts.Need-same-length-6 (
+  basics-reads.Asked,
+  basics-reads.Learnt,
+  readings-reads.Asked,
+  readings-reads.Learnt,
   ran-reads.Asked,
   ran-reads.Learnt,
   pad-reads.Asked,
@@ -1104,8 +937,12 @@ elements-same-length-6 : (t : ℕ) → elements-lts.Need-same-length-6 (
 ) (elements-at t) elements.Post elements-Inv-loop elements-μ-loop
 elements-same-length-6 t c = search needs
 
--- src/lib.rt:192:1
+-- src/lib.rt:238:9
 elements-returns-3 : (t : ℕ) → elements-lts.Need-returns-3 (
+  basics-reads.Asked,
+  basics-reads.Learnt,
+  readings-reads.Asked,
+  readings-reads.Learnt,
   ran-reads.Asked,
   ran-reads.Learnt,
   pad-reads.Asked,
@@ -1119,7 +956,574 @@ elements-returns-3 : (t : ℕ) → elements-lts.Need-returns-3 (
   keep-reads.Asked,
   keep-reads.Learnt,
 ) (elements-at t) elements.Post elements-Inv-loop elements-μ-loop
-elements-returns-3 t c = rw (c .stopped2 .ensures) (left-short _ _ _ _ _ _ _ _ _ _ _ _ _ (c .before .before .loop .inv) (omega (arith, c .before .before .loop .inv .within, c .before .loop-test .left)))
+elements-returns-3 t c = items-basic _ _ _ _ _ _ (c .before .before .before .before .before .before .before .before .before .before .before .before .before .before .before .before .before .pre .1 .1) _ _ _ _ _ _ _ _ _ _ _ _ false ((held-text _ _ _ (c .before .before .before .before .before .before .before .before .before .before .before .before .before .before .before .before .before .pre .1 .0) (c .before .before .before .before .before .before .before .before .before .before .before .before .before .before .before .before .before .pre .1 .1) _ (c .before .before .before .before .before .before .before .enum-told2 .given .1)) .tree) ((held-text _ _ _ (c .before .before .before .before .before .before .before .before .before .before .before .before .before .before .before .before .before .pre .1 .0) (c .before .before .before .before .before .before .before .before .before .before .before .before .before .before .before .before .before .pre .1 .1) _ (c .before .before .before .before .before .before .before .enum-told2 .given .1)) .same-fixed) (c .before .before .before .before .basics2 .ensures)
+
+-- src/lib.rt:255:5
+elements-loop-holds : (t : ℕ) → elements-lts.Need-loop-holds (
+  basics-reads.Asked,
+  basics-reads.Learnt,
+  readings-reads.Asked,
+  readings-reads.Learnt,
+  ran-reads.Asked,
+  ran-reads.Learnt,
+  pad-reads.Asked,
+  pad-reads.Learnt,
+  add-reads.Asked,
+  add-reads.Learnt,
+  value-below t,
+  value.Post,
+  stopped-reads.Asked,
+  stopped-reads.Learnt,
+  keep-reads.Asked,
+  keep-reads.Learnt,
+) (elements-at t) elements.Post elements-Inv-loop elements-μ-loop
+elements-loop-holds t c = left-all _ _ _ _ _ _ _ _ (c .before .before .before .before .before .before .before .before .before .pre .1 .3 .within)
+
+-- src/lib.rt:255:16
+elements-sub-loop : (t : ℕ) → elements-lts.Need-sub-loop (
+  basics-reads.Asked,
+  basics-reads.Learnt,
+  readings-reads.Asked,
+  readings-reads.Learnt,
+  ran-reads.Asked,
+  ran-reads.Learnt,
+  pad-reads.Asked,
+  pad-reads.Learnt,
+  add-reads.Asked,
+  add-reads.Learnt,
+  value-below t,
+  value.Post,
+  stopped-reads.Asked,
+  stopped-reads.Learnt,
+  keep-reads.Asked,
+  keep-reads.Learnt,
+) (elements-at t) elements.Post elements-Inv-loop elements-μ-loop
+elements-sub-loop t c = omega (arith, c .loop .inv .within)
+
+-- src/lib.rt:256:12
+elements-mul-if2 : (t : ℕ) → elements-lts.Need-mul-if2 (
+  basics-reads.Asked,
+  basics-reads.Learnt,
+  readings-reads.Asked,
+  readings-reads.Learnt,
+  ran-reads.Asked,
+  ran-reads.Learnt,
+  pad-reads.Asked,
+  pad-reads.Learnt,
+  add-reads.Asked,
+  add-reads.Learnt,
+  value-below t,
+  value.Post,
+  stopped-reads.Asked,
+  stopped-reads.Learnt,
+  keep-reads.Asked,
+  keep-reads.Learnt,
+) (elements-at t) elements.Post elements-Inv-loop elements-μ-loop
+elements-mul-if2 t c = omega arith
+
+-- src/lib.rt:256:12
+elements-shared-slice-read-if2 : (t : ℕ) → elements-lts.Need-shared-slice-read-if2 (
+  basics-reads.Asked,
+  basics-reads.Learnt,
+  readings-reads.Asked,
+  readings-reads.Learnt,
+  ran-reads.Asked,
+  ran-reads.Learnt,
+  pad-reads.Asked,
+  pad-reads.Learnt,
+  add-reads.Asked,
+  add-reads.Learnt,
+  value-below t,
+  value.Post,
+  stopped-reads.Asked,
+  stopped-reads.Learnt,
+  keep-reads.Asked,
+  keep-reads.Learnt,
+) (elements-at t) elements.Post elements-Inv-loop elements-μ-loop
+elements-shared-slice-read-if2 t c = (omega (arith, c .before .before .loop .inv .within, c .before .loop-test .taken))
+
+-- src/lib.rt:257:13
+elements-ran-requires : (t : ℕ) → elements-lts.Need-ran-requires (
+  basics-reads.Asked,
+  basics-reads.Learnt,
+  readings-reads.Asked,
+  readings-reads.Learnt,
+  ran-reads.Asked,
+  ran-reads.Learnt,
+  pad-reads.Asked,
+  pad-reads.Learnt,
+  add-reads.Asked,
+  add-reads.Learnt,
+  value-below t,
+  value.Post,
+  stopped-reads.Asked,
+  stopped-reads.Learnt,
+  keep-reads.Asked,
+  keep-reads.Learnt,
+) (elements-at t) elements.Post elements-Inv-loop elements-μ-loop
+elements-ran-requires t c κs = search needs
+
+-- src/lib.rt:257:13
+elements-same-length-7 : (t : ℕ) → elements-lts.Need-same-length-7 (
+  basics-reads.Asked,
+  basics-reads.Learnt,
+  readings-reads.Asked,
+  readings-reads.Learnt,
+  ran-reads.Asked,
+  ran-reads.Learnt,
+  pad-reads.Asked,
+  pad-reads.Learnt,
+  add-reads.Asked,
+  add-reads.Learnt,
+  value-below t,
+  value.Post,
+  stopped-reads.Asked,
+  stopped-reads.Learnt,
+  keep-reads.Asked,
+  keep-reads.Learnt,
+) (elements-at t) elements.Post elements-Inv-loop elements-μ-loop
+elements-same-length-7 t c = search needs
+
+-- src/lib.rt:257:13
+elements-same-length-8 : (t : ℕ) → elements-lts.Need-same-length-8 (
+  basics-reads.Asked,
+  basics-reads.Learnt,
+  readings-reads.Asked,
+  readings-reads.Learnt,
+  ran-reads.Asked,
+  ran-reads.Learnt,
+  pad-reads.Asked,
+  pad-reads.Learnt,
+  add-reads.Asked,
+  add-reads.Learnt,
+  value-below t,
+  value.Post,
+  stopped-reads.Asked,
+  stopped-reads.Learnt,
+  keep-reads.Asked,
+  keep-reads.Learnt,
+) (elements-at t) elements.Post elements-Inv-loop elements-μ-loop
+elements-same-length-8 t c = search needs
+
+-- src/lib.rt:257:13
+elements-returns-4 : (t : ℕ) → elements-lts.Need-returns-4 (
+  basics-reads.Asked,
+  basics-reads.Learnt,
+  readings-reads.Asked,
+  readings-reads.Learnt,
+  ran-reads.Asked,
+  ran-reads.Learnt,
+  pad-reads.Asked,
+  pad-reads.Learnt,
+  add-reads.Asked,
+  add-reads.Learnt,
+  value-below t,
+  value.Post,
+  stopped-reads.Asked,
+  stopped-reads.Learnt,
+  keep-reads.Asked,
+  keep-reads.Learnt,
+) (elements-at t) elements.Post elements-Inv-loop elements-μ-loop
+elements-returns-4 t c = rw (c .ran .ensures) (left-shut _ _ _ _ _ _ _ _ _ _ _ _ _ (c .before .before .before .before .loop .inv) (omega (arith, c .before .before .before .before .loop .inv .within, c .before .before .before .loop-test .taken)) (c .before .if2 .taken))
+
+-- src/lib.rt:259:26
+elements-add-pad : (t : ℕ) → elements-lts.Need-add-pad (
+  basics-reads.Asked,
+  basics-reads.Learnt,
+  readings-reads.Asked,
+  readings-reads.Learnt,
+  ran-reads.Asked,
+  ran-reads.Learnt,
+  pad-reads.Asked,
+  pad-reads.Learnt,
+  add-reads.Asked,
+  add-reads.Learnt,
+  value-below t,
+  value.Post,
+  stopped-reads.Asked,
+  stopped-reads.Learnt,
+  keep-reads.Asked,
+  keep-reads.Learnt,
+) (elements-at t) elements.Post elements-Inv-loop elements-μ-loop
+elements-add-pad t c = omega (arith, c .before .before .before .before .loop .inv .small, c .before .before .before .before .before .before .before .before .before .before .before .before .before .before .pre .1 .3 .near)
+
+-- src/lib.rt:259:13
+elements-pad-requires : (t : ℕ) → elements-lts.Need-pad-requires (
+  basics-reads.Asked,
+  basics-reads.Learnt,
+  readings-reads.Asked,
+  readings-reads.Learnt,
+  ran-reads.Asked,
+  ran-reads.Learnt,
+  pad-reads.Asked,
+  pad-reads.Learnt,
+  add-reads.Asked,
+  add-reads.Learnt,
+  value-below t,
+  value.Post,
+  stopped-reads.Asked,
+  stopped-reads.Learnt,
+  keep-reads.Asked,
+  keep-reads.Learnt,
+) (elements-at t) elements.Post elements-Inv-loop elements-μ-loop
+elements-pad-requires t c κs = (omega (arith, c .before .before .before .before .loop .inv .small, c .before .before .before .before .before .before .before .before .before .before .before .before .before .before .pre .1 .3 .near), c .before .before .before .before .before .before .before .before .before .before .before .before .before .before .pre .1 .0 .aligned)
+
+-- src/lib.rt:262:30
+elements-add-add : (t : ℕ) → elements-lts.Need-add-add (
+  basics-reads.Asked,
+  basics-reads.Learnt,
+  readings-reads.Asked,
+  readings-reads.Learnt,
+  ran-reads.Asked,
+  ran-reads.Learnt,
+  pad-reads.Asked,
+  pad-reads.Learnt,
+  add-reads.Asked,
+  add-reads.Learnt,
+  value-below t,
+  value.Post,
+  stopped-reads.Asked,
+  stopped-reads.Learnt,
+  keep-reads.Asked,
+  keep-reads.Learnt,
+) (elements-at t) elements.Post elements-Inv-loop elements-μ-loop
+elements-add-add t c = omega (arith, c .before .before .before .before .before .before .before .loop .inv .small, c .before .before .pad .ensures .0 .1)
+
+-- src/lib.rt:262:20
+elements-add-requires : (t : ℕ) → elements-lts.Need-add-requires (
+  basics-reads.Asked,
+  basics-reads.Learnt,
+  readings-reads.Asked,
+  readings-reads.Learnt,
+  ran-reads.Asked,
+  ran-reads.Learnt,
+  pad-reads.Asked,
+  pad-reads.Learnt,
+  add-reads.Asked,
+  add-reads.Learnt,
+  value-below t,
+  value.Post,
+  stopped-reads.Asked,
+  stopped-reads.Learnt,
+  keep-reads.Asked,
+  keep-reads.Learnt,
+) (elements-at t) elements.Post elements-Inv-loop elements-μ-loop
+elements-add-requires t c κs = search needs
+
+-- src/lib.rt:263:18
+elements-add-requires-2 : (t : ℕ) → elements-lts.Need-add-requires-2 (
+  basics-reads.Asked,
+  basics-reads.Learnt,
+  readings-reads.Asked,
+  readings-reads.Learnt,
+  ran-reads.Asked,
+  ran-reads.Learnt,
+  pad-reads.Asked,
+  pad-reads.Learnt,
+  add-reads.Asked,
+  add-reads.Learnt,
+  value-below t,
+  value.Post,
+  stopped-reads.Asked,
+  stopped-reads.Learnt,
+  keep-reads.Asked,
+  keep-reads.Learnt,
+) (elements-at t) elements.Post elements-Inv-loop elements-μ-loop
+elements-add-requires-2 t c κs = search needs
+
+-- src/lib.rt:265:13
+elements-value-requires : (t : ℕ) → elements-lts.Need-value-requires (
+  basics-reads.Asked,
+  basics-reads.Learnt,
+  readings-reads.Asked,
+  readings-reads.Learnt,
+  ran-reads.Asked,
+  ran-reads.Learnt,
+  pad-reads.Asked,
+  pad-reads.Learnt,
+  add-reads.Asked,
+  add-reads.Learnt,
+  value-below t,
+  value.Post,
+  stopped-reads.Asked,
+  stopped-reads.Learnt,
+  keep-reads.Asked,
+  keep-reads.Learnt,
+) (elements-at t) elements.Post elements-Inv-loop elements-μ-loop
+elements-value-requires t c κs = (omega (arith, c .before .before .before .before .before .before .before .before .before .before .before .before .before .before .before .before .before .before .before .before .before .pre .0), (c .before .before .before .before .before .before .before .before .before .before .before .before .before .before .before .before .before .before .before .before .before .pre .1 .0 .child, c .before .before .before .before .before .before .before .before .before .before .before .before .before .before .before .before .before .before .before .before .before .pre .1 .2, record { within = c .before .before .before .before .before .before .before .before .before .before .before .loop .inv .within; near = omega (arith, c .before .before .before .add .ensures); few = omega (arith, c .before .before .add2 .ensures) }))
+
+-- src/lib.rt:278:13
+elements-stopped-requires : (t : ℕ) → elements-lts.Need-stopped-requires (
+  basics-reads.Asked,
+  basics-reads.Learnt,
+  readings-reads.Asked,
+  readings-reads.Learnt,
+  ran-reads.Asked,
+  ran-reads.Learnt,
+  pad-reads.Asked,
+  pad-reads.Learnt,
+  add-reads.Asked,
+  add-reads.Learnt,
+  value-below t,
+  value.Post,
+  stopped-reads.Asked,
+  stopped-reads.Learnt,
+  keep-reads.Asked,
+  keep-reads.Learnt,
+) (elements-at t) elements.Post elements-Inv-loop elements-μ-loop
+elements-stopped-requires t c κs = search needs
+
+-- src/lib.rt:278:13
+elements-same-length-9 : (t : ℕ) → elements-lts.Need-same-length-9 (
+  basics-reads.Asked,
+  basics-reads.Learnt,
+  readings-reads.Asked,
+  readings-reads.Learnt,
+  ran-reads.Asked,
+  ran-reads.Learnt,
+  pad-reads.Asked,
+  pad-reads.Learnt,
+  add-reads.Asked,
+  add-reads.Learnt,
+  value-below t,
+  value.Post,
+  stopped-reads.Asked,
+  stopped-reads.Learnt,
+  keep-reads.Asked,
+  keep-reads.Learnt,
+) (elements-at t) elements.Post elements-Inv-loop elements-μ-loop
+elements-same-length-9 t c = search needs
+
+-- src/lib.rt:278:13
+elements-same-length-10 : (t : ℕ) → elements-lts.Need-same-length-10 (
+  basics-reads.Asked,
+  basics-reads.Learnt,
+  readings-reads.Asked,
+  readings-reads.Learnt,
+  ran-reads.Asked,
+  ran-reads.Learnt,
+  pad-reads.Asked,
+  pad-reads.Learnt,
+  add-reads.Asked,
+  add-reads.Learnt,
+  value-below t,
+  value.Post,
+  stopped-reads.Asked,
+  stopped-reads.Learnt,
+  keep-reads.Asked,
+  keep-reads.Learnt,
+) (elements-at t) elements.Post elements-Inv-loop elements-μ-loop
+elements-same-length-10 t c = search needs
+
+-- src/lib.rt:278:13
+elements-returns-5 : (t : ℕ) → elements-lts.Need-returns-5 (
+  basics-reads.Asked,
+  basics-reads.Learnt,
+  readings-reads.Asked,
+  readings-reads.Learnt,
+  ran-reads.Asked,
+  ran-reads.Learnt,
+  pad-reads.Asked,
+  pad-reads.Learnt,
+  add-reads.Asked,
+  add-reads.Learnt,
+  value-below t,
+  value.Post,
+  stopped-reads.Asked,
+  stopped-reads.Learnt,
+  keep-reads.Asked,
+  keep-reads.Learnt,
+) (elements-at t) elements.Post elements-Inv-loop elements-μ-loop
+elements-returns-5 t c = rw (c .stopped .ensures) (left-stop _ _ _ _ _ _ _ _ _ _ _ _ _ (c .before .before .before .before .before .before .before .before .before .before .before .before .before .before .before .before .before .before .loop .inv) (omega (arith, c .before .before .before .before .before .before .before .before .before .before .before .before .before .before .before .before .before .before .loop .inv .within, c .before .before .before .before .before .before .before .before .before .before .before .before .before .before .before .before .before .loop-test .taken)) (c .before .before .before .before .before .before .before .before .before .before .before .before .before .before .before .if2 .left) _ _ _ _ _ _ (item-as-value _ _ _ _ _ _ _ _ _ _ _ _ _ _ _ (c .before .before .before .before .before .before .before .before .before .before .before .before .before .before .before .before .before .before .before .before .before .before .before .before .before .before .before .before .pre .1 .1) (c .before .before .before .before .before .before .value .ensures)) (c .before .if3 .taken))
+
+-- src/lib.rt:280:17
+elements-add-add-2 : (t : ℕ) → elements-lts.Need-add-add-2 (
+  basics-reads.Asked,
+  basics-reads.Learnt,
+  readings-reads.Asked,
+  readings-reads.Learnt,
+  ran-reads.Asked,
+  ran-reads.Learnt,
+  pad-reads.Asked,
+  pad-reads.Learnt,
+  add-reads.Asked,
+  add-reads.Learnt,
+  value-below t,
+  value.Post,
+  stopped-reads.Asked,
+  stopped-reads.Learnt,
+  keep-reads.Asked,
+  keep-reads.Learnt,
+) (elements-at t) elements.Post elements-Inv-loop elements-μ-loop
+elements-add-add-2 t c = omega (arith, c .before .before .before .before .before .before .before .before .before .before .before .before .before .before .before .before .before .loop .inv .small, c .before .before .before .before .before .before .before .before .before .before .before .before .pad .ensures .0 .1)
+
+-- src/lib.rt:280:9
+elements-add-requires-3 : (t : ℕ) → elements-lts.Need-add-requires-3 (
+  basics-reads.Asked,
+  basics-reads.Learnt,
+  readings-reads.Asked,
+  readings-reads.Learnt,
+  ran-reads.Asked,
+  ran-reads.Learnt,
+  pad-reads.Asked,
+  pad-reads.Learnt,
+  add-reads.Asked,
+  add-reads.Learnt,
+  value-below t,
+  value.Post,
+  stopped-reads.Asked,
+  stopped-reads.Learnt,
+  keep-reads.Asked,
+  keep-reads.Learnt,
+) (elements-at t) elements.Post elements-Inv-loop elements-μ-loop
+elements-add-requires-3 t c κs = search needs
+
+-- src/lib.rt:282:9
+elements-keep-requires : (t : ℕ) → elements-lts.Need-keep-requires (
+  basics-reads.Asked,
+  basics-reads.Learnt,
+  readings-reads.Asked,
+  readings-reads.Learnt,
+  ran-reads.Asked,
+  ran-reads.Learnt,
+  pad-reads.Asked,
+  pad-reads.Learnt,
+  add-reads.Asked,
+  add-reads.Learnt,
+  value-below t,
+  value.Post,
+  stopped-reads.Asked,
+  stopped-reads.Learnt,
+  keep-reads.Asked,
+  keep-reads.Learnt,
+) (elements-at t) elements.Post elements-Inv-loop elements-μ-loop
+elements-keep-requires t c κs = omega (arith, c .before .before .before .before .before .before .before .before .before .before .before .before .before .before .before .before .before .before .before .before .loop .inv .few, c .before .before .before .before .before .before .before .before .before .before .before .before .before .before .before .before .before .before .before .before .before .before .before .before .before .before .before .before .before .before .pre .1 .3 .few)
+
+-- src/lib.rt:255:5
+elements-loop-less : (t : ℕ) → elements-lts.Need-loop-less (
+  basics-reads.Asked,
+  basics-reads.Learnt,
+  readings-reads.Asked,
+  readings-reads.Learnt,
+  ran-reads.Asked,
+  ran-reads.Learnt,
+  pad-reads.Asked,
+  pad-reads.Learnt,
+  add-reads.Asked,
+  add-reads.Learnt,
+  value-below t,
+  value.Post,
+  stopped-reads.Asked,
+  stopped-reads.Learnt,
+  keep-reads.Asked,
+  keep-reads.Learnt,
+) (elements-at t) elements.Post elements-Inv-loop elements-μ-loop
+elements-loop-less t c = let q = bounds (c .before .before .before .before .before .before .before .before .if3 .left) (c .before .before .before .before .before .before .before .before .before .before .before .before .before .value .ensures) in omega (arith, q .forward, q .within)
+
+-- src/lib.rt:255:5
+elements-loop-again : (t : ℕ) → elements-lts.Need-loop-again (
+  basics-reads.Asked,
+  basics-reads.Learnt,
+  readings-reads.Asked,
+  readings-reads.Learnt,
+  ran-reads.Asked,
+  ran-reads.Learnt,
+  pad-reads.Asked,
+  pad-reads.Learnt,
+  add-reads.Asked,
+  add-reads.Learnt,
+  value-below t,
+  value.Post,
+  stopped-reads.Asked,
+  stopped-reads.Learnt,
+  keep-reads.Asked,
+  keep-reads.Learnt,
+) (elements-at t) elements.Post elements-Inv-loop elements-μ-loop
+elements-loop-again t c = left-on _ _ _ _ _ _ _ _ _ _ _ _ _ (c .before .before .before .before .before .before .before .before .before .before .before .before .before .before .before .before .before .before .before .before .before .before .before .before .before .loop .inv) (omega (arith, c .before .before .before .before .before .before .before .before .before .before .before .before .before .before .before .before .before .before .before .before .before .before .before .before .before .loop .inv .within, c .before .before .before .before .before .before .before .before .before .before .before .before .before .before .before .before .before .before .before .before .before .before .before .before .loop-test .taken)) (c .before .before .before .before .before .before .before .before .before .before .before .before .before .before .before .before .before .before .before .before .before .before .if2 .left) _ _ _ _ _ _ (item-as-value _ _ _ _ _ _ _ _ _ _ _ _ _ _ _ (c .before .before .before .before .before .before .before .before .before .before .before .before .before .before .before .before .before .before .before .before .before .before .before .before .before .before .before .before .before .before .before .before .before .before .before .pre .1 .1) (c .before .before .before .before .before .before .before .before .before .before .before .before .before .value .ensures)) _ _ _ _ _ _ (item-shorter _ _ _ _ _ _) (item-alignment _ _ _ _ _ _ (c .before .before .before .before .before .before .before .before .before .before .before .before .before .before .before .before .before .before .before .before .before .before .before .before .before .before .before .before .before .before .before .before .before .before .before .pre .1 .0) _ _) (c .before .before .before .before .before .before .before .before .if3 .left) (c .before .before .before .before .before .before .before .before .before .before .before .before .before .before .before .before .before .before .before .before .pad .ensures .0 .0) (c .before .before .before .before .before .before .before .before .before .before .before .before .before .before .before .before .before .before .before .before .pad .ensures .1) (c .before .before .before .before .before .before .before .before .before .before .before .before .before .before .before .before .before .add .ensures) (c .before .before .before .before .before .before .before .before .before .before .before .before .before .before .before .before .add2 .ensures) (c .before .before .before .before .before .before .before .add3 .ensures) (c .before .before .before .before .keep .ensures) (omega (arith, c .before .before .before .before .before .before .before .before .before .before .before .before .before .before .before .before .before .before .before .before .before .before .before .before .before .loop .inv .same)) (omega (arith, c .before .before .before .before .before .before .before .before .before .before .before .before .before .before .before .before .before .before .before .before .before .before .before .before .before .loop .inv .same)) (omega (arith, c .before .before .before .before .before .before .before .before .before .before .before .before .before .before .before .before .before .before .before .before .before .before .before .before .before .loop .inv .sames)) (omega (arith, c .before .before .before .before .before .before .before .before .before .before .before .before .before .before .before .before .before .before .before .before .before .before .before .before .before .loop .inv .sames))
+
+-- src/lib.rt:284:5
+elements-stopped-requires-2 : (t : ℕ) → elements-lts.Need-stopped-requires-2 (
+  basics-reads.Asked,
+  basics-reads.Learnt,
+  readings-reads.Asked,
+  readings-reads.Learnt,
+  ran-reads.Asked,
+  ran-reads.Learnt,
+  pad-reads.Asked,
+  pad-reads.Learnt,
+  add-reads.Asked,
+  add-reads.Learnt,
+  value-below t,
+  value.Post,
+  stopped-reads.Asked,
+  stopped-reads.Learnt,
+  keep-reads.Asked,
+  keep-reads.Learnt,
+) (elements-at t) elements.Post elements-Inv-loop elements-μ-loop
+elements-stopped-requires-2 t c κs = search needs
+
+-- src/lib.rt:194:1
+elements-same-length-11 : (t : ℕ) → elements-lts.Need-same-length-11 (
+  basics-reads.Asked,
+  basics-reads.Learnt,
+  readings-reads.Asked,
+  readings-reads.Learnt,
+  ran-reads.Asked,
+  ran-reads.Learnt,
+  pad-reads.Asked,
+  pad-reads.Learnt,
+  add-reads.Asked,
+  add-reads.Learnt,
+  value-below t,
+  value.Post,
+  stopped-reads.Asked,
+  stopped-reads.Learnt,
+  keep-reads.Asked,
+  keep-reads.Learnt,
+) (elements-at t) elements.Post elements-Inv-loop elements-μ-loop
+elements-same-length-11 t c = search needs
+
+-- src/lib.rt:194:1
+elements-same-length-12 : (t : ℕ) → elements-lts.Need-same-length-12 (
+  basics-reads.Asked,
+  basics-reads.Learnt,
+  readings-reads.Asked,
+  readings-reads.Learnt,
+  ran-reads.Asked,
+  ran-reads.Learnt,
+  pad-reads.Asked,
+  pad-reads.Learnt,
+  add-reads.Asked,
+  add-reads.Learnt,
+  value-below t,
+  value.Post,
+  stopped-reads.Asked,
+  stopped-reads.Learnt,
+  keep-reads.Asked,
+  keep-reads.Learnt,
+) (elements-at t) elements.Post elements-Inv-loop elements-μ-loop
+elements-same-length-12 t c = search needs
+
+-- src/lib.rt:194:1
+elements-returns-6 : (t : ℕ) → elements-lts.Need-returns-6 (
+  basics-reads.Asked,
+  basics-reads.Learnt,
+  readings-reads.Asked,
+  readings-reads.Learnt,
+  ran-reads.Asked,
+  ran-reads.Learnt,
+  pad-reads.Asked,
+  pad-reads.Learnt,
+  add-reads.Asked,
+  add-reads.Learnt,
+  value-below t,
+  value.Post,
+  stopped-reads.Asked,
+  stopped-reads.Learnt,
+  keep-reads.Asked,
+  keep-reads.Learnt,
+) (elements-at t) elements.Post elements-Inv-loop elements-μ-loop
+elements-returns-6 t c = rw (c .stopped2 .ensures) (left-short _ _ _ _ _ _ _ _ _ _ _ _ _ (c .before .before .loop .inv) (omega (arith, c .before .before .loop .inv .within, c .before .loop-test .left)))
 
 abbrev entries-Inv-loop : entries-lts.InvT-loop
 entries-Inv-loop text shapes item events texts context out₀ ends₀ base top e₀ k₀ j₀ out ends e k j = Left (item .fixed) (itemIn context texts text item) events e₀ base top out₀ ends₀ e k j out ends
@@ -1127,7 +1531,7 @@ entries-Inv-loop text shapes item events texts context out₀ ends₀ base top e
 abbrev entries-μ-loop : entries-lts.MeasureT-loop
 entries-μ-loop text shapes item events texts context out₀ ends₀ base top e₀ k₀ j₀ out ends e k j = length events - e
 
--- src/lib.rt:266:5
+-- src/lib.rt:309:5
 entries-loop-holds : (t : ℕ) → entries-lts.Need-loop-holds (
   ran-reads.Asked,
   ran-reads.Learnt,
@@ -1144,7 +1548,7 @@ entries-loop-holds : (t : ℕ) → entries-lts.Need-loop-holds (
 ) (entries-at t) entries.Post entries-Inv-loop entries-μ-loop
 entries-loop-holds t c = left-all _ _ _ _ _ _ _ _ (c .before .before .before .before .before .before .pre .1 .3 .within)
 
--- src/lib.rt:266:16
+-- src/lib.rt:309:16
 entries-sub-loop : (t : ℕ) → entries-lts.Need-sub-loop (
   ran-reads.Asked,
   ran-reads.Learnt,
@@ -1161,7 +1565,7 @@ entries-sub-loop : (t : ℕ) → entries-lts.Need-sub-loop (
 ) (entries-at t) entries.Post entries-Inv-loop entries-μ-loop
 entries-sub-loop t c = omega (arith, c .loop .inv .within)
 
--- src/lib.rt:267:12
+-- src/lib.rt:310:12
 entries-mul-if1 : (t : ℕ) → entries-lts.Need-mul-if1 (
   ran-reads.Asked,
   ran-reads.Learnt,
@@ -1178,7 +1582,7 @@ entries-mul-if1 : (t : ℕ) → entries-lts.Need-mul-if1 (
 ) (entries-at t) entries.Post entries-Inv-loop entries-μ-loop
 entries-mul-if1 t c = omega arith
 
--- src/lib.rt:267:12
+-- src/lib.rt:310:12
 entries-shared-slice-read-if1 : (t : ℕ) → entries-lts.Need-shared-slice-read-if1 (
   ran-reads.Asked,
   ran-reads.Learnt,
@@ -1195,7 +1599,7 @@ entries-shared-slice-read-if1 : (t : ℕ) → entries-lts.Need-shared-slice-read
 ) (entries-at t) entries.Post entries-Inv-loop entries-μ-loop
 entries-shared-slice-read-if1 t c = (omega (arith, c .before .before .loop .inv .within, c .before .loop-test .taken))
 
--- src/lib.rt:268:13
+-- src/lib.rt:311:13
 entries-ran-requires : (t : ℕ) → entries-lts.Need-ran-requires (
   ran-reads.Asked,
   ran-reads.Learnt,
@@ -1212,7 +1616,7 @@ entries-ran-requires : (t : ℕ) → entries-lts.Need-ran-requires (
 ) (entries-at t) entries.Post entries-Inv-loop entries-μ-loop
 entries-ran-requires t c κs = search needs
 
--- src/lib.rt:268:13
+-- src/lib.rt:311:13
 entries-same-length : (t : ℕ) → entries-lts.Need-same-length (
   ran-reads.Asked,
   ran-reads.Learnt,
@@ -1229,7 +1633,7 @@ entries-same-length : (t : ℕ) → entries-lts.Need-same-length (
 ) (entries-at t) entries.Post entries-Inv-loop entries-μ-loop
 entries-same-length t c = search needs
 
--- src/lib.rt:268:13
+-- src/lib.rt:311:13
 entries-same-length-2 : (t : ℕ) → entries-lts.Need-same-length-2 (
   ran-reads.Asked,
   ran-reads.Learnt,
@@ -1246,7 +1650,7 @@ entries-same-length-2 : (t : ℕ) → entries-lts.Need-same-length-2 (
 ) (entries-at t) entries.Post entries-Inv-loop entries-μ-loop
 entries-same-length-2 t c = search needs
 
--- src/lib.rt:268:13
+-- src/lib.rt:311:13
 entries-returns : (t : ℕ) → entries-lts.Need-returns (
   ran-reads.Asked,
   ran-reads.Learnt,
@@ -1263,7 +1667,7 @@ entries-returns : (t : ℕ) → entries-lts.Need-returns (
 ) (entries-at t) entries.Post entries-Inv-loop entries-μ-loop
 entries-returns t c = rw (c .ran .ensures) (left-shut _ _ _ _ _ _ _ _ _ _ _ _ _ (c .before .before .before .before .loop .inv) (omega (arith, c .before .before .before .before .loop .inv .within, c .before .before .before .loop-test .taken)) (c .before .if1 .taken))
 
--- src/lib.rt:270:26
+-- src/lib.rt:313:26
 entries-add-pad : (t : ℕ) → entries-lts.Need-add-pad (
   ran-reads.Asked,
   ran-reads.Learnt,
@@ -1280,7 +1684,7 @@ entries-add-pad : (t : ℕ) → entries-lts.Need-add-pad (
 ) (entries-at t) entries.Post entries-Inv-loop entries-μ-loop
 entries-add-pad t c = omega (arith, c .before .before .before .before .loop .inv .small, c .before .before .before .before .before .before .before .before .before .before .before .pre .1 .3 .near)
 
--- src/lib.rt:270:13
+-- src/lib.rt:313:13
 entries-pad-requires : (t : ℕ) → entries-lts.Need-pad-requires (
   ran-reads.Asked,
   ran-reads.Learnt,
@@ -1297,7 +1701,7 @@ entries-pad-requires : (t : ℕ) → entries-lts.Need-pad-requires (
 ) (entries-at t) entries.Post entries-Inv-loop entries-μ-loop
 entries-pad-requires t c κs = (omega (arith, c .before .before .before .before .loop .inv .small, c .before .before .before .before .before .before .before .before .before .before .before .pre .1 .3 .near), c .before .before .before .before .before .before .before .before .before .before .before .pre .1 .0 .aligned)
 
--- src/lib.rt:273:30
+-- src/lib.rt:316:30
 entries-add-add : (t : ℕ) → entries-lts.Need-add-add (
   ran-reads.Asked,
   ran-reads.Learnt,
@@ -1314,7 +1718,7 @@ entries-add-add : (t : ℕ) → entries-lts.Need-add-add (
 ) (entries-at t) entries.Post entries-Inv-loop entries-μ-loop
 entries-add-add t c = omega (arith, c .before .before .before .before .before .before .before .loop .inv .small, c .before .before .pad .ensures .0 .1)
 
--- src/lib.rt:273:20
+-- src/lib.rt:316:20
 entries-add-requires : (t : ℕ) → entries-lts.Need-add-requires (
   ran-reads.Asked,
   ran-reads.Learnt,
@@ -1331,7 +1735,7 @@ entries-add-requires : (t : ℕ) → entries-lts.Need-add-requires (
 ) (entries-at t) entries.Post entries-Inv-loop entries-μ-loop
 entries-add-requires t c κs = search needs
 
--- src/lib.rt:274:18
+-- src/lib.rt:317:18
 entries-add-requires-2 : (t : ℕ) → entries-lts.Need-add-requires-2 (
   ran-reads.Asked,
   ran-reads.Learnt,
@@ -1348,7 +1752,7 @@ entries-add-requires-2 : (t : ℕ) → entries-lts.Need-add-requires-2 (
 ) (entries-at t) entries.Post entries-Inv-loop entries-μ-loop
 entries-add-requires-2 t c κs = search needs
 
--- src/lib.rt:276:13
+-- src/lib.rt:319:13
 entries-entry-requires : (t : ℕ) → entries-lts.Need-entry-requires (
   ran-reads.Asked,
   ran-reads.Learnt,
@@ -1365,7 +1769,7 @@ entries-entry-requires : (t : ℕ) → entries-lts.Need-entry-requires (
 ) (entries-at t) entries.Post entries-Inv-loop entries-μ-loop
 entries-entry-requires t c κs = (omega (arith, c .before .before .before .before .before .before .before .before .before .before .before .before .before .before .before .before .before .before .pre .0), (c .before .before .before .before .before .before .before .before .before .before .before .before .before .before .before .before .before .before .pre .1 .0, c .before .before .before .before .before .before .before .before .before .before .before .before .before .before .before .before .before .before .pre .1 .1, c .before .before .before .before .before .before .before .before .before .before .before .before .before .before .before .before .before .before .pre .1 .2, record { within = c .before .before .before .before .before .before .before .before .before .before .before .loop .inv .within; near = omega (arith, c .before .before .before .add .ensures); few = omega (arith, c .before .before .add2 .ensures) }))
 
--- src/lib.rt:279:13
+-- src/lib.rt:322:13
 entries-stopped-requires : (t : ℕ) → entries-lts.Need-stopped-requires (
   ran-reads.Asked,
   ran-reads.Learnt,
@@ -1382,7 +1786,7 @@ entries-stopped-requires : (t : ℕ) → entries-lts.Need-stopped-requires (
 ) (entries-at t) entries.Post entries-Inv-loop entries-μ-loop
 entries-stopped-requires t c κs = search needs
 
--- src/lib.rt:279:13
+-- src/lib.rt:322:13
 entries-same-length-3 : (t : ℕ) → entries-lts.Need-same-length-3 (
   ran-reads.Asked,
   ran-reads.Learnt,
@@ -1399,7 +1803,7 @@ entries-same-length-3 : (t : ℕ) → entries-lts.Need-same-length-3 (
 ) (entries-at t) entries.Post entries-Inv-loop entries-μ-loop
 entries-same-length-3 t c = search needs
 
--- src/lib.rt:279:13
+-- src/lib.rt:322:13
 entries-same-length-4 : (t : ℕ) → entries-lts.Need-same-length-4 (
   ran-reads.Asked,
   ran-reads.Learnt,
@@ -1416,7 +1820,7 @@ entries-same-length-4 : (t : ℕ) → entries-lts.Need-same-length-4 (
 ) (entries-at t) entries.Post entries-Inv-loop entries-μ-loop
 entries-same-length-4 t c = search needs
 
--- src/lib.rt:279:13
+-- src/lib.rt:322:13
 entries-returns-2 : (t : ℕ) → entries-lts.Need-returns-2 (
   ran-reads.Asked,
   ran-reads.Learnt,
@@ -1433,7 +1837,7 @@ entries-returns-2 : (t : ℕ) → entries-lts.Need-returns-2 (
 ) (entries-at t) entries.Post entries-Inv-loop entries-μ-loop
 entries-returns-2 t c = rw (c .stopped .ensures) (left-stop _ _ _ _ _ _ _ _ _ _ _ _ _ (c .before .before .before .before .before .before .before .before .before .before .before .before .before .before .before .before .before .before .loop .inv) (omega (arith, c .before .before .before .before .before .before .before .before .before .before .before .before .before .before .before .before .before .before .loop .inv .within, c .before .before .before .before .before .before .before .before .before .before .before .before .before .before .before .before .before .loop-test .taken)) (c .before .before .before .before .before .before .before .before .before .before .before .before .before .before .before .if1 .left) _ _ _ _ _ _ (c .before .before .before .before .before .before .entry .ensures) (c .before .if2 .taken))
 
--- src/lib.rt:281:17
+-- src/lib.rt:324:17
 entries-add-add-2 : (t : ℕ) → entries-lts.Need-add-add-2 (
   ran-reads.Asked,
   ran-reads.Learnt,
@@ -1450,7 +1854,7 @@ entries-add-add-2 : (t : ℕ) → entries-lts.Need-add-add-2 (
 ) (entries-at t) entries.Post entries-Inv-loop entries-μ-loop
 entries-add-add-2 t c = omega (arith, c .before .before .before .before .before .before .before .before .before .before .before .before .before .before .before .before .before .loop .inv .small, c .before .before .before .before .before .before .before .before .before .before .before .before .pad .ensures .0 .1)
 
--- src/lib.rt:281:9
+-- src/lib.rt:324:9
 entries-add-requires-3 : (t : ℕ) → entries-lts.Need-add-requires-3 (
   ran-reads.Asked,
   ran-reads.Learnt,
@@ -1467,7 +1871,7 @@ entries-add-requires-3 : (t : ℕ) → entries-lts.Need-add-requires-3 (
 ) (entries-at t) entries.Post entries-Inv-loop entries-μ-loop
 entries-add-requires-3 t c κs = search needs
 
--- src/lib.rt:283:9
+-- src/lib.rt:326:9
 entries-keep-requires : (t : ℕ) → entries-lts.Need-keep-requires (
   ran-reads.Asked,
   ran-reads.Learnt,
@@ -1484,7 +1888,7 @@ entries-keep-requires : (t : ℕ) → entries-lts.Need-keep-requires (
 ) (entries-at t) entries.Post entries-Inv-loop entries-μ-loop
 entries-keep-requires t c κs = omega (arith, c .before .before .before .before .before .before .before .before .before .before .before .before .before .before .before .before .before .before .before .before .loop .inv .few, c .before .before .before .before .before .before .before .before .before .before .before .before .before .before .before .before .before .before .before .before .before .before .before .before .before .before .before .pre .1 .3 .few)
 
--- src/lib.rt:266:5
+-- src/lib.rt:309:5
 entries-loop-less : (t : ℕ) → entries-lts.Need-loop-less (
   ran-reads.Asked,
   ran-reads.Learnt,
@@ -1501,7 +1905,7 @@ entries-loop-less : (t : ℕ) → entries-lts.Need-loop-less (
 ) (entries-at t) entries.Post entries-Inv-loop entries-μ-loop
 entries-loop-less t c = let q = bounds (c .before .before .before .before .before .before .before .before .if2 .left) (c .before .before .before .before .before .before .before .before .before .before .before .before .before .entry .ensures) in omega (arith, q .forward, q .within)
 
--- src/lib.rt:266:5
+-- src/lib.rt:309:5
 entries-loop-again : (t : ℕ) → entries-lts.Need-loop-again (
   ran-reads.Asked,
   ran-reads.Learnt,
@@ -1518,7 +1922,7 @@ entries-loop-again : (t : ℕ) → entries-lts.Need-loop-again (
 ) (entries-at t) entries.Post entries-Inv-loop entries-μ-loop
 entries-loop-again t c = left-on _ _ _ _ _ _ _ _ _ _ _ _ _ (c .before .before .before .before .before .before .before .before .before .before .before .before .before .before .before .before .before .before .before .before .before .before .before .before .before .loop .inv) (omega (arith, c .before .before .before .before .before .before .before .before .before .before .before .before .before .before .before .before .before .before .before .before .before .before .before .before .before .loop .inv .within, c .before .before .before .before .before .before .before .before .before .before .before .before .before .before .before .before .before .before .before .before .before .before .before .before .loop-test .taken)) (c .before .before .before .before .before .before .before .before .before .before .before .before .before .before .before .before .before .before .before .before .before .before .if1 .left) _ _ _ _ _ _ (c .before .before .before .before .before .before .before .before .before .before .before .before .before .entry .ensures) _ _ _ _ _ _ (item-shorter _ _ _ _ _ _) (item-alignment _ _ _ _ _ _ (c .before .before .before .before .before .before .before .before .before .before .before .before .before .before .before .before .before .before .before .before .before .before .before .before .before .before .before .before .before .before .before .before .pre .1 .0) _ _) (c .before .before .before .before .before .before .before .before .if2 .left) (c .before .before .before .before .before .before .before .before .before .before .before .before .before .before .before .before .before .before .before .before .pad .ensures .0 .0) (c .before .before .before .before .before .before .before .before .before .before .before .before .before .before .before .before .before .before .before .before .pad .ensures .1) (c .before .before .before .before .before .before .before .before .before .before .before .before .before .before .before .before .before .add .ensures) (c .before .before .before .before .before .before .before .before .before .before .before .before .before .before .before .before .add2 .ensures) (c .before .before .before .before .before .before .before .add3 .ensures) (c .before .before .before .before .keep .ensures) (omega (arith, c .before .before .before .before .before .before .before .before .before .before .before .before .before .before .before .before .before .before .before .before .before .before .before .before .before .loop .inv .same)) (omega (arith, c .before .before .before .before .before .before .before .before .before .before .before .before .before .before .before .before .before .before .before .before .before .before .before .before .before .loop .inv .same)) (omega (arith, c .before .before .before .before .before .before .before .before .before .before .before .before .before .before .before .before .before .before .before .before .before .before .before .before .before .loop .inv .sames)) (omega (arith, c .before .before .before .before .before .before .before .before .before .before .before .before .before .before .before .before .before .before .before .before .before .before .before .before .before .loop .inv .sames))
 
--- src/lib.rt:285:5
+-- src/lib.rt:328:5
 entries-stopped-requires-2 : (t : ℕ) → entries-lts.Need-stopped-requires-2 (
   ran-reads.Asked,
   ran-reads.Learnt,
@@ -1535,7 +1939,7 @@ entries-stopped-requires-2 : (t : ℕ) → entries-lts.Need-stopped-requires-2 (
 ) (entries-at t) entries.Post entries-Inv-loop entries-μ-loop
 entries-stopped-requires-2 t c κs = search needs
 
--- src/lib.rt:247:1
+-- src/lib.rt:290:1
 entries-same-length-5 : (t : ℕ) → entries-lts.Need-same-length-5 (
   ran-reads.Asked,
   ran-reads.Learnt,
@@ -1552,7 +1956,7 @@ entries-same-length-5 : (t : ℕ) → entries-lts.Need-same-length-5 (
 ) (entries-at t) entries.Post entries-Inv-loop entries-μ-loop
 entries-same-length-5 t c = search needs
 
--- src/lib.rt:247:1
+-- src/lib.rt:290:1
 entries-same-length-6 : (t : ℕ) → entries-lts.Need-same-length-6 (
   ran-reads.Asked,
   ran-reads.Learnt,
@@ -1569,7 +1973,7 @@ entries-same-length-6 : (t : ℕ) → entries-lts.Need-same-length-6 (
 ) (entries-at t) entries.Post entries-Inv-loop entries-μ-loop
 entries-same-length-6 t c = search needs
 
--- src/lib.rt:247:1
+-- src/lib.rt:290:1
 entries-returns-3 : (t : ℕ) → entries-lts.Need-returns-3 (
   ran-reads.Asked,
   ran-reads.Learnt,
@@ -1586,7 +1990,7 @@ entries-returns-3 : (t : ℕ) → entries-lts.Need-returns-3 (
 ) (entries-at t) entries.Post entries-Inv-loop entries-μ-loop
 entries-returns-3 t c = rw (c .stopped2 .ensures) (left-short _ _ _ _ _ _ _ _ _ _ _ _ _ (c .before .before .loop .inv) (omega (arith, c .before .before .loop .inv .within, c .before .loop-test .left)))
 
--- src/lib.rt:307:9
+-- src/lib.rt:350:9
 entry-basic-value-requires : (t : ℕ) → entry-lts.Need-basic-value-requires (
   basic-value-reads.Asked,
   basic-value-reads.Learnt,
@@ -1605,7 +2009,7 @@ entry-basic-value-requires : (t : ℕ) → entry-lts.Need-basic-value-requires (
 ) (entry-at t) entry.Post
 entry-basic-value-requires t c κs = (c .before .before .before .before .before .before .before .before .pre .1 .3 .within, c .before .before .before .before .before .before .before .before .pre .1 .3 .near, c .before .before .before .before .before .before .before .before .pre .1 .0 .key (c .before .before .before .before .before .before .before .before .pre .1 .1))
 
--- src/lib.rt:311:9
+-- src/lib.rt:354:9
 entry-same-length : (t : ℕ) → entry-lts.Need-same-length (
   basic-value-reads.Asked,
   basic-value-reads.Learnt,
@@ -1624,7 +2028,7 @@ entry-same-length : (t : ℕ) → entry-lts.Need-same-length (
 ) (entry-at t) entry.Post
 entry-same-length t c = search needs
 
--- src/lib.rt:311:9
+-- src/lib.rt:354:9
 entry-returns : (t : ℕ) → entry-lts.Need-returns (
   basic-value-reads.Asked,
   basic-value-reads.Learnt,
@@ -1643,7 +2047,7 @@ entry-returns : (t : ℕ) → entry-lts.Need-returns (
 ) (entry-at t) entry.Post
 entry-returns t c = item-key-stop _ _ _ _ _ _ _ _ _ _ _ _ _ _ _ (c .before .before .before .before .before .before .before .before .before .before .before .before .pre .1 .1) (c .before .before .before .basic-value .ensures _ _ _) (c .if1 .taken)
 
--- src/lib.rt:313:9
+-- src/lib.rt:356:9
 entry-keep-requires : (t : ℕ) → entry-lts.Need-keep-requires (
   basic-value-reads.Asked,
   basic-value-reads.Learnt,
@@ -1662,7 +2066,7 @@ entry-keep-requires : (t : ℕ) → entry-lts.Need-keep-requires (
 ) (entry-at t) entry.Post
 entry-keep-requires t c κs = omega (arith, c .before .before .before .before .before .before .before .before .before .before .before .before .before .before .pre .1 .3 .few)
 
--- src/lib.rt:314:22
+-- src/lib.rt:357:22
 entry-add-pad : (t : ℕ) → entry-lts.Need-add-pad (
   basic-value-reads.Asked,
   basic-value-reads.Learnt,
@@ -1681,7 +2085,7 @@ entry-add-pad : (t : ℕ) → entry-lts.Need-add-pad (
 ) (entry-at t) entry.Post
 entry-add-pad t c = omega (arith, (bounds (c .before .before .before .before .before .before .before .before .if1 .left) (c .before .before .before .before .before .before .before .before .before .before .before .basic-value .ensures noneOpen 0 [])) .small, c .before .before .before .before .before .before .before .before .before .before .before .before .before .before .before .before .before .before .before .before .pre .1 .3 .near)
 
--- src/lib.rt:314:9
+-- src/lib.rt:357:9
 entry-pad-requires : (t : ℕ) → entry-lts.Need-pad-requires (
   basic-value-reads.Asked,
   basic-value-reads.Learnt,
@@ -1700,7 +2104,7 @@ entry-pad-requires : (t : ℕ) → entry-lts.Need-pad-requires (
 ) (entry-at t) entry.Post
 entry-pad-requires t c κs = (omega (arith, (bounds (c .before .before .before .before .before .before .before .before .if1 .left) (c .before .before .before .before .before .before .before .before .before .before .before .basic-value .ensures noneOpen 0 [])) .small, c .before .before .before .before .before .before .before .before .before .before .before .before .before .before .before .before .before .before .before .before .pre .1 .3 .near), described-aligned (c .before .before .before .before .before .before .before .before .before .before .before .before .before .before .before .before .before .before .before .before .pre .1 .0 .child))
 
--- src/lib.rt:317:27
+-- src/lib.rt:360:27
 entry-add-add : (t : ℕ) → entry-lts.Need-add-add (
   basic-value-reads.Asked,
   basic-value-reads.Learnt,
@@ -1719,7 +2123,7 @@ entry-add-add : (t : ℕ) → entry-lts.Need-add-add (
 ) (entry-at t) entry.Post
 entry-add-add t c = omega (arith, (bounds (c .before .before .before .before .before .before .before .before .before .before .before .if1 .left) (c .before .before .before .before .before .before .before .before .before .before .before .before .before .before .basic-value .ensures noneOpen 0 [])) .small, c .before .before .pad .ensures .0 .1)
 
--- src/lib.rt:317:16
+-- src/lib.rt:360:16
 entry-add-requires : (t : ℕ) → entry-lts.Need-add-requires (
   basic-value-reads.Asked,
   basic-value-reads.Learnt,
@@ -1738,7 +2142,7 @@ entry-add-requires : (t : ℕ) → entry-lts.Need-add-requires (
 ) (entry-at t) entry.Post
 entry-add-requires t c κs = search needs
 
--- src/lib.rt:318:14
+-- src/lib.rt:361:14
 entry-add-requires-2 : (t : ℕ) → entry-lts.Need-add-requires-2 (
   basic-value-reads.Asked,
   basic-value-reads.Learnt,
@@ -1757,7 +2161,7 @@ entry-add-requires-2 : (t : ℕ) → entry-lts.Need-add-requires-2 (
 ) (entry-at t) entry.Post
 entry-add-requires-2 t c κs = search needs
 
--- src/lib.rt:320:9
+-- src/lib.rt:363:9
 entry-value-requires : (t : ℕ) → entry-lts.Need-value-requires (
   basic-value-reads.Asked,
   basic-value-reads.Learnt,
@@ -1776,7 +2180,7 @@ entry-value-requires : (t : ℕ) → entry-lts.Need-value-requires (
 ) (entry-at t) entry.Post
 entry-value-requires t c κs = (omega (arith, c .before .before .before .before .before .before .before .before .before .before .before .before .before .before .before .before .before .before .before .before .before .before .before .before .before .before .before .pre .0), (c .before .before .before .before .before .before .before .before .before .before .before .before .before .before .before .before .before .before .before .before .before .before .before .before .before .before .before .pre .1 .0 .child, c .before .before .before .before .before .before .before .before .before .before .before .before .before .before .before .before .before .before .before .before .before .before .before .before .before .before .before .pre .1 .2, record { within = (bounds (c .before .before .before .before .before .before .before .before .before .before .before .before .before .before .before .if1 .left) (c .before .before .before .before .before .before .before .before .before .before .before .before .before .before .before .before .before .before .basic-value .ensures noneOpen 0 [])) .within; near = omega (arith, c .before .before .before .add .ensures); few = omega (arith, c .before .before .add2 .ensures) }))
 
--- src/lib.rt:333:9
+-- src/lib.rt:376:9
 entry-same-length-2 : (t : ℕ) → entry-lts.Need-same-length-2 (
   basic-value-reads.Asked,
   basic-value-reads.Learnt,
@@ -1795,7 +2199,7 @@ entry-same-length-2 : (t : ℕ) → entry-lts.Need-same-length-2 (
 ) (entry-at t) entry.Post
 entry-same-length-2 t c = search needs
 
--- src/lib.rt:333:9
+-- src/lib.rt:376:9
 entry-same-length-3 : (t : ℕ) → entry-lts.Need-same-length-3 (
   basic-value-reads.Asked,
   basic-value-reads.Learnt,
@@ -1814,7 +2218,7 @@ entry-same-length-3 : (t : ℕ) → entry-lts.Need-same-length-3 (
 ) (entry-at t) entry.Post
 entry-same-length-3 t c = search needs
 
--- src/lib.rt:333:9
+-- src/lib.rt:376:9
 entry-returns-2 : (t : ℕ) → entry-lts.Need-returns-2 (
   basic-value-reads.Asked,
   basic-value-reads.Learnt,
@@ -1833,7 +2237,7 @@ entry-returns-2 : (t : ℕ) → entry-lts.Need-returns-2 (
 ) (entry-at t) entry.Post
 entry-returns-2 t c = item-value-stop _ _ _ _ _ _ _ _ _ _ _ _ _ _ _ _ _ _ _ _ _ (c .before .before .before .before .before .before .before .before .before .before .before .before .before .before .before .before .before .before .before .before .before .before .before .before .before .before .before .before .before .before .before .before .before .pre .1 .1) (c .before .before .before .before .before .before .before .before .before .before .before .before .before .before .before .before .before .before .before .before .before .before .before .before .basic-value .ensures _ 0 []) (c .before .before .before .before .before .before .before .before .before .before .before .before .before .before .before .before .before .before .before .before .before .if1 .left) _ _ _ _ (c .before .before .before .before .before .value .ensures) (c .if2 .taken)
 
--- src/lib.rt:335:31
+-- src/lib.rt:378:31
 entry-add-add-2 : (t : ℕ) → entry-lts.Need-add-add-2 (
   basic-value-reads.Asked,
   basic-value-reads.Learnt,
@@ -1852,7 +2256,7 @@ entry-add-add-2 : (t : ℕ) → entry-lts.Need-add-add-2 (
 ) (entry-at t) entry.Post
 entry-add-add-2 t c = omega (arith, (bounds (c .before .before .before .before .before .before .before .before .before .before .before .before .before .before .before .before .before .before .before .before .before .if1 .left) (c .before .before .before .before .before .before .before .before .before .before .before .before .before .before .before .before .before .before .before .before .before .before .before .before .basic-value .ensures noneOpen 0 [])) .small, c .before .before .before .before .before .before .before .before .before .before .before .before .pad .ensures .0 .1)
 
--- src/lib.rt:335:27
+-- src/lib.rt:378:27
 entry-add-requires-3 : (t : ℕ) → entry-lts.Need-add-requires-3 (
   basic-value-reads.Asked,
   basic-value-reads.Learnt,
@@ -1871,7 +2275,7 @@ entry-add-requires-3 : (t : ℕ) → entry-lts.Need-add-requires-3 (
 ) (entry-at t) entry.Post
 entry-add-requires-3 t c κs = search needs
 
--- src/lib.rt:335:9
+-- src/lib.rt:378:9
 entry-ran-requires : (t : ℕ) → entry-lts.Need-ran-requires (
   basic-value-reads.Asked,
   basic-value-reads.Learnt,
@@ -1890,7 +2294,7 @@ entry-ran-requires : (t : ℕ) → entry-lts.Need-ran-requires (
 ) (entry-at t) entry.Post
 entry-ran-requires t c κs = search needs
 
--- src/lib.rt:336:5
+-- src/lib.rt:379:5
 entry-structure-end-requires : (t : ℕ) → entry-lts.Need-structure-end-requires (
   basic-value-reads.Asked,
   basic-value-reads.Learnt,
@@ -1909,7 +2313,7 @@ entry-structure-end-requires : (t : ℕ) → entry-lts.Need-structure-end-requir
 ) (entry-at t) entry.Post
 entry-structure-end-requires t c κs = (c .before .before .before .before .before .before .before .before .before .before .before .before .before .before .before .before .before .before .before .before .before .before .before .before .before .before .before .before .before .before .before .before .before .before .before .before .before .pre .1 .3 .near, c .before .before .before .before .before .before .before .before .before .before .before .before .before .before .before .before .before .before .before .before .before .before .before .before .before .before .before .before .before .before .before .before .before .before .before .before .before .pre .1 .3 .few, c .before .before .before .before .before .before .before .before .before .before .before .before .before .before .before .before .before .before .before .before .before .before .before .before .before .before .before .before .before .before .before .before .before .before .before .before .before .pre .1 .0 .aligned, λ z. rw (c .before .before .ran .ensures) (omega (arith, c .before .before .before .add3 .ensures)), λ z. rw (c .before .before .ran .ensures) (kept-few _ _ _ _ _ _ _ _ (c .before .before .before .before .before .before .before .before .before .before .before .before .before .before .before .before .before .before .before .before .before .before .keep .ensures)))
 
--- src/lib.rt:289:1
+-- src/lib.rt:332:1
 entry-same-length-4 : (t : ℕ) → entry-lts.Need-same-length-4 (
   basic-value-reads.Asked,
   basic-value-reads.Learnt,
@@ -1928,7 +2332,7 @@ entry-same-length-4 : (t : ℕ) → entry-lts.Need-same-length-4 (
 ) (entry-at t) entry.Post
 entry-same-length-4 t c = omega (arith, c .before .before .structure-end .kept, c .before .before .before .before .before .before .before .before .before .before .before .before .value .kept, c .before .before .before .before .before .before .before .before .before .before .before .before .before .before .before .before .before .before .before .pad .kept, c .before .before .before .before .before .before .before .before .before .before .before .before .before .before .before .before .before .before .before .before .before .before .before .before .before .keep .kept, c .before .before .before .before .before .before .before .before .before .before .before .before .before .before .before .before .before .before .before .before .before .before .before .before .before .before .before .before .before .before .before .basic-value .kept)
 
--- src/lib.rt:289:1
+-- src/lib.rt:332:1
 entry-same-length-5 : (t : ℕ) → entry-lts.Need-same-length-5 (
   basic-value-reads.Asked,
   basic-value-reads.Learnt,
@@ -1947,7 +2351,7 @@ entry-same-length-5 : (t : ℕ) → entry-lts.Need-same-length-5 (
 ) (entry-at t) entry.Post
 entry-same-length-5 t c = omega (arith, c .before .before .before .before .before .before .before .before .before .before .before .before .value .kept, c .before .before .before .before .before .before .before .before .before .before .before .before .before .before .before .before .before .before .before .before .before .before .before .before .before .keep .kept)
 
--- src/lib.rt:289:1
+-- src/lib.rt:332:1
 entry-returns-3 : (t : ℕ) → entry-lts.Need-returns-3 (
   basic-value-reads.Asked,
   basic-value-reads.Learnt,
@@ -1972,7 +2376,7 @@ fields-Inv-loop text shapes at events texts context out₀ ends₀ base top i₀
 abbrev fields-μ-loop : fields-lts.MeasureT-loop
 fields-μ-loop text shapes at events texts context out₀ ends₀ base top i₀ e₀ k₀ j₀ out ends i e k j = length text - i
 
--- src/lib.rt:418:5
+-- src/lib.rt:461:5
 fields-loop-holds : (t : ℕ) → fields-lts.Need-loop-holds (
   shape-in-reads.Asked,
   shape-in-reads.Learnt,
@@ -1993,7 +2397,7 @@ fields-loop-holds : (t : ℕ) → fields-lts.Need-loop-holds (
 ) (fields-at t) fields.Post fields-Inv-loop fields-μ-loop
 fields-loop-holds t c = fields-begin _ _ _ (few-variants (c .before .before .before .before .before .before .pre .1 .2)) _ _ _ _ _ _ _ _ _ (c .before .before .before .before .before .before .pre .1 .0) (c .before .before .before .before .before .before .pre .1 .3 .within)
 
--- src/lib.rt:419:13
+-- src/lib.rt:462:13
 fields-shape-in-requires : (t : ℕ) → fields-lts.Need-shape-in-requires (
   shape-in-reads.Asked,
   shape-in-reads.Learnt,
@@ -2014,7 +2418,7 @@ fields-shape-in-requires : (t : ℕ) → fields-lts.Need-shape-in-requires (
 ) (fields-at t) fields.Post fields-Inv-loop fields-μ-loop
 fields-shape-in-requires t c κs = search needs
 
--- src/lib.rt:420:13
+-- src/lib.rt:463:13
 fields-letter-at-requires : (t : ℕ) → fields-lts.Need-letter-at-requires (
   shape-in-reads.Asked,
   shape-in-reads.Learnt,
@@ -2035,7 +2439,7 @@ fields-letter-at-requires : (t : ℕ) → fields-lts.Need-letter-at-requires (
 ) (fields-at t) fields.Post fields-Inv-loop fields-μ-loop
 fields-letter-at-requires t c κs = search needs
 
--- src/lib.rt:421:26
+-- src/lib.rt:464:26
 fields-add-pad : (t : ℕ) → fields-lts.Need-add-pad (
   shape-in-reads.Asked,
   shape-in-reads.Learnt,
@@ -2056,7 +2460,7 @@ fields-add-pad : (t : ℕ) → fields-lts.Need-add-pad (
 ) (fields-at t) fields.Post fields-Inv-loop fields-μ-loop
 fields-add-pad t c = omega (arith, c .before .before .before .loop .inv .small, c .before .before .before .before .before .before .before .before .before .before .pre .1 .3 .near)
 
--- src/lib.rt:421:13
+-- src/lib.rt:464:13
 fields-pad-requires : (t : ℕ) → fields-lts.Need-pad-requires (
   shape-in-reads.Asked,
   shape-in-reads.Learnt,
@@ -2077,7 +2481,7 @@ fields-pad-requires : (t : ℕ) → fields-lts.Need-pad-requires (
 ) (fields-at t) fields.Post fields-Inv-loop fields-μ-loop
 fields-pad-requires t c κs = (omega (arith, c .before .before .before .loop .inv .small, c .before .before .before .before .before .before .before .before .before .before .pre .1 .3 .near), described-aligned ((field-here _ _ _ (c .before .before .before .loop .inv .rowed) (c .before .before .before .before .before .before .before .before .before .before .pre .1 .1) _ (c .before .before .shape-in .ensures) _ (c .before .letter-at .ensures)) .shape))
 
--- src/lib.rt:424:30
+-- src/lib.rt:467:30
 fields-add-add : (t : ℕ) → fields-lts.Need-add-add (
   shape-in-reads.Asked,
   shape-in-reads.Learnt,
@@ -2098,7 +2502,7 @@ fields-add-add : (t : ℕ) → fields-lts.Need-add-add (
 ) (fields-at t) fields.Post fields-Inv-loop fields-μ-loop
 fields-add-add t c = omega (arith, c .before .before .before .before .before .before .loop .inv .small, c .before .before .pad .ensures .0 .1)
 
--- src/lib.rt:424:20
+-- src/lib.rt:467:20
 fields-add-requires : (t : ℕ) → fields-lts.Need-add-requires (
   shape-in-reads.Asked,
   shape-in-reads.Learnt,
@@ -2119,7 +2523,7 @@ fields-add-requires : (t : ℕ) → fields-lts.Need-add-requires (
 ) (fields-at t) fields.Post fields-Inv-loop fields-μ-loop
 fields-add-requires t c κs = search needs
 
--- src/lib.rt:425:18
+-- src/lib.rt:468:18
 fields-add-requires-2 : (t : ℕ) → fields-lts.Need-add-requires-2 (
   shape-in-reads.Asked,
   shape-in-reads.Learnt,
@@ -2140,7 +2544,7 @@ fields-add-requires-2 : (t : ℕ) → fields-lts.Need-add-requires-2 (
 ) (fields-at t) fields.Post fields-Inv-loop fields-μ-loop
 fields-add-requires-2 t c κs = search needs
 
--- src/lib.rt:427:13
+-- src/lib.rt:470:13
 fields-value-requires : (t : ℕ) → fields-lts.Need-value-requires (
   shape-in-reads.Asked,
   shape-in-reads.Learnt,
@@ -2161,7 +2565,7 @@ fields-value-requires : (t : ℕ) → fields-lts.Need-value-requires (
 ) (fields-at t) fields.Post fields-Inv-loop fields-μ-loop
 fields-value-requires t c κs = (omega (arith, c .before .before .before .before .before .before .before .before .before .before .before .before .before .before .before .before .before .pre .0), ((field-here _ _ _ (c .before .before .before .before .before .before .before .before .before .before .loop .inv .rowed) (c .before .before .before .before .before .before .before .before .before .before .before .before .before .before .before .before .before .pre .1 .1) _ (c .before .before .before .before .before .before .before .before .before .shape-in .ensures) _ (c .before .before .before .before .before .before .before .before .letter-at .ensures)) .shape, c .before .before .before .before .before .before .before .before .before .before .before .before .before .before .before .before .before .pre .1 .2, record { within = c .before .before .before .before .before .before .before .before .before .before .loop .inv .within; near = omega (arith, c .before .before .before .add .ensures); few = omega (arith, c .before .before .add2 .ensures) }))
 
--- src/lib.rt:440:13
+-- src/lib.rt:483:13
 fields-stopped-requires : (t : ℕ) → fields-lts.Need-stopped-requires (
   shape-in-reads.Asked,
   shape-in-reads.Learnt,
@@ -2182,7 +2586,7 @@ fields-stopped-requires : (t : ℕ) → fields-lts.Need-stopped-requires (
 ) (fields-at t) fields.Post fields-Inv-loop fields-μ-loop
 fields-stopped-requires t c κs = search needs
 
--- src/lib.rt:440:13
+-- src/lib.rt:483:13
 fields-same-length : (t : ℕ) → fields-lts.Need-same-length (
   shape-in-reads.Asked,
   shape-in-reads.Learnt,
@@ -2203,7 +2607,7 @@ fields-same-length : (t : ℕ) → fields-lts.Need-same-length (
 ) (fields-at t) fields.Post fields-Inv-loop fields-μ-loop
 fields-same-length t c = search needs
 
--- src/lib.rt:440:13
+-- src/lib.rt:483:13
 fields-same-length-2 : (t : ℕ) → fields-lts.Need-same-length-2 (
   shape-in-reads.Asked,
   shape-in-reads.Learnt,
@@ -2224,7 +2628,7 @@ fields-same-length-2 : (t : ℕ) → fields-lts.Need-same-length-2 (
 ) (fields-at t) fields.Post fields-Inv-loop fields-μ-loop
 fields-same-length-2 t c = search needs
 
--- src/lib.rt:440:13
+-- src/lib.rt:483:13
 fields-returns : (t : ℕ) → fields-lts.Need-returns (
   shape-in-reads.Asked,
   shape-in-reads.Learnt,
@@ -2245,7 +2649,7 @@ fields-returns : (t : ℕ) → fields-lts.Need-returns (
 ) (fields-at t) fields.Post fields-Inv-loop fields-μ-loop
 fields-returns t c = rw (c .stopped .ensures) (fields-stop _ _ _ (few-variants (c .before .before .before .before .before .before .before .before .before .before .before .before .before .before .before .before .before .before .before .before .before .before .before .before .pre .1 .2)) _ _ _ _ _ _ _ _ _ _ _ _ _ _ _ _ (c .before .before .before .before .before .before .before .before .before .before .before .before .before .before .before .before .before .loop .inv) _ _ _ _ _ _ _ (c .before .before .before .before .before .before .value .ensures) _ (last-field-of _ _ _ (c .before .before .before .before .before .before .before .before .before .before .before .before .before .before .before .before .before .loop .inv .rowed) (c .before .before .before .before .before .before .before .before .before .before .before .before .before .before .before .before .before .before .before .before .before .before .before .before .pre .1 .1) _ (c .before .before .before .before .before .before .before .before .before .before .before .before .before .before .before .before .shape-in .ensures) _ (c .before .before .before .before .before .before .before .before .before .before .before .before .before .before .before .letter-at .ensures)) (next-field-of _ _ _ (c .before .before .before .before .before .before .before .before .before .before .before .before .before .before .before .before .before .loop .inv .rowed) (c .before .before .before .before .before .before .before .before .before .before .before .before .before .before .before .before .before .before .before .before .before .before .before .before .pre .1 .1) _ (c .before .before .before .before .before .before .before .before .before .before .before .before .before .before .before .before .shape-in .ensures) _ (c .before .before .before .before .before .before .before .before .before .before .before .before .before .before .before .letter-at .ensures)) (c .before .if1 .taken))
 
--- src/lib.rt:442:17
+-- src/lib.rt:485:17
 fields-add-add-2 : (t : ℕ) → fields-lts.Need-add-add-2 (
   shape-in-reads.Asked,
   shape-in-reads.Learnt,
@@ -2266,7 +2670,7 @@ fields-add-add-2 : (t : ℕ) → fields-lts.Need-add-add-2 (
 ) (fields-at t) fields.Post fields-Inv-loop fields-μ-loop
 fields-add-add-2 t c = omega (arith, c .before .before .before .before .before .before .before .before .before .before .before .before .before .before .before .before .loop .inv .small, c .before .before .before .before .before .before .before .before .before .before .before .before .pad .ensures .0 .1)
 
--- src/lib.rt:442:9
+-- src/lib.rt:485:9
 fields-add-requires-3 : (t : ℕ) → fields-lts.Need-add-requires-3 (
   shape-in-reads.Asked,
   shape-in-reads.Learnt,
@@ -2287,7 +2691,7 @@ fields-add-requires-3 : (t : ℕ) → fields-lts.Need-add-requires-3 (
 ) (fields-at t) fields.Post fields-Inv-loop fields-μ-loop
 fields-add-requires-3 t c κs = search needs
 
--- src/lib.rt:445:13
+-- src/lib.rt:488:13
 fields-enum-told : (t : ℕ) → fields-lts.Need-enum-told (
   shape-in-reads.Asked,
   shape-in-reads.Learnt,
@@ -2308,7 +2712,7 @@ fields-enum-told : (t : ℕ) → fields-lts.Need-enum-told (
 ) (fields-at t) fields.Post fields-Inv-loop fields-μ-loop
 fields-enum-told t c = search needs
 
--- src/lib.rt:445:13
+-- src/lib.rt:488:13
 fields-ran-requires : (t : ℕ) → fields-lts.Need-ran-requires (
   shape-in-reads.Asked,
   shape-in-reads.Learnt,
@@ -2329,7 +2733,7 @@ fields-ran-requires : (t : ℕ) → fields-lts.Need-ran-requires (
 ) (fields-at t) fields.Post fields-Inv-loop fields-μ-loop
 fields-ran-requires t c κs = search needs
 
--- src/lib.rt:445:13
+-- src/lib.rt:488:13
 fields-same-length-3 : (t : ℕ) → fields-lts.Need-same-length-3 (
   shape-in-reads.Asked,
   shape-in-reads.Learnt,
@@ -2350,7 +2754,7 @@ fields-same-length-3 : (t : ℕ) → fields-lts.Need-same-length-3 (
 ) (fields-at t) fields.Post fields-Inv-loop fields-μ-loop
 fields-same-length-3 t c = omega (arith, c .before .before .before .before .before .before .before .before .before .before .before .before .before .before .before .before .before .before .before .before .loop .inv .same, c .before .before .before .before .before .before .before .before .before .value .kept, c .before .before .before .before .before .before .before .before .before .before .before .before .before .before .before .before .pad .kept)
 
--- src/lib.rt:445:13
+-- src/lib.rt:488:13
 fields-same-length-4 : (t : ℕ) → fields-lts.Need-same-length-4 (
   shape-in-reads.Asked,
   shape-in-reads.Learnt,
@@ -2371,7 +2775,7 @@ fields-same-length-4 : (t : ℕ) → fields-lts.Need-same-length-4 (
 ) (fields-at t) fields.Post fields-Inv-loop fields-μ-loop
 fields-same-length-4 t c = omega (arith, c .before .before .before .before .before .before .before .before .before .before .before .before .before .before .before .before .before .before .before .before .loop .inv .sames, c .before .before .before .before .before .before .before .before .before .value .kept)
 
--- src/lib.rt:445:13
+-- src/lib.rt:488:13
 fields-returns-2 : (t : ℕ) → fields-lts.Need-returns-2 (
   shape-in-reads.Asked,
   shape-in-reads.Learnt,
@@ -2392,7 +2796,7 @@ fields-returns-2 : (t : ℕ) → fields-lts.Need-returns-2 (
 ) (fields-at t) fields.Post fields-Inv-loop fields-μ-loop
 fields-returns-2 t c = rw (c .ran .ensures) (fields-last _ _ _ (few-variants (c .before .before .before .before .before .before .before .before .before .before .before .before .before .before .before .before .before .before .before .before .before .before .before .before .before .before .before .pre .1 .2)) _ _ _ _ _ _ _ _ _ _ _ _ _ _ _ _ (c .before .before .before .before .before .before .before .before .before .before .before .before .before .before .before .before .before .before .before .before .loop .inv) _ _ _ _ _ _ _ (c .before .before .before .before .before .before .before .before .before .value .ensures) _ _ (c .before .before .before .before .if1 .left) (described-alignment ((field-here _ _ _ (c .before .before .before .before .before .before .before .before .before .before .before .before .before .before .before .before .before .before .before .before .loop .inv .rowed) (c .before .before .before .before .before .before .before .before .before .before .before .before .before .before .before .before .before .before .before .before .before .before .before .before .before .before .before .pre .1 .1) _ (c .before .before .before .before .before .before .before .before .before .before .before .before .before .before .before .before .before .before .before .shape-in .ensures) _ (c .before .before .before .before .before .before .before .before .before .before .before .before .before .before .before .before .before .before .letter-at .ensures)) .shape)) (c .before .before .before .before .before .before .before .before .before .before .before .before .before .before .before .before .pad .ensures .0 .0) (c .before .before .before .before .before .before .before .before .before .before .before .before .before .before .before .before .pad .ensures .1) (c .before .before .before .before .before .before .before .before .before .before .before .before .before .add .ensures) (c .before .before .before .before .before .before .before .before .before .before .before .before .add2 .ensures) (c .before .before .before .add3 .ensures) (omega (arith, c .before .before .before .before .before .before .before .before .before .before .before .before .before .before .before .before .before .before .before .before .loop .inv .same)) (omega (arith, c .before .before .before .before .before .before .before .before .before .before .before .before .before .before .before .before .before .before .before .before .loop .inv .sames)) (last-field-of _ _ _ (c .before .before .before .before .before .before .before .before .before .before .before .before .before .before .before .before .before .before .before .before .loop .inv .rowed) (c .before .before .before .before .before .before .before .before .before .before .before .before .before .before .before .before .before .before .before .before .before .before .before .before .before .before .before .pre .1 .1) _ (c .before .before .before .before .before .before .before .before .before .before .before .before .before .before .before .before .before .before .before .shape-in .ensures) _ (c .before .before .before .before .before .before .before .before .before .before .before .before .before .before .before .before .before .before .letter-at .ensures) (c .before .enum-told .given .1)))
 
--- src/lib.rt:447:9
+-- src/lib.rt:490:9
 fields-keep-requires : (t : ℕ) → fields-lts.Need-keep-requires (
   shape-in-reads.Asked,
   shape-in-reads.Learnt,
@@ -2413,7 +2817,7 @@ fields-keep-requires : (t : ℕ) → fields-lts.Need-keep-requires (
 ) (fields-at t) fields.Post fields-Inv-loop fields-μ-loop
 fields-keep-requires t c κs = omega (arith, c .before .before .before .before .before .before .before .before .before .before .before .before .before .before .before .before .before .before .before .before .loop .inv .few, c .before .before .before .before .before .before .before .before .before .before .before .before .before .before .before .before .before .before .before .before .before .before .before .before .before .before .before .pre .1 .3 .few)
 
--- src/lib.rt:418:5
+-- src/lib.rt:461:5
 fields-loop-less : (t : ℕ) → fields-lts.Need-loop-less (
   shape-in-reads.Asked,
   shape-in-reads.Learnt,
@@ -2434,7 +2838,7 @@ fields-loop-less : (t : ℕ) → fields-lts.Need-loop-less (
 ) (fields-at t) fields.Post fields-Inv-loop fields-μ-loop
 fields-loop-less t c = let q = (next-field-of _ _ _ (c .before .before .before .before .before .before .before .before .before .before .before .before .before .before .before .before .before .before .before .before .before .before .before .before .before .loop .inv .rowed) (c .before .before .before .before .before .before .before .before .before .before .before .before .before .before .before .before .before .before .before .before .before .before .before .before .before .before .before .before .before .before .before .before .pre .1 .1) _ (c .before .before .before .before .before .before .before .before .before .before .before .before .before .before .before .before .before .before .before .before .before .before .before .before .shape-in .ensures) _ (c .before .before .before .before .before .before .before .before .before .before .before .before .before .before .before .before .before .before .before .before .before .before .before .letter-at .ensures) (apart-from CloseStructure _ (c .before .before .before .before .before .before .before .match .keys2))) in omega (arith, q .onward, q .within)
 
--- src/lib.rt:418:5
+-- src/lib.rt:461:5
 fields-loop-again : (t : ℕ) → fields-lts.Need-loop-again (
   shape-in-reads.Asked,
   shape-in-reads.Learnt,
@@ -2455,7 +2859,7 @@ fields-loop-again : (t : ℕ) → fields-lts.Need-loop-again (
 ) (fields-at t) fields.Post fields-Inv-loop fields-μ-loop
 fields-loop-again t c = fields-next _ _ _ (few-variants (c .before .before .before .before .before .before .before .before .before .before .before .before .before .before .before .before .before .before .before .before .before .before .before .before .before .before .before .before .before .before .before .before .pre .1 .2)) _ _ _ _ _ _ _ _ _ _ _ _ _ _ _ _ (c .before .before .before .before .before .before .before .before .before .before .before .before .before .before .before .before .before .before .before .before .before .before .before .before .before .loop .inv) _ _ _ _ _ _ _ (c .before .before .before .before .before .before .before .before .before .before .before .before .before .before .value .ensures) _ _ (c .before .before .before .before .before .before .before .before .before .if1 .left) (described-alignment ((field-here _ _ _ (c .before .before .before .before .before .before .before .before .before .before .before .before .before .before .before .before .before .before .before .before .before .before .before .before .before .loop .inv .rowed) (c .before .before .before .before .before .before .before .before .before .before .before .before .before .before .before .before .before .before .before .before .before .before .before .before .before .before .before .before .before .before .before .before .pre .1 .1) _ (c .before .before .before .before .before .before .before .before .before .before .before .before .before .before .before .before .before .before .before .before .before .before .before .before .shape-in .ensures) _ (c .before .before .before .before .before .before .before .before .before .before .before .before .before .before .before .before .before .before .before .before .before .before .before .letter-at .ensures)) .shape)) (c .before .before .before .before .before .before .before .before .before .before .before .before .before .before .before .before .before .before .before .before .before .pad .ensures .0 .0) (c .before .before .before .before .before .before .before .before .before .before .before .before .before .before .before .before .before .before .before .before .before .pad .ensures .1) (c .before .before .before .before .before .before .before .before .before .before .before .before .before .before .before .before .before .before .add .ensures) (c .before .before .before .before .before .before .before .before .before .before .before .before .before .before .before .before .before .add2 .ensures) (c .before .before .before .before .before .before .before .before .add3 .ensures) (omega (arith, c .before .before .before .before .before .before .before .before .before .before .before .before .before .before .before .before .before .before .before .before .before .before .before .before .before .loop .inv .same)) (omega (arith, c .before .before .before .before .before .before .before .before .before .before .before .before .before .before .before .before .before .before .before .before .before .before .before .before .before .loop .inv .sames)) _ _ _ (next-field-of _ _ _ (c .before .before .before .before .before .before .before .before .before .before .before .before .before .before .before .before .before .before .before .before .before .before .before .before .before .loop .inv .rowed) (c .before .before .before .before .before .before .before .before .before .before .before .before .before .before .before .before .before .before .before .before .before .before .before .before .before .before .before .before .before .before .before .before .pre .1 .1) _ (c .before .before .before .before .before .before .before .before .before .before .before .before .before .before .before .before .before .before .before .before .before .before .before .before .shape-in .ensures) _ (c .before .before .before .before .before .before .before .before .before .before .before .before .before .before .before .before .before .before .before .before .before .before .before .letter-at .ensures) (apart-from CloseStructure _ (c .before .before .before .before .before .before .before .match .keys2))) (c .before .before .before .before .keep .ensures) (omega (arith, c .before .before .before .before .before .before .before .before .before .before .before .before .before .before .before .before .before .before .before .before .before .before .before .before .before .loop .inv .same)) (omega (arith, c .before .before .before .before .before .before .before .before .before .before .before .before .before .before .before .before .before .before .before .before .before .before .before .before .before .loop .inv .sames))
 
--- src/lib.rt:117:8
+-- src/lib.rt:119:8
 maybe-plain-at-requires : (t : ℕ) → maybe-lts.Need-plain-at-requires (
   plain-at-reads.Asked,
   plain-at-reads.Learnt,
@@ -2474,7 +2878,7 @@ maybe-plain-at-requires : (t : ℕ) → maybe-lts.Need-plain-at-requires (
 ) (maybe-at t) maybe.Post
 maybe-plain-at-requires t c κs = c .before .before .before .before .before .before .pre .1 .3 .within
 
--- src/lib.rt:118:22
+-- src/lib.rt:120:22
 maybe-add-wrote : (t : ℕ) → maybe-lts.Need-add-wrote (
   plain-at-reads.Asked,
   plain-at-reads.Learnt,
@@ -2493,7 +2897,7 @@ maybe-add-wrote : (t : ℕ) → maybe-lts.Need-add-wrote (
 ) (maybe-at t) maybe.Post
 maybe-add-wrote t c = omega (arith, c .before .plain-at .ensures .here (c .if1 .taken) .whole)
 
--- src/lib.rt:118:9
+-- src/lib.rt:120:9
 maybe-wrote-requires : (t : ℕ) → maybe-lts.Need-wrote-requires (
   plain-at-reads.Asked,
   plain-at-reads.Learnt,
@@ -2512,7 +2916,7 @@ maybe-wrote-requires : (t : ℕ) → maybe-lts.Need-wrote-requires (
 ) (maybe-at t) maybe.Post
 maybe-wrote-requires t c κs = search needs
 
--- src/lib.rt:118:9
+-- src/lib.rt:120:9
 maybe-returns : (t : ℕ) → maybe-lts.Need-returns (
   plain-at-reads.Asked,
   plain-at-reads.Learnt,
@@ -2531,7 +2935,7 @@ maybe-returns : (t : ℕ) → maybe-lts.Need-returns (
 ) (maybe-at t) maybe.Post
 maybe-returns t c = rw (c .wrote .ensures) (value-nothing _ _ (c .before .before .before .before .before .before .before .before .before .pre .1 .0 .typed) (c .before .before .before .before .before .before .before .before .before .pre .1 .1) _ _ _ _ _ _ _ _ _ (c .before .before .plain-at .ensures .here (c .before .if1 .taken)))
 
--- src/lib.rt:120:9
+-- src/lib.rt:122:9
 maybe-plain-at-requires-2 : (t : ℕ) → maybe-lts.Need-plain-at-requires-2 (
   plain-at-reads.Asked,
   plain-at-reads.Learnt,
@@ -2550,7 +2954,7 @@ maybe-plain-at-requires-2 : (t : ℕ) → maybe-lts.Need-plain-at-requires-2 (
 ) (maybe-at t) maybe.Post
 maybe-plain-at-requires-2 t c κs = c .before .before .before .before .before .before .before .before .pre .1 .3 .within
 
--- src/lib.rt:121:9
+-- src/lib.rt:123:9
 maybe-refused-requires : (t : ℕ) → maybe-lts.Need-refused-requires (
   plain-at-reads.Asked,
   plain-at-reads.Learnt,
@@ -2569,7 +2973,7 @@ maybe-refused-requires : (t : ℕ) → maybe-lts.Need-refused-requires (
 ) (maybe-at t) maybe.Post
 maybe-refused-requires t c κs = search needs
 
--- src/lib.rt:121:9
+-- src/lib.rt:123:9
 maybe-returns-2 : (t : ℕ) → maybe-lts.Need-returns-2 (
   plain-at-reads.Asked,
   plain-at-reads.Learnt,
@@ -2588,7 +2992,7 @@ maybe-returns-2 : (t : ℕ) → maybe-lts.Need-returns-2 (
 ) (maybe-at t) maybe.Post
 maybe-returns-2 t c = rw (c .refused .ensures) (value-neither _ _ (c .before .before .before .before .before .before .before .before .before .before .before .pre .1 .0 .typed) (c .before .before .before .before .before .before .before .before .before .before .before .pre .1 .1) _ _ _ _ _ _ _ _ _ (c .before .before .before .before .plain-at .ensures .not (c .before .before .before .if1 .left)) (c .before .before .plain-at2 .ensures .not (not-true _ (c .before .if2 .taken))))
 
--- src/lib.rt:123:9
+-- src/lib.rt:125:9
 maybe-inc-maybe-requires : (t : ℕ) → maybe-lts.Need-inc-maybe-requires (
   plain-at-reads.Asked,
   plain-at-reads.Learnt,
@@ -2607,7 +3011,7 @@ maybe-inc-maybe-requires : (t : ℕ) → maybe-lts.Need-inc-maybe-requires (
 ) (maybe-at t) maybe.Post
 maybe-inc-maybe-requires t c κs = search needs
 
--- src/lib.rt:126:9
+-- src/lib.rt:128:9
 maybe-refused-requires-2 : (t : ℕ) → maybe-lts.Need-refused-requires-2 (
   plain-at-reads.Asked,
   plain-at-reads.Learnt,
@@ -2626,7 +3030,7 @@ maybe-refused-requires-2 : (t : ℕ) → maybe-lts.Need-refused-requires-2 (
 ) (maybe-at t) maybe.Post
 maybe-refused-requires-2 t c κs = search needs
 
--- src/lib.rt:126:9
+-- src/lib.rt:128:9
 maybe-returns-3 : (t : ℕ) → maybe-lts.Need-returns-3 (
   plain-at-reads.Asked,
   plain-at-reads.Learnt,
@@ -2645,7 +3049,7 @@ maybe-returns-3 : (t : ℕ) → maybe-lts.Need-returns-3 (
 ) (maybe-at t) maybe.Post
 maybe-returns-3 t c = rw (c .refused2 .ensures) (value-maybe-deep _ _ (c .before .before .before .before .before .before .before .before .before .before .before .before .before .pre .1 .0 .typed) (c .before .before .before .before .before .before .before .before .before .before .before .before .before .pre .1 .1) _ _ _ _ _ _ _ _ _ (c .before .before .before .before .plain-at2 .ensures .here (not-false _ (c .before .before .before .if2 .left))) _ (c .before .before .inc-maybe .ensures) (c .before .if3 .taken))
 
--- src/lib.rt:133:39
+-- src/lib.rt:135:39
 maybe-add-shape-in : (t : ℕ) → maybe-lts.Need-add-shape-in (
   plain-at-reads.Asked,
   plain-at-reads.Learnt,
@@ -2664,7 +3068,7 @@ maybe-add-shape-in : (t : ℕ) → maybe-lts.Need-add-shape-in (
 ) (maybe-at t) maybe.Post
 maybe-add-shape-in t c = omega (arith, cut (c .before .before .before .before .before .before .before .before .before .before .before .before .before .before .args .text .now) (c .before .before .before .before .before .before .before .before .before .before .before .before .before .before .args .shape .at) Maybe 109 (c .before .before .before .before .before .before .before .before .before .before .before .before .before .before .pre .1 .1) refl .within, c .before .before .before .before .before .before .before .before .before .before .before .before .before .before .pre .1 .0 .typed .short)
 
--- src/lib.rt:133:9
+-- src/lib.rt:135:9
 maybe-shape-in-requires : (t : ℕ) → maybe-lts.Need-shape-in-requires (
   plain-at-reads.Asked,
   plain-at-reads.Learnt,
@@ -2683,7 +3087,7 @@ maybe-shape-in-requires : (t : ℕ) → maybe-lts.Need-shape-in-requires (
 ) (maybe-at t) maybe.Post
 maybe-shape-in-requires t c κs = search needs
 
--- src/lib.rt:135:15
+-- src/lib.rt:137:15
 maybe-add-t23 : (t : ℕ) → maybe-lts.Need-add-t23 (
   plain-at-reads.Asked,
   plain-at-reads.Learnt,
@@ -2702,7 +3106,7 @@ maybe-add-t23 : (t : ℕ) → maybe-lts.Need-add-t23 (
 ) (maybe-at t) maybe.Post
 maybe-add-t23 t c = omega (arith, c .before .before .before .before .before .before .plain-at2 .ensures .here (not-false _ (c .before .before .before .before .before .if2 .left)) .whole, c .before .before .before .before .before .before)
 
--- src/lib.rt:139:9
+-- src/lib.rt:141:9
 maybe-value-requires : (t : ℕ) → maybe-lts.Need-value-requires (
   plain-at-reads.Asked,
   plain-at-reads.Learnt,
@@ -2721,7 +3125,7 @@ maybe-value-requires : (t : ℕ) → maybe-lts.Need-value-requires (
 ) (maybe-at t) maybe.Post
 maybe-value-requires t c κs = (omega (arith, level-falls Depth.maybe (c .before .before .before .before .before .before .before .before .before .before .before .before .before .before .before .before .before .args .context .depths) (c .before .before .before .before .before .before .inc-maybe .result) (c .before .before .before .before .before .before .inc-maybe .ensures) (c .before .before .before .before .before .if3 .left), c .before .before .before .before .before .before .before .before .before .before .before .before .before .before .before .before .before .pre .0), ((described-as (c .before .before .shape-in .ensures) (maybe-described _ _ (c .before .before .before .before .before .before .before .before .before .before .before .before .before .before .before .before .before .pre .1 .0 .typed) (c .before .before .before .before .before .before .before .before .before .before .before .before .before .before .before .before .before .pre .1 .1) _ (c .before .before .before .before .before .before .before .before .before .before .before .before .before .before .before .before .before .pre .1 .0 .table))), raised-shallow Depth.maybe _ _ (c .before .before .before .before .before .before .inc-maybe .ensures) _ (c .before .before .before .before .before .if3 .left), record { within = c .before .before .before .before .before .before .before .before .plain-at2 .ensures .here (not-false _ (c .before .before .before .before .before .before .before .if2 .left)) .whole; near = c .before .before .before .before .before .before .before .before .before .before .before .before .before .before .before .before .before .pre .1 .3 .near; few = c .before .before .before .before .before .before .before .before .before .before .before .before .before .before .before .before .before .pre .1 .3 .few }))
 
--- src/lib.rt:140:5
+-- src/lib.rt:142:5
 maybe-present-requires : (t : ℕ) → maybe-lts.Need-present-requires (
   plain-at-reads.Asked,
   plain-at-reads.Learnt,
@@ -2740,7 +3144,7 @@ maybe-present-requires : (t : ℕ) → maybe-lts.Need-present-requires (
 ) (maybe-at t) maybe.Post
 maybe-present-requires t c κs = (c .before .before .before .before .before .before .before .before .before .before .before .before .before .before .before .before .before .before .before .before .before .before .before .pre .1 .3 .near, λ z. bounds z (c .before .before .before .before .before .value .ensures) .small)
 
--- src/lib.rt:101:1
+-- src/lib.rt:103:1
 maybe-same-length : (t : ℕ) → maybe-lts.Need-same-length (
   plain-at-reads.Asked,
   plain-at-reads.Learnt,
@@ -2759,7 +3163,7 @@ maybe-same-length : (t : ℕ) → maybe-lts.Need-same-length (
 ) (maybe-at t) maybe.Post
 maybe-same-length t c = search needs
 
--- src/lib.rt:101:1
+-- src/lib.rt:103:1
 maybe-same-length-2 : (t : ℕ) → maybe-lts.Need-same-length-2 (
   plain-at-reads.Asked,
   plain-at-reads.Learnt,
@@ -2778,7 +3182,7 @@ maybe-same-length-2 : (t : ℕ) → maybe-lts.Need-same-length-2 (
 ) (maybe-at t) maybe.Post
 maybe-same-length-2 t c = search needs
 
--- src/lib.rt:101:1
+-- src/lib.rt:103:1
 maybe-returns-4 : (t : ℕ) → maybe-lts.Need-returns-4 (
   plain-at-reads.Asked,
   plain-at-reads.Learnt,
@@ -2797,7 +3201,7 @@ maybe-returns-4 : (t : ℕ) → maybe-lts.Need-returns-4 (
 ) (maybe-at t) maybe.Post
 maybe-returns-4 t c = value-present _ _ (c .before .before .before .before .before .before .before .before .before .before .before .before .before .before .before .before .before .before .before .before .before .before .before .before .before .before .pre .1 .0 .typed) (c .before .before .before .before .before .before .before .before .before .before .before .before .before .before .before .before .before .before .before .before .before .before .before .before .before .before .pre .1 .1) _ _ _ _ _ _ _ _ _ (c .before .before .before .before .before .before .before .before .before .before .before .before .before .before .before .before .before .plain-at2 .ensures .here (not-false _ (c .before .before .before .before .before .before .before .before .before .before .before .before .before .before .before .before .if2 .left))) _ (c .before .before .before .before .before .before .before .before .before .before .before .before .before .before .before .inc-maybe .ensures) (c .before .before .before .before .before .before .before .before .before .before .before .shape-in .result) _ _ _ (c .before .before .before .before .before .before .before .before .before .before .before .before .before .before .if3 .left) (ap (λ (s : Shape). s .at) (c .before .before .before .before .before .before .before .before .before .before .before .shape-in .ensures)) (described-fixed (described-as (c .before .before .before .before .before .before .before .before .before .before .before .shape-in .ensures) (maybe-described _ _ (c .before .before .before .before .before .before .before .before .before .before .before .before .before .before .before .before .before .before .before .before .before .before .before .before .before .before .pre .1 .0 .typed) (c .before .before .before .before .before .before .before .before .before .before .before .before .before .before .before .before .before .before .before .before .before .before .before .before .before .before .pre .1 .1) _ (c .before .before .before .before .before .before .before .before .before .before .before .before .before .before .before .before .before .before .before .before .before .before .before .before .before .before .pre .1 .0 .table)))) (c .before .before .present .ensures _ _ _ _ _ _ _ _ (omega arith) (c .before .before .before .before .before .before .before .before .value .ensures))
 
--- src/lib.rt:356:9
+-- src/lib.rt:399:9
 structure-plain-at-requires : (t : ℕ) → structure-lts.Need-plain-at-requires (
   plain-at-reads.Asked,
   plain-at-reads.Learnt,
@@ -2814,7 +3218,7 @@ structure-plain-at-requires : (t : ℕ) → structure-lts.Need-plain-at-requires
 ) (structure-at t) structure.Post
 structure-plain-at-requires t c κs = c .before .before .before .before .before .before .pre .1 .3 .within
 
--- src/lib.rt:357:9
+-- src/lib.rt:400:9
 structure-refused-requires : (t : ℕ) → structure-lts.Need-refused-requires (
   plain-at-reads.Asked,
   plain-at-reads.Learnt,
@@ -2831,7 +3235,7 @@ structure-refused-requires : (t : ℕ) → structure-lts.Need-refused-requires (
 ) (structure-at t) structure.Post
 structure-refused-requires t c κs = search needs
 
--- src/lib.rt:357:9
+-- src/lib.rt:400:9
 structure-returns : (t : ℕ) → structure-lts.Need-returns (
   plain-at-reads.Asked,
   plain-at-reads.Learnt,
@@ -2848,7 +3252,7 @@ structure-returns : (t : ℕ) → structure-lts.Need-returns (
 ) (structure-at t) structure.Post
 structure-returns t c = rw (c .refused .ensures) (value-structure-not (c .before .before .before .before .before .before .before .before .before .pre .1 .0) (c .before .before .before .before .before .before .before .before .before .pre .1 .1) _ _ _ (few-variants (c .before .before .before .before .before .before .before .before .before .pre .1 .2)) _ _ _ _ _ _ (c .before .before .plain-at .ensures .not (not-true _ (c .before .if1 .taken))))
 
--- src/lib.rt:359:9
+-- src/lib.rt:402:9
 structure-inc-structure-requires : (t : ℕ) → structure-lts.Need-inc-structure-requires (
   plain-at-reads.Asked,
   plain-at-reads.Learnt,
@@ -2865,7 +3269,7 @@ structure-inc-structure-requires : (t : ℕ) → structure-lts.Need-inc-structur
 ) (structure-at t) structure.Post
 structure-inc-structure-requires t c κs = search needs
 
--- src/lib.rt:362:9
+-- src/lib.rt:405:9
 structure-refused-requires-2 : (t : ℕ) → structure-lts.Need-refused-requires-2 (
   plain-at-reads.Asked,
   plain-at-reads.Learnt,
@@ -2882,7 +3286,7 @@ structure-refused-requires-2 : (t : ℕ) → structure-lts.Need-refused-requires
 ) (structure-at t) structure.Post
 structure-refused-requires-2 t c κs = search needs
 
--- src/lib.rt:362:9
+-- src/lib.rt:405:9
 structure-returns-2 : (t : ℕ) → structure-lts.Need-returns-2 (
   plain-at-reads.Asked,
   plain-at-reads.Learnt,
@@ -2899,7 +3303,7 @@ structure-returns-2 : (t : ℕ) → structure-lts.Need-returns-2 (
 ) (structure-at t) structure.Post
 structure-returns-2 t c = rw (c .refused2 .ensures) (value-structure-deep (c .before .before .before .before .before .before .before .before .before .before .before .pre .1 .0) (c .before .before .before .before .before .before .before .before .before .before .before .pre .1 .1) _ _ _ (few-variants (c .before .before .before .before .before .before .before .before .before .before .before .pre .1 .2)) _ _ _ _ _ _ (c .before .before .before .before .plain-at .ensures .here (not-false _ (c .before .before .before .if1 .left))) _ (c .before .before .inc-structure .ensures) (c .before .if2 .taken))
 
--- src/lib.rt:370:15
+-- src/lib.rt:413:15
 structure-add-fields : (t : ℕ) → structure-lts.Need-add-fields (
   plain-at-reads.Asked,
   plain-at-reads.Learnt,
@@ -2916,7 +3320,7 @@ structure-add-fields : (t : ℕ) → structure-lts.Need-add-fields (
 ) (structure-at t) structure.Post
 structure-add-fields t c = omega (arith, c .before .before .before .before .plain-at .ensures .here (not-false _ (c .before .before .before .if1 .left)) .whole)
 
--- src/lib.rt:377:9
+-- src/lib.rt:420:9
 structure-add-fields-2 : (t : ℕ) → structure-lts.Need-add-fields-2 (
   plain-at-reads.Asked,
   plain-at-reads.Learnt,
@@ -2933,7 +3337,7 @@ structure-add-fields-2 : (t : ℕ) → structure-lts.Need-add-fields-2 (
 ) (structure-at t) structure.Post
 structure-add-fields-2 t c = omega (arith, cut (c .before .before .before .before .before .before .before .before .before .before .before .before .args .text .now) (c .before .before .before .before .before .before .before .before .before .before .before .before .args .shape .at) OpenStructure 40 (c .before .before .before .before .before .before .before .before .before .before .before .before .pre .1 .1) refl .within, c .before .before .before .before .before .before .before .before .before .before .before .before .pre .1 .0 .typed .short)
 
--- src/lib.rt:374:9
+-- src/lib.rt:417:9
 structure-fields-requires : (t : ℕ) → structure-lts.Need-fields-requires (
   plain-at-reads.Asked,
   plain-at-reads.Learnt,
@@ -2950,7 +3354,7 @@ structure-fields-requires : (t : ℕ) → structure-lts.Need-fields-requires (
 ) (structure-at t) structure.Post
 structure-fields-requires t c κs = (omega (arith, level-falls Depth.structure (c .before .before .before .before .before .before .before .before .before .before .before .before .before .before .args .context .depths) (c .before .before .before .before .before .inc-structure .result) (c .before .before .before .before .before .inc-structure .ensures) (c .before .before .before .before .if2 .left), c .before .before .before .before .before .before .before .before .before .before .before .before .before .before .pre .0), (structure-rowed (c .before .before .before .before .before .before .before .before .before .before .before .before .before .before .pre .1 .0) (c .before .before .before .before .before .before .before .before .before .before .before .before .before .before .pre .1 .1), c .before .before .before .before .before .before .before .before .before .before .before .before .before .before .pre .1 .0 .table, raised-shallow Depth.structure _ _ (c .before .before .before .before .before .inc-structure .ensures) _ (c .before .before .before .before .if2 .left), record { within = c .before .before .before .before .before .before .before .plain-at .ensures .here (not-false _ (c .before .before .before .before .before .before .if1 .left)) .whole; near = c .before .before .before .before .before .before .before .before .before .before .before .before .before .before .pre .1 .3 .near; few = c .before .before .before .before .before .before .before .before .before .before .before .before .before .before .pre .1 .3 .few }))
 
--- src/lib.rt:385:9
+-- src/lib.rt:428:9
 structure-ended-requires : (t : ℕ) → structure-lts.Need-ended-requires (
   plain-at-reads.Asked,
   plain-at-reads.Learnt,
@@ -2967,7 +3371,7 @@ structure-ended-requires : (t : ℕ) → structure-lts.Need-ended-requires (
 ) (structure-at t) structure.Post
 structure-ended-requires t c κs = λ z. row-bounds z (c .before .before .before .before .fields .ensures) .within
 
--- src/lib.rt:386:5
+-- src/lib.rt:429:5
 structure-structure-end-requires : (t : ℕ) → structure-lts.Need-structure-end-requires (
   plain-at-reads.Asked,
   plain-at-reads.Learnt,
@@ -2984,7 +3388,7 @@ structure-structure-end-requires : (t : ℕ) → structure-lts.Need-structure-en
 ) (structure-at t) structure.Post
 structure-structure-end-requires t c κs = (c .before .before .before .before .before .before .before .before .before .before .before .before .before .before .before .before .before .before .before .before .before .before .pre .1 .3 .near, c .before .before .before .before .before .before .before .before .before .before .before .before .before .before .before .before .before .before .before .before .before .before .pre .1 .3 .few, described-aligned (c .before .before .before .before .before .before .before .before .before .before .before .before .before .before .before .before .before .before .before .before .before .before .pre .1 .0), λ z. row-bounds z (c .before .before .ended .ensures _ _ _ _ _ _ _ _ _ _ _ (c .before .before .before .before .before .before .before .fields .ensures)) .small, λ z. row-bounds z (c .before .before .ended .ensures _ _ _ _ _ _ _ _ _ _ _ (c .before .before .before .before .before .before .before .fields .ensures)) .few)
 
--- src/lib.rt:341:1
+-- src/lib.rt:384:1
 structure-same-length : (t : ℕ) → structure-lts.Need-same-length (
   plain-at-reads.Asked,
   plain-at-reads.Learnt,
@@ -3001,7 +3405,7 @@ structure-same-length : (t : ℕ) → structure-lts.Need-same-length (
 ) (structure-at t) structure.Post
 structure-same-length t c = search needs
 
--- src/lib.rt:341:1
+-- src/lib.rt:384:1
 structure-same-length-2 : (t : ℕ) → structure-lts.Need-same-length-2 (
   plain-at-reads.Asked,
   plain-at-reads.Learnt,
@@ -3018,7 +3422,7 @@ structure-same-length-2 : (t : ℕ) → structure-lts.Need-same-length-2 (
 ) (structure-at t) structure.Post
 structure-same-length-2 t c = search needs
 
--- src/lib.rt:341:1
+-- src/lib.rt:384:1
 structure-returns-3 : (t : ℕ) → structure-lts.Need-returns-3 (
   plain-at-reads.Asked,
   plain-at-reads.Learnt,
@@ -3035,7 +3439,7 @@ structure-returns-3 : (t : ℕ) → structure-lts.Need-returns-3 (
 ) (structure-at t) structure.Post
 structure-returns-3 t c = value-structure (c .before .before .before .before .before .before .before .before .before .before .before .before .before .before .before .before .before .before .before .before .before .before .before .before .before .pre .1 .0) (c .before .before .before .before .before .before .before .before .before .before .before .before .before .before .before .before .before .before .before .before .before .before .before .before .before .pre .1 .1) _ _ _ (few-variants (c .before .before .before .before .before .before .before .before .before .before .before .before .before .before .before .before .before .before .before .before .before .before .before .before .before .pre .1 .2)) _ _ _ _ _ _ (c .before .before .before .before .before .before .before .before .before .before .before .before .before .before .before .before .before .before .plain-at .ensures .here (not-false _ (c .before .before .before .before .before .before .before .before .before .before .before .before .before .before .before .before .before .if1 .left))) _ (c .before .before .before .before .before .before .before .before .before .before .before .before .before .before .before .before .inc-structure .ensures) _ _ _ (c .before .before .before .before .before .before .before .before .before .before .before .before .before .before .before .if2 .left) (c .before .before .structure-end .ensures _ _ _ _ _ _ _ (structure-structured _ _) (λ f. sealed-no-ends _ _ _ (few-variants (raised-shallow Depth.structure _ _ (c .before .before .before .before .before .before .before .before .before .before .before .before .before .before .before .before .inc-structure .ensures) false (c .before .before .before .before .before .before .before .before .before .before .before .before .before .before .before .if2 .left))) _ _ (sym (structure-fixed (c .before .before .before .before .before .before .before .before .before .before .before .before .before .before .before .before .before .before .before .before .before .before .before .before .before .pre .1 .0) (c .before .before .before .before .before .before .before .before .before .before .before .before .before .before .before .before .before .before .before .before .before .before .before .before .before .pre .1 .1)) ∙ f) _) (λ z. omega (arith, row-bounds z (c .before .before .before .before .before .ended .ensures _ _ _ _ _ _ _ _ _ _ _ (c .before .before .before .before .before .before .before .before .before .before .fields .ensures)) .forward)) (omega arith) (omega arith) (c .before .before .before .before .before .ended .ensures _ _ _ _ _ _ _ _ _ _ _ (c .before .before .before .before .before .before .before .before .before .before .fields .ensures)))
 
--- src/lib.rt:70:55
+-- src/lib.rt:72:55
 value-enum-told : (t : ℕ) → value-lts.Need-enum-told (
   boolean-reads.Asked,
   boolean-reads.Learnt,
@@ -3054,7 +3458,7 @@ value-enum-told : (t : ℕ) → value-lts.Need-enum-told (
 ) (value-at t) value.Post
 value-enum-told t c = search needs
 
--- src/lib.rt:70:28
+-- src/lib.rt:72:28
 value-boolean-requires : (t : ℕ) → value-lts.Need-boolean-requires (
   boolean-reads.Asked,
   boolean-reads.Learnt,
@@ -3073,7 +3477,7 @@ value-boolean-requires : (t : ℕ) → value-lts.Need-boolean-requires (
 ) (value-at t) value.Post
 value-boolean-requires t c κs = (c .before .before .before .before .before .before .before .before .before .pre .1 .2 .within, c .before .before .before .before .before .before .before .before .before .pre .1 .2 .near)
 
--- src/lib.rt:71:26
+-- src/lib.rt:73:26
 value-enum-known-kind : (t : ℕ) → value-lts.Need-enum-known-kind (
   boolean-reads.Asked,
   boolean-reads.Learnt,
@@ -3092,7 +3496,7 @@ value-enum-known-kind : (t : ℕ) → value-lts.Need-enum-known-kind (
 ) (value-at t) value.Post
 value-enum-known-kind t c = search needs
 
--- src/lib.rt:71:43
+-- src/lib.rt:73:43
 value-number-requires : (t : ℕ) → value-lts.Need-number-requires (
   boolean-reads.Asked,
   boolean-reads.Learnt,
@@ -3111,7 +3515,7 @@ value-number-requires : (t : ℕ) → value-lts.Need-number-requires (
 ) (value-at t) value.Post
 value-number-requires t c κs = (c .before .before .before .before .before .before .before .before .before .before .pre .1 .2 .within, c .before .before .before .before .before .before .before .before .before .before .pre .1 .2 .near, number-aligned-at _ _ (c .before .before .before .before .before .before .before .before .before .before .pre .1 .0 .typed) _ _ (sym (described-kind (c .before .before .before .before .before .before .before .before .before .before .pre .1 .0)) ∙ c .before .before .kind .given .1))
 
--- src/lib.rt:80:24
+-- src/lib.rt:82:24
 value-enum-known-kind-2 : (t : ℕ) → value-lts.Need-enum-known-kind-2 (
   boolean-reads.Asked,
   boolean-reads.Learnt,
@@ -3130,7 +3534,7 @@ value-enum-known-kind-2 : (t : ℕ) → value-lts.Need-enum-known-kind-2 (
 ) (value-at t) value.Post
 value-enum-known-kind-2 t c = search needs
 
--- src/lib.rt:80:34
+-- src/lib.rt:82:34
 value-text-value-requires : (t : ℕ) → value-lts.Need-text-value-requires (
   boolean-reads.Asked,
   boolean-reads.Learnt,
@@ -3149,7 +3553,7 @@ value-text-value-requires : (t : ℕ) → value-lts.Need-text-value-requires (
 ) (value-at t) value.Post
 value-text-value-requires t c κs = (c .before .before .before .before .before .before .before .before .before .before .pre .1 .2 .within, c .before .before .before .before .before .before .before .before .before .before .pre .1 .2 .near)
 
--- src/lib.rt:81:83
+-- src/lib.rt:83:83
 value-enum-told-2 : (t : ℕ) → value-lts.Need-enum-told-2 (
   boolean-reads.Asked,
   boolean-reads.Learnt,
@@ -3168,7 +3572,7 @@ value-enum-told-2 : (t : ℕ) → value-lts.Need-enum-told-2 (
 ) (value-at t) value.Post
 value-enum-told-2 t c = search needs
 
--- src/lib.rt:81:26
+-- src/lib.rt:83:26
 value-maybe-requires : (t : ℕ) → value-lts.Need-maybe-requires (
   boolean-reads.Asked,
   boolean-reads.Learnt,
@@ -3187,7 +3591,7 @@ value-maybe-requires : (t : ℕ) → value-lts.Need-maybe-requires (
 ) (value-at t) value.Post
 value-maybe-requires t c κs = (omega (arith, c .before .before .before .before .before .before .before .before .before .before .pre .0), (c .before .before .before .before .before .before .before .before .before .before .pre .1 .0, (sym (described-kind (c .before .before .before .before .before .before .before .before .before .before .pre .1 .0)) ∙ c .before .before .enum-told2 .given .1), c .before .before .before .before .before .before .before .before .before .before .pre .1 .1, c .before .before .before .before .before .before .before .before .before .before .pre .1 .2))
 
--- src/lib.rt:82:83
+-- src/lib.rt:84:83
 value-enum-told-3 : (t : ℕ) → value-lts.Need-enum-told-3 (
   boolean-reads.Asked,
   boolean-reads.Learnt,
@@ -3206,7 +3610,7 @@ value-enum-told-3 : (t : ℕ) → value-lts.Need-enum-told-3 (
 ) (value-at t) value.Post
 value-enum-told-3 t c = search needs
 
--- src/lib.rt:82:26
+-- src/lib.rt:84:26
 value-array-requires : (t : ℕ) → value-lts.Need-array-requires (
   boolean-reads.Asked,
   boolean-reads.Learnt,
@@ -3225,7 +3629,7 @@ value-array-requires : (t : ℕ) → value-lts.Need-array-requires (
 ) (value-at t) value.Post
 value-array-requires t c κs = (omega (arith, c .before .before .before .before .before .before .before .before .before .before .pre .0), (c .before .before .before .before .before .before .before .before .before .before .pre .1 .0, (sym (described-kind (c .before .before .before .before .before .before .before .before .before .before .pre .1 .0)) ∙ c .before .before .enum-told3 .given .1), c .before .before .before .before .before .before .before .before .before .before .pre .1 .1, c .before .before .before .before .before .before .before .before .before .before .pre .1 .2))
 
--- src/lib.rt:91:13
+-- src/lib.rt:93:13
 value-enum-told-4 : (t : ℕ) → value-lts.Need-enum-told-4 (
   boolean-reads.Asked,
   boolean-reads.Learnt,
@@ -3244,7 +3648,7 @@ value-enum-told-4 : (t : ℕ) → value-lts.Need-enum-told-4 (
 ) (value-at t) value.Post
 value-enum-told-4 t c = search needs
 
--- src/lib.rt:83:34
+-- src/lib.rt:85:34
 value-structure-requires : (t : ℕ) → value-lts.Need-structure-requires (
   boolean-reads.Asked,
   boolean-reads.Learnt,
@@ -3263,7 +3667,7 @@ value-structure-requires : (t : ℕ) → value-lts.Need-structure-requires (
 ) (value-at t) value.Post
 value-structure-requires t c κs = (omega (arith, c .before .before .before .before .before .before .before .before .before .before .pre .0), (c .before .before .before .before .before .before .before .before .before .before .pre .1 .0, (sym (described-kind (c .before .before .before .before .before .before .before .before .before .before .pre .1 .0)) ∙ c .before .before .enum-told4 .given .1), c .before .before .before .before .before .before .before .before .before .before .pre .1 .1, c .before .before .before .before .before .before .before .before .before .before .pre .1 .2))
 
--- src/lib.rt:94:66
+-- src/lib.rt:96:66
 value-enum-told-5 : (t : ℕ) → value-lts.Need-enum-told-5 (
   boolean-reads.Asked,
   boolean-reads.Learnt,
@@ -3282,7 +3686,7 @@ value-enum-told-5 : (t : ℕ) → value-lts.Need-enum-told-5 (
 ) (value-at t) value.Post
 value-enum-told-5 t c = search needs
 
--- src/lib.rt:94:28
+-- src/lib.rt:96:28
 value-variant-requires : (t : ℕ) → value-lts.Need-variant-requires (
   boolean-reads.Asked,
   boolean-reads.Learnt,
@@ -3301,7 +3705,7 @@ value-variant-requires : (t : ℕ) → value-lts.Need-variant-requires (
 ) (value-at t) value.Post
 value-variant-requires t c κs = (omega (arith, c .before .before .before .before .before .before .before .before .before .before .pre .0), (c .before .before .before .before .before .before .before .before .before .before .pre .1 .1, c .before .before .before .before .before .before .before .before .before .before .pre .1 .2))
 
--- src/lib.rt:95:14
+-- src/lib.rt:97:14
 value-variant-requires-2 : (t : ℕ) → value-lts.Need-variant-requires-2 (
   boolean-reads.Asked,
   boolean-reads.Learnt,
@@ -3320,7 +3724,7 @@ value-variant-requires-2 : (t : ℕ) → value-lts.Need-variant-requires-2 (
 ) (value-at t) value.Post
 value-variant-requires-2 t c κs = (omega (arith, c .before .before .before .before .before .before .before .before .before .pre .0), (c .before .before .before .before .before .before .before .before .before .pre .1 .1, c .before .before .before .before .before .before .before .before .before .pre .1 .2))
 
--- src/lib.rt:54:1
+-- src/lib.rt:56:1
 value-same-length : (t : ℕ) → value-lts.Need-same-length (
   boolean-reads.Asked,
   boolean-reads.Learnt,
@@ -3339,7 +3743,7 @@ value-same-length : (t : ℕ) → value-lts.Need-same-length (
 ) (value-at t) value.Post
 value-same-length t c = search needs
 
--- src/lib.rt:54:1
+-- src/lib.rt:56:1
 value-returns : (t : ℕ) → value-lts.Need-returns (
   boolean-reads.Asked,
   boolean-reads.Learnt,
@@ -3358,7 +3762,7 @@ value-returns : (t : ℕ) → value-lts.Need-returns (
 ) (value-at t) value.Post
 value-returns t c = value-boolean _ _ (c .before .before .before .before .before .before .before .before .before .before .before .before .pre .1 .0 .typed) _ _ _ _ _ _ _ _ _ _ _ (sym (described-kind (c .before .before .before .before .before .before .before .before .before .before .before .before .pre .1 .0)) ∙ c .before .before .before .before .enum-told .given .1) (c .before .before .boolean .ensures)
 
--- src/lib.rt:54:1
+-- src/lib.rt:56:1
 value-same-length-2 : (t : ℕ) → value-lts.Need-same-length-2 (
   boolean-reads.Asked,
   boolean-reads.Learnt,
@@ -3377,7 +3781,7 @@ value-same-length-2 : (t : ℕ) → value-lts.Need-same-length-2 (
 ) (value-at t) value.Post
 value-same-length-2 t c = search needs
 
--- src/lib.rt:54:1
+-- src/lib.rt:56:1
 value-returns-2 : (t : ℕ) → value-lts.Need-returns-2 (
   boolean-reads.Asked,
   boolean-reads.Learnt,
@@ -3396,7 +3800,7 @@ value-returns-2 : (t : ℕ) → value-lts.Need-returns-2 (
 ) (value-at t) value.Post
 value-returns-2 t c = value-number _ _ (c .before .before .before .before .before .before .before .before .before .before .before .before .before .pre .1 .0 .typed) _ _ _ _ _ _ _ _ _ _ _ _ _ (sym (described-kind (c .before .before .before .before .before .before .before .before .before .before .before .before .before .pre .1 .0)) ∙ c .before .before .before .before .before .kind .given .1) (c .before .before .number .ensures)
 
--- src/lib.rt:54:1
+-- src/lib.rt:56:1
 value-same-length-3 : (t : ℕ) → value-lts.Need-same-length-3 (
   boolean-reads.Asked,
   boolean-reads.Learnt,
@@ -3415,7 +3819,7 @@ value-same-length-3 : (t : ℕ) → value-lts.Need-same-length-3 (
 ) (value-at t) value.Post
 value-same-length-3 t c = search needs
 
--- src/lib.rt:54:1
+-- src/lib.rt:56:1
 value-returns-3 : (t : ℕ) → value-lts.Need-returns-3 (
   boolean-reads.Asked,
   boolean-reads.Learnt,
@@ -3434,7 +3838,7 @@ value-returns-3 : (t : ℕ) → value-lts.Need-returns-3 (
 ) (value-at t) value.Post
 value-returns-3 t c = value-text _ _ (c .before .before .before .before .before .before .before .before .before .before .before .before .before .pre .1 .0 .typed) _ _ _ _ _ _ _ _ _ _ _ _ (sym (described-kind (c .before .before .before .before .before .before .before .before .before .before .before .before .before .pre .1 .0)) ∙ c .before .before .before .before .before .kind2 .given .1) (c .before .before .text-value .ensures)
 
--- src/lib.rt:54:1
+-- src/lib.rt:56:1
 value-same-length-4 : (t : ℕ) → value-lts.Need-same-length-4 (
   boolean-reads.Asked,
   boolean-reads.Learnt,
@@ -3453,7 +3857,7 @@ value-same-length-4 : (t : ℕ) → value-lts.Need-same-length-4 (
 ) (value-at t) value.Post
 value-same-length-4 t c = search needs
 
--- src/lib.rt:54:1
+-- src/lib.rt:56:1
 value-same-length-5 : (t : ℕ) → value-lts.Need-same-length-5 (
   boolean-reads.Asked,
   boolean-reads.Learnt,
@@ -3472,7 +3876,7 @@ value-same-length-5 : (t : ℕ) → value-lts.Need-same-length-5 (
 ) (value-at t) value.Post
 value-same-length-5 t c = search needs
 
--- src/lib.rt:54:1
+-- src/lib.rt:56:1
 value-returns-4 : (t : ℕ) → value-lts.Need-returns-4 (
   boolean-reads.Asked,
   boolean-reads.Learnt,
@@ -3491,7 +3895,7 @@ value-returns-4 : (t : ℕ) → value-lts.Need-returns-4 (
 ) (value-at t) value.Post
 value-returns-4 t c = c .before .before .before .before .maybe .ensures
 
--- src/lib.rt:54:1
+-- src/lib.rt:56:1
 value-same-length-6 : (t : ℕ) → value-lts.Need-same-length-6 (
   boolean-reads.Asked,
   boolean-reads.Learnt,
@@ -3510,7 +3914,7 @@ value-same-length-6 : (t : ℕ) → value-lts.Need-same-length-6 (
 ) (value-at t) value.Post
 value-same-length-6 t c = search needs
 
--- src/lib.rt:54:1
+-- src/lib.rt:56:1
 value-same-length-7 : (t : ℕ) → value-lts.Need-same-length-7 (
   boolean-reads.Asked,
   boolean-reads.Learnt,
@@ -3529,7 +3933,7 @@ value-same-length-7 : (t : ℕ) → value-lts.Need-same-length-7 (
 ) (value-at t) value.Post
 value-same-length-7 t c = search needs
 
--- src/lib.rt:54:1
+-- src/lib.rt:56:1
 value-returns-5 : (t : ℕ) → value-lts.Need-returns-5 (
   boolean-reads.Asked,
   boolean-reads.Learnt,
@@ -3548,7 +3952,7 @@ value-returns-5 : (t : ℕ) → value-lts.Need-returns-5 (
 ) (value-at t) value.Post
 value-returns-5 t c = c .before .before .before .before .array .ensures
 
--- src/lib.rt:54:1
+-- src/lib.rt:56:1
 value-same-length-8 : (t : ℕ) → value-lts.Need-same-length-8 (
   boolean-reads.Asked,
   boolean-reads.Learnt,
@@ -3567,7 +3971,7 @@ value-same-length-8 : (t : ℕ) → value-lts.Need-same-length-8 (
 ) (value-at t) value.Post
 value-same-length-8 t c = search needs
 
--- src/lib.rt:54:1
+-- src/lib.rt:56:1
 value-same-length-9 : (t : ℕ) → value-lts.Need-same-length-9 (
   boolean-reads.Asked,
   boolean-reads.Learnt,
@@ -3586,7 +3990,7 @@ value-same-length-9 : (t : ℕ) → value-lts.Need-same-length-9 (
 ) (value-at t) value.Post
 value-same-length-9 t c = search needs
 
--- src/lib.rt:54:1
+-- src/lib.rt:56:1
 value-returns-6 : (t : ℕ) → value-lts.Need-returns-6 (
   boolean-reads.Asked,
   boolean-reads.Learnt,
@@ -3605,7 +4009,7 @@ value-returns-6 : (t : ℕ) → value-lts.Need-returns-6 (
 ) (value-at t) value.Post
 value-returns-6 t c = c .before .before .before .before .structure .ensures
 
--- src/lib.rt:54:1
+-- src/lib.rt:56:1
 value-same-length-10 : (t : ℕ) → value-lts.Need-same-length-10 (
   boolean-reads.Asked,
   boolean-reads.Learnt,
@@ -3624,7 +4028,7 @@ value-same-length-10 : (t : ℕ) → value-lts.Need-same-length-10 (
 ) (value-at t) value.Post
 value-same-length-10 t c = search needs
 
--- src/lib.rt:54:1
+-- src/lib.rt:56:1
 value-same-length-11 : (t : ℕ) → value-lts.Need-same-length-11 (
   boolean-reads.Asked,
   boolean-reads.Learnt,
@@ -3643,7 +4047,7 @@ value-same-length-11 : (t : ℕ) → value-lts.Need-same-length-11 (
 ) (value-at t) value.Post
 value-same-length-11 t c = search needs
 
--- src/lib.rt:54:1
+-- src/lib.rt:56:1
 value-returns-7 : (t : ℕ) → value-lts.Need-returns-7 (
   boolean-reads.Asked,
   boolean-reads.Learnt,
@@ -3662,7 +4066,7 @@ value-returns-7 : (t : ℕ) → value-lts.Need-returns-7 (
 ) (value-at t) value.Post
 value-returns-7 t c = value-variant _ _ (c .before .before .before .before .before .before .before .before .before .before .before .before .before .before .before .pre .1 .0 .typed) _ _ _ _ _ _ _ _ _ _ _ _ (sym (described-kind (c .before .before .before .before .before .before .before .before .before .before .before .before .before .before .before .pre .1 .0)) ∙ c .before .before .before .before .before .before .before .enum-told5 .given .1) (c .before .before .before .before .variant .ensures)
 
--- src/lib.rt:54:1
+-- src/lib.rt:56:1
 value-same-length-12 : (t : ℕ) → value-lts.Need-same-length-12 (
   boolean-reads.Asked,
   boolean-reads.Learnt,
@@ -3681,7 +4085,7 @@ value-same-length-12 : (t : ℕ) → value-lts.Need-same-length-12 (
 ) (value-at t) value.Post
 value-same-length-12 t c = search needs
 
--- src/lib.rt:54:1
+-- src/lib.rt:56:1
 value-same-length-13 : (t : ℕ) → value-lts.Need-same-length-13 (
   boolean-reads.Asked,
   boolean-reads.Learnt,
@@ -3700,7 +4104,7 @@ value-same-length-13 : (t : ℕ) → value-lts.Need-same-length-13 (
 ) (value-at t) value.Post
 value-same-length-13 t c = search needs
 
--- src/lib.rt:54:1
+-- src/lib.rt:56:1
 value-returns-8 : (t : ℕ) → value-lts.Need-returns-8 (
   boolean-reads.Asked,
   boolean-reads.Learnt,
@@ -3719,7 +4123,7 @@ value-returns-8 : (t : ℕ) → value-lts.Need-returns-8 (
 ) (value-at t) value.Post
 value-returns-8 t c = value-none _ _ (c .before .before .before .before .before .before .before .before .before .before .before .before .before .before .pre .1 .0 .typed) _ _ _ _ _ _ _ _ _ _ _ _ _ (described-kind (c .before .before .before .before .before .before .before .before .before .before .before .before .before .before .pre .1 .0)) (c .before .before .before .before .before .before .before .match .keys8)
 
--- src/lib.rt:468:9
+-- src/lib.rt:511:9
 variant-plain-at-requires : (t : ℕ) → variant-lts.Need-plain-at-requires (
   plain-at-reads.Asked,
   plain-at-reads.Learnt,
@@ -3740,7 +4144,7 @@ variant-plain-at-requires : (t : ℕ) → variant-lts.Need-plain-at-requires (
 ) (variant-at t) variant.Post
 variant-plain-at-requires t c κs = c .before .before .before .before .pre .1 .1 .within
 
--- src/lib.rt:469:9
+-- src/lib.rt:512:9
 variant-refused-requires : (t : ℕ) → variant-lts.Need-refused-requires (
   plain-at-reads.Asked,
   plain-at-reads.Learnt,
@@ -3761,7 +4165,7 @@ variant-refused-requires : (t : ℕ) → variant-lts.Need-refused-requires (
 ) (variant-at t) variant.Post
 variant-refused-requires t c κs = search needs
 
--- src/lib.rt:469:9
+-- src/lib.rt:512:9
 variant-returns : (t : ℕ) → variant-lts.Need-returns (
   plain-at-reads.Asked,
   plain-at-reads.Learnt,
@@ -3782,7 +4186,7 @@ variant-returns : (t : ℕ) → variant-lts.Need-returns (
 ) (variant-at t) variant.Post
 variant-returns t c = rw (c .refused .ensures) (value-variant-not _ _ _ (few-variants (c .before .before .before .before .before .before .before .pre .1 .0)) _ _ _ _ _ _ (c .before .before .plain-at .ensures .not (not-true _ (c .before .if1 .taken))))
 
--- src/lib.rt:471:39
+-- src/lib.rt:514:39
 variant-add-text-at : (t : ℕ) → variant-lts.Need-add-text-at (
   plain-at-reads.Asked,
   plain-at-reads.Learnt,
@@ -3803,7 +4207,7 @@ variant-add-text-at : (t : ℕ) → variant-lts.Need-add-text-at (
 ) (variant-at t) variant.Post
 variant-add-text-at t c = omega (arith, c .before .plain-at .ensures .here (not-false _ (c .if1 .left)) .whole)
 
--- src/lib.rt:471:9
+-- src/lib.rt:514:9
 variant-text-at-requires : (t : ℕ) → variant-lts.Need-text-at-requires (
   plain-at-reads.Asked,
   plain-at-reads.Learnt,
@@ -3824,7 +4228,7 @@ variant-text-at-requires : (t : ℕ) → variant-lts.Need-text-at-requires (
 ) (variant-at t) variant.Post
 variant-text-at-requires t c κs = c .before .plain-at .ensures .here (not-false _ (c .if1 .left)) .whole
 
--- src/lib.rt:476:9
+-- src/lib.rt:519:9
 variant-refused-requires-2 : (t : ℕ) → variant-lts.Need-refused-requires-2 (
   plain-at-reads.Asked,
   plain-at-reads.Learnt,
@@ -3845,7 +4249,7 @@ variant-refused-requires-2 : (t : ℕ) → variant-lts.Need-refused-requires-2 (
 ) (variant-at t) variant.Post
 variant-refused-requires-2 t c κs = search needs
 
--- src/lib.rt:476:9
+-- src/lib.rt:519:9
 variant-returns-2 : (t : ℕ) → variant-lts.Need-returns-2 (
   plain-at-reads.Asked,
   plain-at-reads.Learnt,
@@ -3866,7 +4270,7 @@ variant-returns-2 : (t : ℕ) → variant-lts.Need-returns-2 (
 ) (variant-at t) variant.Post
 variant-returns-2 t c = rw (c .refused2 .ensures) (value-variant-text _ _ _ (few-variants (c .before .before .before .before .before .before .before .before .before .pre .1 .0)) _ _ _ _ _ _ (c .before .before .before .before .plain-at .ensures .here (not-false _ (c .before .before .before .if1 .left))) _ (c .before .before .text-at .ensures .refused (c .before .if2 .taken)))
 
--- src/lib.rt:478:21
+-- src/lib.rt:521:21
 variant-sub-signature : (t : ℕ) → variant-lts.Need-sub-signature (
   plain-at-reads.Asked,
   plain-at-reads.Learnt,
@@ -3887,7 +4291,7 @@ variant-sub-signature : (t : ℕ) → variant-lts.Need-sub-signature (
 ) (variant-at t) variant.Post
 variant-sub-signature t c = omega (arith, c .before .text-at .ensures .taken (c .if2 .left) .order)
 
--- src/lib.rt:478:21
+-- src/lib.rt:521:21
 variant-part-signature-start : (t : ℕ) → variant-lts.Need-part-signature-start (
   plain-at-reads.Asked,
   plain-at-reads.Learnt,
@@ -3908,7 +4312,7 @@ variant-part-signature-start : (t : ℕ) → variant-lts.Need-part-signature-sta
 ) (variant-at t) variant.Post
 variant-part-signature-start t c = c .before .text-at .ensures .taken (c .if2 .left) .order
 
--- src/lib.rt:478:21
+-- src/lib.rt:521:21
 variant-part-signature-end : (t : ℕ) → variant-lts.Need-part-signature-end (
   plain-at-reads.Asked,
   plain-at-reads.Learnt,
@@ -3929,7 +4333,7 @@ variant-part-signature-end : (t : ℕ) → variant-lts.Need-part-signature-end (
 ) (variant-at t) variant.Post
 variant-part-signature-end t c = c .before .text-at .ensures .taken (c .if2 .left) .inside
 
--- src/lib.rt:480:30
+-- src/lib.rt:523:30
 variant-slice-aggregate-shapes-of : (t : ℕ) → variant-lts.Need-slice-aggregate-shapes-of (
   plain-at-reads.Asked,
   plain-at-reads.Learnt,
@@ -3950,7 +4354,7 @@ variant-slice-aggregate-shapes-of : (t : ℕ) → variant-lts.Need-slice-aggrega
 ) (variant-at t) variant.Post
 variant-slice-aggregate-shapes-of t c = search needs
 
--- src/lib.rt:480:9
+-- src/lib.rt:523:9
 variant-shapes-of-requires : (t : ℕ) → variant-lts.Need-shapes-of-requires (
   plain-at-reads.Asked,
   plain-at-reads.Learnt,
@@ -3971,7 +4375,7 @@ variant-shapes-of-requires : (t : ℕ) → variant-lts.Need-shapes-of-requires (
 ) (variant-at t) variant.Post
 variant-shapes-of-requires t c κs = search needs
 
--- src/lib.rt:481:9
+-- src/lib.rt:524:9
 variant-refused-requires-3 : (t : ℕ) → variant-lts.Need-refused-requires-3 (
   plain-at-reads.Asked,
   plain-at-reads.Learnt,
@@ -3992,7 +4396,7 @@ variant-refused-requires-3 : (t : ℕ) → variant-lts.Need-refused-requires-3 (
 ) (variant-at t) variant.Post
 variant-refused-requires-3 t c κs = search needs
 
--- src/lib.rt:481:9
+-- src/lib.rt:524:9
 variant-returns-3 : (t : ℕ) → variant-lts.Need-returns-3 (
   plain-at-reads.Asked,
   plain-at-reads.Learnt,
@@ -4013,7 +4417,7 @@ variant-returns-3 : (t : ℕ) → variant-lts.Need-returns-3 (
 ) (variant-at t) variant.Post
 variant-returns-3 t c = rw (c .refused3 .ensures) (value-variant-type _ _ _ (few-variants (c .before .before .before .before .before .before .before .before .before .before .before .before .before .before .pre .1 .0)) _ _ _ _ _ _ (c .before .before .before .before .before .before .before .before .before .plain-at .ensures .here (not-false _ (c .before .before .before .before .before .before .before .before .if1 .left))) _ _ (c .before .before .before .before .before .before .before .text-at .ensures .taken (c .before .before .before .before .before .before .if2 .left)) (table-refused _ _ _ _ refl (c .before .before .before .shapes-of .ensures) (not-true _ (c .before .if3 .taken))))
 
--- src/lib.rt:483:9
+-- src/lib.rt:526:9
 variant-inc-variant-requires : (t : ℕ) → variant-lts.Need-inc-variant-requires (
   plain-at-reads.Asked,
   plain-at-reads.Learnt,
@@ -4034,7 +4438,7 @@ variant-inc-variant-requires : (t : ℕ) → variant-lts.Need-inc-variant-requir
 ) (variant-at t) variant.Post
 variant-inc-variant-requires t c κs = search needs
 
--- src/lib.rt:486:9
+-- src/lib.rt:529:9
 variant-refused-requires-4 : (t : ℕ) → variant-lts.Need-refused-requires-4 (
   plain-at-reads.Asked,
   plain-at-reads.Learnt,
@@ -4055,7 +4459,7 @@ variant-refused-requires-4 : (t : ℕ) → variant-lts.Need-refused-requires-4 (
 ) (variant-at t) variant.Post
 variant-refused-requires-4 t c κs = search needs
 
--- src/lib.rt:486:9
+-- src/lib.rt:529:9
 variant-returns-4 : (t : ℕ) → variant-lts.Need-returns-4 (
   plain-at-reads.Asked,
   plain-at-reads.Learnt,
@@ -4076,7 +4480,7 @@ variant-returns-4 : (t : ℕ) → variant-lts.Need-returns-4 (
 ) (variant-at t) variant.Post
 variant-returns-4 t c = rw (c .refused4 .ensures) (value-variant-deep _ _ _ (few-variants (c .before .before .before .before .before .before .before .before .before .before .before .before .before .before .before .before .pre .1 .0)) _ _ _ _ _ _ (c .before .before .before .before .before .before .before .before .before .before .before .plain-at .ensures .here (not-false _ (c .before .before .before .before .before .before .before .before .before .before .if1 .left))) _ _ (c .before .before .before .before .before .before .before .before .before .text-at .ensures .taken (c .before .before .before .before .before .before .before .before .if2 .left)) (table-type _ _ _ _ refl (c .before .before .before .before .before .shapes-of .ensures) (not-false _ (c .before .before .before .if3 .left))) _ (c .before .before .inc-variant .ensures) (c .before .if4 .taken))
 
--- src/lib.rt:493:37
+-- src/lib.rt:536:37
 variant-slice-aggregate-shape-in : (t : ℕ) → variant-lts.Need-slice-aggregate-shape-in (
   plain-at-reads.Asked,
   plain-at-reads.Learnt,
@@ -4097,7 +4501,7 @@ variant-slice-aggregate-shape-in : (t : ℕ) → variant-lts.Need-slice-aggregat
 ) (variant-at t) variant.Post
 variant-slice-aggregate-shape-in t c = search needs
 
--- src/lib.rt:493:9
+-- src/lib.rt:536:9
 variant-shape-in-requires : (t : ℕ) → variant-lts.Need-shape-in-requires (
   plain-at-reads.Asked,
   plain-at-reads.Learnt,
@@ -4118,7 +4522,7 @@ variant-shape-in-requires : (t : ℕ) → variant-lts.Need-shape-in-requires (
 ) (variant-at t) variant.Post
 variant-shape-in-requires t c κs = search needs
 
--- src/lib.rt:495:15
+-- src/lib.rt:538:15
 variant-add-t24 : (t : ℕ) → variant-lts.Need-add-t24 (
   plain-at-reads.Asked,
   plain-at-reads.Learnt,
@@ -4139,7 +4543,7 @@ variant-add-t24 : (t : ℕ) → variant-lts.Need-add-t24 (
 ) (variant-at t) variant.Post
 variant-add-t24 t c = let q : c .before .before .before .before .before .before .before .before .before .before .before .before .before .before .before .before .before .before .args .spot .next + 3 + 3 ≤ length (c .before .before .before .before .before .before .before .before .before .before .before .before .before .before .before .before .before .before .args .events .now) = c .before .before .before .before .before .before .before .before .before .before .before .text-at .ensures .taken (c .before .before .before .before .before .before .before .before .before .before .if2 .left) .at .whole in omega (arith, q, c .before .before .before .before .before .before .before .before .before .before .before .before .before)
 
--- src/lib.rt:501:9
+-- src/lib.rt:544:9
 variant-slice-aggregate-value : (t : ℕ) → variant-lts.Need-slice-aggregate-value (
   plain-at-reads.Asked,
   plain-at-reads.Learnt,
@@ -4160,7 +4564,7 @@ variant-slice-aggregate-value : (t : ℕ) → variant-lts.Need-slice-aggregate-v
 ) (variant-at t) variant.Post
 variant-slice-aggregate-value t c = search needs
 
--- src/lib.rt:499:9
+-- src/lib.rt:542:9
 variant-value-requires : (t : ℕ) → variant-lts.Need-value-requires (
   plain-at-reads.Asked,
   plain-at-reads.Learnt,
@@ -4181,7 +4585,7 @@ variant-value-requires : (t : ℕ) → variant-lts.Need-value-requires (
 ) (variant-at t) variant.Post
 variant-value-requires t c κs = (omega (arith, level-falls Depth.variant (c .before .before .before .before .before .before .before .before .before .before .before .before .before .before .before .before .before .before .before .before .before .args .context .depths) (c .before .before .before .before .before .before .before .inc-variant .result) (c .before .before .before .before .before .before .before .inc-variant .ensures) (c .before .before .before .before .before .before .if4 .left), c .before .before .before .before .before .before .before .before .before .before .before .before .before .before .before .before .before .before .before .before .before .pre .0), (described-as (c .before .before .before .shape-in .ensures) (front-described _ _ (table-filled _ _ _ _ refl (c .before .before .before .before .before .before .before .before .before .before .shapes-of .ensures) (c .before .before .before .before .before .before .before .before .before .before .shapes-of .kept .1 .0) (not-false _ (c .before .before .before .before .before .before .before .before .if3 .left))) (front _ (table-type _ _ _ _ refl (c .before .before .before .before .before .before .before .before .before .before .shapes-of .ensures) (not-false _ (c .before .before .before .before .before .before .before .before .if3 .left))))), raised-shallow Depth.variant _ _ (c .before .before .before .before .before .before .before .inc-variant .ensures) _ (c .before .before .before .before .before .before .if4 .left), record { within = omega (arith, c .before .before .before .before .before .before .before .before .before .before .before .before .before .before .text-at .ensures .taken (c .before .before .before .before .before .before .before .before .before .before .before .before .before .if2 .left) .at .whole); near = c .before .before .before .before .before .before .before .before .before .before .before .before .before .before .before .before .before .before .before .before .before .pre .1 .1 .near; few = c .before .before .before .before .before .before .before .before .before .before .before .before .before .before .before .before .before .before .before .before .before .pre .1 .1 .few }))
 
--- src/lib.rt:510:5
+-- src/lib.rt:553:5
 variant-variant-end-requires : (t : ℕ) → variant-lts.Need-variant-end-requires (
   plain-at-reads.Asked,
   plain-at-reads.Learnt,
@@ -4202,7 +4606,7 @@ variant-variant-end-requires : (t : ℕ) → variant-lts.Need-variant-end-requir
 ) (variant-at t) variant.Post
 variant-variant-end-requires t c κs = (c .before .before .before .before .before .before .before .before .before .before .before .before .before .before .before .before .before .before .before .before .before .before .before .before .before .before .before .pre .1 .1 .near, λ z. bounds z (c .before .before .before .before .before .value .ensures) .small, λ z. bounds z (c .before .before .before .before .before .value .ensures) .within, c .before .before .before .before .before .before .before .before .before .before .before .before .before .before .before .before .before .before .before .before .text-at .ensures .taken (c .before .before .before .before .before .before .before .before .before .before .before .before .before .before .before .before .before .before .before .if2 .left) .order, c .before .before .before .before .before .before .before .before .before .before .before .before .before .before .before .before .before .before .before .before .text-at .ensures .taken (c .before .before .before .before .before .before .before .before .before .before .before .before .before .before .before .before .before .before .before .if2 .left) .inside, front-short _ _ _ (c .before .before .before .before .before .before .before .before .before .before .before .before .before .before .before .before .before .before .before .before .text-at .ensures .taken (c .before .before .before .before .before .before .before .before .before .before .before .before .before .before .before .before .before .before .before .if2 .left) .order) (c .before .before .before .before .before .before .before .before .before .before .before .before .before .before .before .before .before .before .before .before .text-at .ensures .taken (c .before .before .before .before .before .before .before .before .before .before .before .before .before .before .before .before .before .before .before .if2 .left) .inside) ((table-filled _ _ _ _ refl (c .before .before .before .before .before .before .before .before .before .before .before .before .before .before .before .before .shapes-of .ensures) (c .before .before .before .before .before .before .before .before .before .before .before .before .before .before .before .before .shapes-of .kept .1 .0) (not-false _ (c .before .before .before .before .before .before .before .before .before .before .before .before .before .before .if3 .left))) .few))
 
--- src/lib.rt:455:1
+-- src/lib.rt:498:1
 variant-same-length : (t : ℕ) → variant-lts.Need-same-length (
   plain-at-reads.Asked,
   plain-at-reads.Learnt,
@@ -4223,7 +4627,7 @@ variant-same-length : (t : ℕ) → variant-lts.Need-same-length (
 ) (variant-at t) variant.Post
 variant-same-length t c = search needs
 
--- src/lib.rt:455:1
+-- src/lib.rt:498:1
 variant-same-length-2 : (t : ℕ) → variant-lts.Need-same-length-2 (
   plain-at-reads.Asked,
   plain-at-reads.Learnt,
@@ -4244,7 +4648,7 @@ variant-same-length-2 : (t : ℕ) → variant-lts.Need-same-length-2 (
 ) (variant-at t) variant.Post
 variant-same-length-2 t c = search needs
 
--- src/lib.rt:455:1
+-- src/lib.rt:498:1
 variant-returns-5 : (t : ℕ) → variant-lts.Need-returns-5 (
   plain-at-reads.Asked,
   plain-at-reads.Learnt,
@@ -4322,6 +4726,10 @@ pub +array+elements+entries+entry+fields+maybe+structure+value+variant-spec :
     (array-same-length-4 t)
     (array-returns-4 t))
     (λ t. elements-lts.spec (
+      basics-reads.Asked,
+      basics-reads.Learnt,
+      readings-reads.Asked,
+      readings-reads.Learnt,
       ran-reads.Asked,
       ran-reads.Learnt,
       pad-reads.Asked,
@@ -4339,14 +4747,28 @@ pub +array+elements+entries+entry+fields+maybe+structure+value+variant-spec :
     elements.Post
     elements-Inv-loop
     elements-μ-loop
-    (elements-loop-holds t)
-    (elements-sub-loop t)
-    (elements-mul-if1 t)
-    (elements-shared-slice-read-if1 t)
-    (elements-ran-requires t)
+    (elements-enum-told t)
+    (elements-basics-requires t)
     (elements-same-length t)
     (elements-same-length-2 t)
     (elements-returns t)
+    (elements-readings-requires t)
+    (elements-same-length-3 t)
+    (elements-same-length-4 t)
+    (elements-returns-2 t)
+    (elements-enum-told-2 t)
+    (elements-basics-requires-2 t)
+    (elements-same-length-5 t)
+    (elements-same-length-6 t)
+    (elements-returns-3 t)
+    (elements-loop-holds t)
+    (elements-sub-loop t)
+    (elements-mul-if2 t)
+    (elements-shared-slice-read-if2 t)
+    (elements-ran-requires t)
+    (elements-same-length-7 t)
+    (elements-same-length-8 t)
+    (elements-returns-4 t)
     (elements-add-pad t)
     (elements-pad-requires t)
     (elements-add-add t)
@@ -4354,18 +4776,18 @@ pub +array+elements+entries+entry+fields+maybe+structure+value+variant-spec :
     (elements-add-requires-2 t)
     (elements-value-requires t)
     (elements-stopped-requires t)
-    (elements-same-length-3 t)
-    (elements-same-length-4 t)
-    (elements-returns-2 t)
+    (elements-same-length-9 t)
+    (elements-same-length-10 t)
+    (elements-returns-5 t)
     (elements-add-add-2 t)
     (elements-add-requires-3 t)
     (elements-keep-requires t)
     (elements-loop-less t)
     (elements-loop-again t)
     (elements-stopped-requires-2 t)
-    (elements-same-length-5 t)
-    (elements-same-length-6 t)
-    (elements-returns-3 t))
+    (elements-same-length-11 t)
+    (elements-same-length-12 t)
+    (elements-returns-6 t))
     (λ t. entries-lts.spec (
       ran-reads.Asked,
       ran-reads.Learnt,

@@ -1,73 +1,70 @@
 use native.Mathlib.Omega.{arith}
 use borrow.Author.Needs.{needs}
 use native.Mathlib.Nat.{add-zero}
-use Prim.Native.Nat.{_+_, _-_, _≤_}
+use Prim.Native.Nat.{_+_, _-_, _≤_, min}
 use mathlib.Core.Path.{_≡_, sym, _∙_, refl}
 use lib.ListN.{length, drop, length-set}
 use Rattle.writer_basic.specs.Stores.{puts}
-use Rattle.writer_basic.proofs.Puts.{part-step, part-end, puts-out}
+use Rattle.writer_basic.proofs.Puts.{part-step, copied-end, puts-out}
 use Rattle.writer_basic.proofs.store.copy.Statement.{statement}
 use Rattle.writer_basic.proofs.store.copy.Tie as tie
 use Rattle.writer_basic.proofs.store.copy.Reads as reads
 use Rattle.writer_basic.proofs.store.copy.Lts as lts
+use Rattle.writer_basic.proofs.store.smaller.Reads as smaller-reads
 
 abbrev Inv-loop : tie.InvT-loop
-Inv-loop out₀ at part room i₀ out i = (i ≤ length part) × ((length out ≡ length out₀) × ((room ≡ length out₀ - at) × (puts out (at + i) (drop i part) ≡ puts out₀ at part)))
+Inv-loop out₀ at part count i₀ out i = (i ≤ count) × ((length out ≡ length out₀) × ((count ≡ min (length out₀ - at) (length part)) × (puts out (at + i) (drop i part) ≡ puts out₀ at part)))
 
 abbrev μ-loop : tie.MeasureT-loop
-μ-loop out₀ at part room i₀ out i = length part - i
+μ-loop out₀ at part count i₀ out i = count - i
 
--- src/store.rt:122:9
+-- src/store.rt:131:9
 returns : tie.Need-returns Inv-loop μ-loop
 returns c = sym (puts-out _ _ _ (c .if1 .taken))
 
--- src/store.rt:124:16
-sub-room : tie.Need-sub-room Inv-loop μ-loop
-sub-room c = search needs
+-- src/store.rt:133:25
+sub-smaller : tie.Need-sub-smaller Inv-loop μ-loop
+sub-smaller c = omega arith
 
--- src/store.rt:126:5
+-- src/store.rt:133:9
+smaller-requires : tie.Need-smaller-requires Inv-loop μ-loop
+smaller-requires c κs = search needs
+
+-- src/store.rt:135:5
 loop-holds : tie.Need-loop-holds Inv-loop μ-loop
-loop-holds c = (omega arith, (refl, (refl, simp add-zero)))
+loop-holds c = (omega arith, (refl, (c .smaller .ensures, simp add-zero)))
 
--- src/store.rt:128:13
-same-length : tie.Need-same-length Inv-loop μ-loop
-same-length c = omega arith
-
--- src/store.rt:128:13
-returns-2 : tie.Need-returns-2 Inv-loop μ-loop
-returns-2 c = sym (puts-out _ _ _ (omega arith)) ∙ c .before .before .loop .inv .1 .1 .1
-
--- src/store.rt:130:23
+-- src/store.rt:136:23
 shared-slice-read-out : tie.Need-shared-slice-read-out Inv-loop μ-loop
 shared-slice-read-out c = omega arith
 
--- src/store.rt:130:13
+-- src/store.rt:136:13
 add-out : tie.Need-add-out Inv-loop μ-loop
 add-out c = omega arith
 
--- src/store.rt:130:9
+-- src/store.rt:136:9
 slice-write-out : tie.Need-slice-write-out Inv-loop μ-loop
 slice-write-out c = omega arith
 
--- src/store.rt:131:13
+-- src/store.rt:137:13
 add-i : tie.Need-add-i Inv-loop μ-loop
 add-i c = omega arith
 
--- src/store.rt:126:5
+-- src/store.rt:135:5
 loop-less : tie.Need-loop-less Inv-loop μ-loop
 loop-less c = omega arith
 
--- src/store.rt:126:5
+-- src/store.rt:135:5
 loop-again : tie.Need-loop-again Inv-loop μ-loop
-loop-again c = (omega arith, (simp length-set (c .before .before .before .loop .inv .1 .0), (c .before .before .before .loop .inv .1 .1 .0, sym (part-step _ _ _ _ (omega arith)) ∙ c .before .before .before .loop .inv .1 .1 .1)))
+loop-again c = (omega arith, (simp length-set (c .before .before .loop .inv .1 .0), (c .before .before .loop .inv .1 .1 .0, sym (part-step _ _ _ _ (omega arith)) ∙ c .before .before .loop .inv .1 .1 .1)))
 
--- src/store.rt:118:1
-same-length-2 : tie.Need-same-length-2 Inv-loop μ-loop
-same-length-2 c = omega arith
+-- src/store.rt:127:1
+same-length : tie.Need-same-length Inv-loop μ-loop
+same-length c = omega arith
 
--- src/store.rt:118:1
-returns-3 : tie.Need-returns-3 Inv-loop μ-loop
-returns-3 c = sym (part-end _ _ _ _ (omega arith)) ∙ c .before .loop .inv .1 .1 .1
+-- src/store.rt:127:1
+returns-2 : tie.Need-returns-2 Inv-loop μ-loop
+returns-2 c = sym (copied-end _ _ _ _ (omega arith)) ∙ c .before .loop .inv .1 .1 .1
 
 pub copy-spec : {M : Type 1} → statement M
 copy-spec =
@@ -76,15 +73,14 @@ copy-spec =
     Inv-loop
     μ-loop
     returns
-    sub-room
+    sub-smaller
+    smaller-requires
     loop-holds
-    same-length
-    returns-2
     shared-slice-read-out
     add-out
     slice-write-out
     add-i
     loop-less
     loop-again
-    same-length-2
-    returns-3)
+    same-length
+    returns-2)

@@ -15,9 +15,10 @@ use Rattle.meaning_writing.specs.Shapes.{part, fixedEnd}
 use Rattle.meaning_writing.specs.Strict.{Test, allZero, childWritten, elementEnd, elementsWritten, arrayWritten}
 use Rattle.meaning.proofs.PaddingLaws.{by1, padding-none}
 use Rattle.meaning_writing.proofs.Parts.{part-none, length-part}
-use Rattle.strict_basic.specs.Ends.{extent, textWritten, textTest, endOf, StartAt, start}
+use Rattle.strict_basic.specs.Ends.{extent, textWritten, textTest, mayOpen, readingOf, readingTest, endOf, StartAt, start}
 use Rattle.strict_basic.specs.Items.{Known, Alike}
 use Rattle.strict_basic.specs.declared.ends.Extent.{Extent}
+use Rattle.strict_basic.specs.declared.ends.Start.{Start}
 use Rattle.strict_basic.proofs.EndLaws.{child-within, start-below, start-past, start-here}
 
 -- ---- the loop
@@ -126,6 +127,58 @@ module _ (l : List ℕ) (w s m j : ℕ) where
 
     pub texts-end : m ≤ i → (d : Depths) → eqb k s ≡ elementsWritten false textTest d l w s m j 0
     texts-end h d = elements-end false textTest d l w s m j (q .left d) h
+
+-- ---- readings: by the number of their bytes
+
+module _ (l : List ℕ) (s k e n : ℕ) (r : Start) (w : StartAt l s k e n r) where
+  pub reading-absent : r .there ≡ false → (room : Bool) (d : Depths) → room ≡ mayOpen d → false ≡ childWritten (readingTest n) d l s k e
+  unfolding readingTest
+  reading-absent h room d q = sym (w .is (readingTest n) d refl ∙ rw h)
+
+  pub reading-there : (room b : Bool) → r .there ≡ true → s ≤ length l → b ≡ readingOf room n (e - r .at) → (d : Depths) → room ≡ mayOpen d → b ≡ childWritten (readingTest n) d l s k e
+  unfolding readingTest
+  reading-there room b h m q d o =
+      let g = w .within h in
+      q ∙ ap (λ (x : Bool). readingOf x n (e - r .at)) o ∙ ap (readingOf (mayOpen d) n) (sym (length-part (r .at) e l (omega arith))) ∙ sym (w .is (readingTest n) d refl ∙ rw h)
+
+pub record ReadingsLeft (room : Bool) (n : ℕ) (l : List ℕ) (w s m j i from k : ℕ) : Type 0 where
+  pub within : i ≤ m
+  pub place : k ≤ s
+  pub fits : from + (m - i) * w ≤ length l
+  pub left : (d : Depths) → room ≡ mayOpen d → ElementsLeft false (readingTest n) d l w s m j i from k
+
+module _ (room : Bool) (n : ℕ) (l : List ℕ) (w s m j : ℕ) where
+  abbrev y : Extent
+  y = extent n false 0
+
+  pub readings-begin : j + m * w ≤ length l → ReadingsLeft room n l w s m j 0 j 0
+  readings-begin h =
+      let e : m - 0 ≡ m = omega arith in
+      record { within = omega arith; place = omega arith; fits = rw e h; left = λ d q. elements-begin false (readingTest n) d l w s m j h }
+
+  module _ {i from k : ℕ} (q : ReadingsLeft room n l w s m j i from k) where
+    pub readings-room : i < m → from + w + (m - (i + 1)) * w ≤ length l
+    readings-room h =
+        let p : m - i ≡ suc (m - (i + 1)) = omega arith in
+        let f = rw p at (q .fits) in
+        omega (arith, suc-mul (m - (i + 1)) w)
+
+    module _ (h : i < m) (e : ℕ) (he : e ≡ elementEnd false l w from (endOf y k)) (b : Bool) (hb : (d : Depths) → room ≡ mayOpen d → b ≡ childWritten (readingTest n) d l s k e) where
+      pub readings-stop : b ≡ false → (d : Depths) → room ≡ mayOpen d → false ≡ elementsWritten false (readingTest n) d l w s m j 0
+      unfolding readingTest
+      readings-stop z d o = elements-stop false (readingTest n) d l w s m j y refl refl (λ x. absurd (false≢true x)) (q .left d o) h e he b (hb d o) z
+
+      pub readings-next : b ≡ true → e ≤ s → ReadingsLeft room n l w s m j (i + 1) (from + w) e
+      unfolding readingTest
+      readings-next z g = record {
+        within = omega arith;
+        place = g;
+        fits = readings-room h;
+        left = λ d o. elements-next false (readingTest n) d l w s m j y refl refl (λ x. absurd (false≢true x)) (q .left d o) h e he b (hb d o) z;
+      }
+
+    pub readings-end : m ≤ i → (d : Depths) → room ≡ mayOpen d → eqb k s ≡ elementsWritten false (readingTest n) d l w s m j 0
+    readings-end h d o = elements-end false (readingTest n) d l w s m j (q .left d o) h
 
 -- ---- any bytes will do: the first element tells of all
 

@@ -10,26 +10,24 @@ use native.Mathlib.Nat.{div-mul-le-self, div-le-self}
 use lib.Dec.{leb, eqb}
 use lib.ListN.{length, take, drop, getD}
 use lib.Seq.{drop-cons}
-use borrow.Author.Tests.{le-leb, lt-leb, eq-eqb, ne-eqb, leb-true}
+use borrow.Author.Tests.{le-leb, lt-leb, eq-eqb, ne-eqb, leb-true, leb-false}
 use Rattle.meaning.specs.Choice.{pick}
 use Rattle.meaning.specs.Refusals.{noValue}
 use Rattle.meaning.specs.Numbers.{value}
 use Rattle.meaning.specs.Padding.{padding, isAlignment, Aligns}
 use Rattle.meaning.specs.Depths.{Depths}
 use Rattle.meaning.specs.Texts.{textRefusal}
-use Rattle.meaning.specs.Offsets.{firstWidth, encodedWidth, writtenWidth, bareWidth, lastOffset}
+use Rattle.meaning.specs.Offsets.{firstWidth, encodedWidth, writtenWidth, lastOffset}
 use Rattle.meaning_writing.specs.Shapes.{part, behindPadding, offsetCount, lastEnd, fieldEnd, offsetsLeft, oneMore}
 use Rattle.meaning_writing.specs.Strict.{Test, testShapes, allZero, basicWritten, childWritten, elementEnd, elementsWritten, tableWritten, arrayWritten, fieldsFinished, fieldsWritten, offsetsWritten, structureWritten}
 use Rattle.meaning.proofs.PaddingLaws.{by1, by2, by4, by8, by-alignment}
-use Rattle.meaning.proofs.OffsetLaws.{encodedWidth-positive}
+use Rattle.meaning.proofs.OffsetLaws.{encodedWidth-1, encodedWidth-2, encodedWidth-4}
 use Rattle.meaning.proofs.OffsetSteps.{own-width}
 use Rattle.utils.specs.Checks.{passed, failed, paddingFor}
 use Rattle.utils.specs.declared.Checked.{Checked}
 use Rattle.byte_order.specs.Standing.{numberAt, numberOf}
 use Rattle.byte_order.proofs.Standings.{numberAt-is}
-use Rattle.framing_offset_size.specs.Widths.{fittingWidth, lastOffsetIn}
-use Rattle.framing_offset_size.specs.declared.Fitting.{Fitting}
-use Rattle.framing_offset_size.specs.declared.Fitting.the-variants.{Size, Nothing}
+use Rattle.framing_offset_size.specs.Widths.{lastOffsetIn}
 use Rattle.signature.specs.declared.Letter.{Letter}
 use Rattle.signature.specs.declared.Letter.the-variants.{End, Bad, Boolean, Number, Text, Variant, Maybe, Array, OpenStructure, CloseStructure, OpenEntry, CloseEntry}
 use Rattle.signature.proofs.Letter.{the-type}
@@ -216,35 +214,6 @@ more-other false n h = omega arith
 
 -- ---- widths
 
-written-bare : (body count : ℕ) → body ≤ 65536 → count ≤ 65536 → bareWidth body count ≡ writtenWidth body count
-unfolding bareWidth writtenWidth firstWidth
-written-bare body count h g = go (leb (body + count * 1) 255) (leb (body + count * 2) 65535)
-  where
-    most : leb (body + count * 4) 4294967295 ≡ true
-    most = le-leb (body + count * 4) 4294967295 (omega arith)
-
-    go : (a b : Bool) → _≡_ {A = ℕ} (pick a 1 (pick b 2 (pick (leb (body + count * 4) 4294967295) 4 (pick (leb (body + count * 8) 18446744073709551615) 8 0)))) (pick a 1 (pick b 2 (pick (leb (body + count * 4) 4294967295) 4 8)))
-    go true b = refl
-    go false true = refl
-    go false false = rw most
-
-written-positive : (body count : ℕ) → (writtenWidth body count ≡ 0 → ⊥)
-unfolding writtenWidth firstWidth
-written-positive body count = go (leb (body + count * 1) 255) (leb (body + count * 2) 65535) (leb (body + count * 4) 4294967295)
-  where
-    go : (a b c : Bool) → _≡_ {A = ℕ} (pick a 1 (pick b 2 (pick c 4 8))) 0 → ⊥
-    go true b c h = omega arith
-    go false true c h = omega arith
-    go false false true h = omega arith
-    go false false false h = omega arith
-
-module _ (body count : ℕ) (h : body ≤ 65536) (g : count ≤ 65536) (f : Fitting) (e : fittingWidth f ≡ bareWidth body count) where
-  pub smallest-is : (w width : ℕ) → w ≡ fittingWidth f → eqb w width ≡ eqb (writtenWidth body count) width
-  smallest-is w width p = ap (λ (i : ℕ). eqb i width) (p ∙ e ∙ written-bare body count h g)
-
-  pub smallest-none : (width : ℕ) → f ≡ Nothing → false ≡ eqb (writtenWidth body count) width
-  smallest-none width p = absurd (written-positive body count (sym (written-bare body count h g) ∙ sym e ∙ ap fittingWidth p))
-
 pub encoded-aligns : (n : ℕ) → Aligns (encodedWidth n)
 unfolding encodedWidth firstWidth
 encoded-aligns n = go (leb (n + 0 * 1) 255) (leb (n + 0 * 2) 65535) (leb (n + 0 * 4) 4294967295)
@@ -254,6 +223,77 @@ encoded-aligns n = go (leb (n + 0 * 1) 255) (leb (n + 0 * 2) 65535) (leb (n + 0 
     go false true c = by2
     go false false true = by4
     go false false false = by8
+
+-- a container's width, by its body and its offsets
+pub table-own : (body count w len : ℕ) → w ≡ encodedWidth len → body + count * w ≡ len → w ≡ encodedWidth (body + count * w)
+table-own body count w len h e = h ∙ ap encodedWidth (sym e)
+
+-- the width of a length in the limit
+module _ (body count w : ℕ) (h : body + count * w ≤ 65536) (e : w ≡ encodedWidth (body + count * w)) where
+  -- a width counts
+  pub pair-small : body + 2 * count ≤ 200000
+  pair-small = go w (encoded-aligns (body + count * w)) e h
+    where
+      go : (v : ℕ) → Aligns (encodedWidth (body + count * w)) → v ≡ encodedWidth (body + count * w) → body + count * v ≤ 65536 → body + 2 * count ≤ 200000
+      go v a q m = by-alignment (λ x. x ≡ encodedWidth (body + count * w) → body + count * x ≤ 65536 → body + 2 * count ≤ 200000) (λ p n. omega arith) (λ p n. omega arith) (λ p n. omega arith) (λ p n. omega arith) a refl (rw q at m)
+
+  short : w ≡ 1 → body + count * 1 ≤ 255
+  short z = go (leb (body + count * w) 255) (leb (body + count * w) 65535) refl refl
+    where
+      go : (x y : Bool) → leb (body + count * w) 255 ≡ x → leb (body + count * w) 65535 ≡ y → body + count * 1 ≤ 255
+      go true y p q = rw z at (leb-true (body + count * w) 255 p)
+      go false true p q = absurd (omega (arith, encodedWidth-2 (body + count * w) (leb-false (body + count * w) 255 p) (leb-true (body + count * w) 65535 q)))
+      go false false p q = absurd (omega (arith, encodedWidth-4 (body + count * w) (leb-false (body + count * w) 65535 q) (omega arith)))
+
+  middle : w ≡ 2 → body + count * 2 ≤ 65535
+  middle z = go (leb (body + count * w) 65535) refl
+    where
+      go : (y : Bool) → leb (body + count * w) 65535 ≡ y → body + count * 2 ≤ 65535
+      go true q = rw z at (leb-true (body + count * w) 65535 q)
+      go false q = absurd (omega (arith, encodedWidth-4 (body + count * w) (leb-false (body + count * w) 65535 q) (omega arith)))
+
+  long : (w ≡ 1 → ⊥) → (w ≡ 2 → ⊥) → (65535 < body + count * w) × (w ≡ 4)
+  long a b = go (leb (body + count * w) 255) (leb (body + count * w) 65535) refl refl
+    where
+      go : (x y : Bool) → leb (body + count * w) 255 ≡ x → leb (body + count * w) 65535 ≡ y → (65535 < body + count * w) × (w ≡ 4)
+      go true y p q = absurd (a (e ∙ encodedWidth-1 (body + count * w) (leb-true (body + count * w) 255 p)))
+      go false true p q = absurd (b (e ∙ encodedWidth-2 (body + count * w) (leb-false (body + count * w) 255 p) (leb-true (body + count * w) 65535 q)))
+      go false false p q =
+          let m = leb-false (body + count * w) 65535 q in
+          (m, e ∙ encodedWidth-4 (body + count * w) m (omega arith))
+
+  written-is : (a b : Bool) → leb (body + count * 1) 255 ≡ a → leb (body + count * 2) 65535 ≡ b → writtenWidth body count ≡ pick a 1 (pick b 2 (pick (leb (body + count * 4) 4294967295) 4 8))
+  unfolding writtenWidth firstWidth
+  written-is a b p q = rw (p, q)
+
+  pub smallest-one : w ≡ 1 → true ≡ eqb (writtenWidth body count) w
+  smallest-one z =
+      sym (eq-eqb (writtenWidth body count) w (written-is true (leb (body + count * 2) 65535) (le-leb (body + count * 1) 255 (short z)) refl ∙ sym z))
+
+  pub smallest-two : w ≡ 2 → 255 < body + count → true ≡ eqb (writtenWidth body count) w
+  smallest-two z g =
+      sym (eq-eqb (writtenWidth body count) w (written-is false true (lt-leb (body + count * 1) 255 (omega arith)) (le-leb (body + count * 2) 65535 (middle z)) ∙ sym z))
+
+  pub smallest-not-two : w ≡ 2 → body + count ≤ 255 → false ≡ eqb (writtenWidth body count) w
+  smallest-not-two z g =
+      let x = written-is true (leb (body + count * 2) 65535) (le-leb (body + count * 1) 255 (omega arith)) refl in
+      sym (ne-eqb (writtenWidth body count) w (λ y. omega arith))
+
+  pub smallest-four : (w ≡ 1 → ⊥) → (w ≡ 2 → ⊥) → 65535 < body + 2 * count → true ≡ eqb (writtenWidth body count) w
+  smallest-four a b g =
+      let m = long a b in
+      let n : body + count * 4 ≤ 65536 = rw (m .1) at h in
+      let x = written-is false false (lt-leb (body + count * 1) 255 (omega (arith, m .0))) (lt-leb (body + count * 2) 65535 (omega arith)) in
+      sym (eq-eqb (writtenWidth body count) w (x ∙ rw (le-leb (body + count * 4) 4294967295 (omega arith)) (sym (m .1))))
+
+  pub smallest-not-four : (w ≡ 1 → ⊥) → (w ≡ 2 → ⊥) → body + 2 * count ≤ 65535 → false ≡ eqb (writtenWidth body count) w
+  smallest-not-four a b g =
+      let m = long a b in
+      go (leb (body + count * 1) 255) refl (m .1)
+    where
+      go : (x : Bool) → leb (body + count * 1) 255 ≡ x → w ≡ 4 → false ≡ eqb (writtenWidth body count) w
+      go true p f = let x = written-is true (leb (body + count * 2) 65535) p refl in sym (ne-eqb (writtenWidth body count) w (λ y. omega arith))
+      go false p f = let x = written-is false true p (le-leb (body + count * 2) 65535 (omega arith)) in sym (ne-eqb (writtenWidth body count) w (λ y. omega arith))
 
 -- the last offset, as the leaf finds it
 pub last-offset-is : (l : List ℕ) (w : ℕ) (r : Checked) → w ≡ encodedWidth (length l) → r ≡ lastOffsetIn w l → r .value ≡ lastOffset (encodedWidth (length l)) l

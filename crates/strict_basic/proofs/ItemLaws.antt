@@ -2,6 +2,7 @@
 use types.Run.{OneOf, miss}
 use denote.Enum.Declared.{tagOf}
 use mathlib.Core.Path.{_≡_, refl, sym, ap, subst⁻¹, _∙_}
+use mathlib.Core.Logic.{_⊎_, inl, inr}
 use mathlib.Core.List.{List, [], _∷_}
 use mathlib.Core.Option.{some}
 use mathlib.Core.Bool.{Bool, true, false, _&&_, false≢true}
@@ -13,14 +14,14 @@ use borrow.Author.Tests.{eq-eqb}
 use Rattle.meaning.specs.Choice.{pick}
 use Rattle.meaning.specs.Padding.{padding, Aligns}
 use Rattle.meaning.specs.Depths.{Depths}
-use Rattle.meaning.specs.Types.{Basic, bool, number, text, Tree, basic, array, dictionary, basicFixed, alignment, fixed, entryAlignment, entryFixed}
+use Rattle.meaning.specs.Types.{Number as NumberType, numberWidth, Basic, bool, number, text, Tree, basic, maybe, array, dictionary, basicFixed, alignment, fixed, entryAlignment, entryFixed}
 use Rattle.meaning.specs.Letters.{numberLetter}
 use Rattle.meaning_writing.specs.Shapes.{part, sizesFrom}
-use Rattle.meaning_writing.specs.Strict.{Test, testShapes, basicWritten, basicTest, childWritten, arrayTest, entryTest, testOf}
+use Rattle.meaning_writing.specs.Strict.{Test, testShapes, basicWritten, basicTest, presentWritten, maybeWritten, maybeTest, childWritten, arrayTest, entryTest, testOf}
 use Rattle.meaning.proofs.Tests.{both-true}
 use Rattle.meaning.proofs.PaddingLaws.{by1, padding-below}
 use Rattle.meaning.proofs.TypeLaws.{aligns-most, number-aligned, aligned}
-use Rattle.meaning_writing.proofs.StrictSteps.{test-basic, test-array, test-dictionary}
+use Rattle.meaning_writing.proofs.StrictSteps.{test-basic, test-maybe, test-array, test-dictionary}
 use Rattle.signature.specs.Places.{Child, basicKind, letterAt, childAt, isType}
 use Rattle.signature.specs.Items as its
 use Rattle.signature.specs.Items.{itemIn, EntryOf, ElementOf}
@@ -33,12 +34,12 @@ use Rattle.signature.proofs.Letter.{the-type}
 use Rattle.signature.proofs.Letters.{alone, loneChild, child-lone}
 use Rattle.signature.proofs.Children.{child-found}
 use Rattle.signature.proofs.Answers.{judge-found}
-use Rattle.signature.proofs.Dispatch.{is-boolean, is-number, is-text}
-use Rattle.signature.proofs.ItemLaws.{entry-of, element-of, opens}
+use Rattle.signature.proofs.Dispatch.{is-boolean, is-number, is-text, is-maybe}
+use Rattle.signature.proofs.ItemLaws.{number-held, entry-of, element-of, opens}
 use Rattle.signature.proofs.TreeLaws.{Front, front, described-kind, described-alignment, described-fixed}
-use Rattle.strict_basic.specs.Ends.{letterWritten, letterExtent, extent, letterTest, textTest, Laid, endOf, StartAt, LoneType}
+use Rattle.strict_basic.specs.Ends.{letterWritten, letterExtent, extent, letterTest, textTest, isBasic, readingTest, Laid, endOf, StartAt, LoneType}
 use Rattle.strict_basic.specs.Sizes.{Tabled, extentIn, anyIn}
-use Rattle.strict_basic.specs.Items.{Placed, treeTest, itemTest, isText, entryEnd, entrySize, entryItem, elementItem, Known, Repeated, ItemAt}
+use Rattle.strict_basic.specs.Items.{Placed, treeTest, itemTest, isText, numberWidthOf, heldWidth, entryEnd, entrySize, entryItem, elementItem, Known, Reads, Repeated, ItemAt}
 use Rattle.strict_basic.specs.declared.ends.Extent.{Extent}
 use Rattle.strict_basic.specs.declared.ends.Start.{Start}
 use Rattle.strict_basic.specs.declared.items.Item.{Item}
@@ -80,6 +81,41 @@ module _ (k : Letter) (l : List ℕ) (s e : ℕ) (x : Extent) (hx : x ≡ letter
 
   pub key-on : (b : Bool) → r .there ≡ true → b ≡ letterWritten k (take (e - r .at) (drop (r .at) l)) → (d : Depths) → b ≡ childWritten (letterTest k) d l s 0 e
   key-on b h g d = g ∙ sym (key-by d ∙ rw h)
+
+-- the letters of no basic type, and of no number
+abbrev nested : List ℕ
+nested = 0 ∷ 1 ∷ 5 ∷ 6 ∷ 7 ∷ 8 ∷ 9 ∷ 10 ∷ 11 ∷ []
+
+pub basic-not : (k : Letter) → OneOf nested (tagOf the-type k) → false ≡ isBasic k
+basic-not End h = refl
+basic-not Bad h = refl
+basic-not Boolean h = absurd (miss nested 2 tt h)
+basic-not (Number c w) h = absurd (miss nested 3 tt h)
+basic-not (Text c) h = absurd (miss nested 4 tt h)
+basic-not Variant h = refl
+basic-not Maybe h = refl
+basic-not Array h = refl
+basic-not OpenStructure h = refl
+basic-not CloseStructure h = refl
+basic-not OpenEntry h = refl
+basic-not CloseEntry h = refl
+
+abbrev numberless : List ℕ
+numberless = 0 ∷ 1 ∷ 2 ∷ 4 ∷ 5 ∷ 6 ∷ 7 ∷ 8 ∷ 9 ∷ 10 ∷ 11 ∷ []
+
+pub number-not : (k : Letter) → OneOf numberless (tagOf the-type k) → 0 ≡ numberWidthOf k
+number-not End h = refl
+number-not Bad h = refl
+number-not Boolean h = refl
+number-not (Number c w) h = absurd (miss numberless 3 tt h)
+number-not (Text c) h = refl
+number-not Variant h = refl
+number-not Maybe h = refl
+number-not Array h = refl
+number-not OpenStructure h = refl
+number-not CloseStructure h = refl
+number-not OpenEntry h = refl
+number-not CloseEntry h = refl
 
 -- the letters of no text
 abbrev textless : List ℕ
@@ -179,6 +215,12 @@ dictionary-repeats m tr b it v a fx k p q r s u = rw (p, q, r, s, u) (test-dicti
 array-repeats : (m : ℕ) (tr it v : Tree) (a : ℕ) (fx : Bool) → tr ≡ array it → v ≡ it → a ≡ alignment v → fx ≡ fixed v → testOf m tr ≡ arrayTest a fx (testOf m v)
 array-repeats m tr it v a fx p q r s = rw (r, s) (rw (p, q) (test-array m it))
 
+-- a reading is tested by the number of its bytes
+reading-is : (m : ℕ) (t : Tree) (w : ℕ) (it : NumberType) → t ≡ maybe (basic (number it)) → w ≡ numberWidth it → testOf m t ≡ readingTest w
+unfolding maybeTest maybeWritten presentWritten basicTest basicWritten alignment fixed readingTest
+reading-is m t w it p q =
+    rw (p, q) (test-maybe m (basic (number it)) ∙ ap (maybeTest (numberWidth it) true) (test-basic m (number it)))
+
 -- what the walk asks of an entry
 pub record Keyed (k : Letter) (x : Extent) (a : ℕ) : Type 0 where
   pub key : Laid (letterExtent k)
@@ -220,6 +262,7 @@ module _ {l t : List ℕ} {at : ℕ} (f : signature-item.Item) (w : Tabled l t) 
             known = c;
             key = k .key;
             any = λ h. absurd (false≢true h);
+            reads = λ h. absurd (h refl);
             texts = λ h. absurd (false≢true h);
           };
           repeats = λ m. dictionary-repeats (65 - m) (treeAt l at) (e .key) (e .it) (treeAt l (f .child .at)) (f .alignment) (f .fixed) (f .key) (e .tree) (e .value) (e .same-key) aligns (e .same-fixed);
@@ -250,15 +293,51 @@ module _ {l t : List ℕ} {at : ℕ} (f : signature-item.Item) (w : Tabled l t) 
         go OpenEntry q h = absurd (false≢true h)
         go CloseEntry q h = absurd (false≢true h)
 
-    pub element-is : (x : Extent) → x ≡ extentIn t (f .child) → (any : Bool) → any ≡ anyIn t (f .child) → (i : Item) → i ≡ elementItem (f .child) x any → ItemAt l t at i
+    -- a number in a maybe
+    held-is : (c w : ℕ) → f .fixed ≡ false → f .number ≡ Number c w → Reads w (λ m. treeTest m l (f .child .at))
+    unfolding fixed
+    held-is c w fx q = go (number-held (letterAt l (f .child .at)) (letterAt l (f .child .at + 1)) c w (sym (e .same-number) ∙ q))
+      where
+        go : (letterAt l (f .child .at) ≡ Number c w) ⊎ ((letterAt l (f .child .at) ≡ Maybe) × (letterAt l (f .child .at + 1) ≡ Number c w)) → Reads w (λ m. treeTest m l (f .child .at))
+        go (inl x) =
+            let n = is-number l (f .child .at) _ _ c w (e .child .typed .found) x in
+            absurd (false≢true (sym fx ∙ e .same-fixed ∙ ap fixed (sym (e .value) ∙ n .type)))
+        go (inr (x, y)) =
+            let m = is-maybe l (f .child .at) _ _ (e .child .typed .found) x in
+            let n = is-number l (f .child .at + 1) (m .it) _ c w (m .child) y in
+            record {
+              aligned = rw (n .width-is) (number-aligned (n .it));
+              is = λ k. reading-is (65 - k) (treeAt l (f .child .at)) w (n .it) (m .type ∙ ap maybe (n .type)) (n .width-is);
+            }
+
+    reads-is : (h : ℕ) → h ≡ heldWidth (f .number) (f .fixed) → (h ≡ 0 → ⊥) → Reads h (λ m. treeTest m l (f .child .at))
+    reads-is h q z = go (f .fixed) (f .number) refl refl q
+      where
+        go : (b : Bool) (k : Letter) → f .fixed ≡ b → f .number ≡ k → h ≡ pick b 0 (numberWidthOf k) → Reads h (λ m. treeTest m l (f .child .at))
+        go true k p r y = absurd (z y)
+        go false (Number c w) p r y = rw y (held-is c w p r)
+        go false End p r y = absurd (z y)
+        go false Bad p r y = absurd (z y)
+        go false Boolean p r y = absurd (z y)
+        go false (Text c) p r y = absurd (z y)
+        go false Variant p r y = absurd (z y)
+        go false Maybe p r y = absurd (z y)
+        go false Array p r y = absurd (z y)
+        go false OpenStructure p r y = absurd (z y)
+        go false CloseStructure p r y = absurd (z y)
+        go false OpenEntry p r y = absurd (z y)
+        go false CloseEntry p r y = absurd (z y)
+
+    pub element-is : (x : Extent) → x ≡ extentIn t (f .child) → (any : Bool) → any ≡ anyIn t (f .child) → (h : ℕ) → h ≡ heldWidth (f .number) (f .fixed) → (i : Item) → i ≡ elementItem (f .child) x any h → ItemAt l t at i
     unfolding itemTest
-    element-is x hx any ha i hi =
-        subst⁻¹ (λ (y : Item). ItemAt l t at y) (hi ∙ ap (λ (y : Extent). elementItem (f .child) y any) hx ∙ ap (elementItem (f .child) (extentIn t (f .child))) ha) (record {
+    element-is x hx any ha h hh i hi =
+        subst⁻¹ (λ (y : Item). ItemAt l t at y) (hi ∙ ap (λ (y : Extent). elementItem (f .child) y any h) hx ∙ ap (λ (y : Bool). elementItem (f .child) (extentIn t (f .child)) y h) ha) (record {
           repeated = record {
             child = element-placed;
             known = placed-known element-placed;
             key = record { aligned = by1; small = omega arith };
             any = placed-any element-placed;
+            reads = reads-is h hh;
             texts = text-is;
           };
           repeats = λ m. array-repeats (65 - m) (treeAt l at) (e .it) (treeAt l (f .child .at)) (f .child .alignment) (f .child .fixed) (e .tree) (e .value) (described-alignment (e .child)) (described-fixed (e .child));

@@ -7,9 +7,11 @@ use mathlib.Core.Bool.{Bool, true, false, _&&_}
 use Prim.Native.Nat.{ℕ, _+_, _*_, _≤_}
 use lib.Dec.{eqb}
 use lib.ListN.{length}
+use Rattle.meaning.specs.Choice.{pick}
 use Rattle.meaning.specs.Limits.{largestFrame}
 use Rattle.meaning.specs.Padding.{Aligns}
-use Rattle.meaning.specs.Depths.{Depths}
+use Rattle.meaning.specs.Depths as Depth
+use Rattle.meaning.specs.Depths.{Depths, depthRefusal, opened}
 use Rattle.meaning.specs.Types.{Basic, string, bool, text, basic}
 use Rattle.meaning.specs.TypeText.{typeOf}
 use Rattle.meaning_writing.specs.Shapes.{Shape, shapeOf, part, fixedEnd, offsetCount}
@@ -69,6 +71,31 @@ letterTest k = record { shape = shaped (letterExtent k); accepts = λ d l. lette
 
 unfoldable pub textTest : Test
 textTest = record { shape = shapeOf 1 false 0; accepts = λ d l. textWritten l }
+
+-- whether a letter is a basic type's
+abbrev pub isBasic : Letter → Bool
+isBasic End = false
+isBasic Bad = false
+isBasic Boolean = true
+isBasic (Number c w) = true
+isBasic (Texts c) = true
+isBasic Variant = false
+isBasic Maybe = false
+isBasic Array = false
+isBasic OpenStructure = false
+isBasic CloseStructure = false
+isBasic OpenEntry = false
+isBasic CloseEntry = false
+
+-- a reading, which is a maybe of a number of a width: no byte, or so many where one more maybe may be open
+abbrev pub mayOpen : Depths → Bool
+mayOpen d = eqb (depthRefusal (opened Depth.maybe d)) 0
+
+abbrev pub readingOf : Bool → ℕ → ℕ → Bool
+readingOf room w n = pick (eqb n 0) true (room && eqb n w)
+
+unfoldable pub readingTest : ℕ → Test
+readingTest w = record { shape = shapeOf w false 0; accepts = λ d l. readingOf (mayOpen d) w (length l) }
 
 -- a child is laid out at one of the alignments, and is not large
 pub record Laid (x : Extent) : Type 0 where

@@ -6,14 +6,14 @@ use Prim.Native.Nat.{ℕ, _+_, _-_, _*_, _≤_, _<_}
 use lib.ListN.{length}
 use Rattle.meaning.specs.Choice.{pick}
 use Rattle.meaning.specs.Limits.{mostVariants}
-use Rattle.meaning.specs.Padding.{padding}
+use Rattle.meaning.specs.Padding.{padding, Aligns}
 use Rattle.meaning.specs.Depths.{Depths}
 use Rattle.meaning_writing.specs.Strict.{Test, arrayTest, entryTest, testOf}
 use Rattle.signature.specs.Trees.{treeAt, Described}
 use Rattle.signature.specs.declared.Letter.{Letter}
 use Rattle.signature.specs.declared.Letter.the-variants.{End, Bad, Boolean, Number, Text, Variant, Maybe, Array, OpenStructure, CloseStructure, OpenEntry, CloseEntry}
 use Rattle.signature.specs.declared.shapes.Shape.{Shape}
-use Rattle.strict_basic.specs.Ends.{letterExtent, letterTest, textTest, Laid, endOf}
+use Rattle.strict_basic.specs.Ends.{letterExtent, letterTest, textTest, readingTest, Laid, endOf}
 use Rattle.strict_basic.specs.Sizes.{Tabled}
 use Rattle.strict_basic.specs.declared.ends.Extent.{Extent}
 use Rattle.strict_basic.specs.declared.items.Item.{Item}
@@ -48,6 +48,24 @@ isText CloseStructure = false
 isText OpenEntry = false
 isText CloseEntry = false
 
+-- the width of the number that an element holds in a maybe: one that is fixed holds none
+abbrev pub numberWidthOf : Letter → ℕ
+numberWidthOf End = 0
+numberWidthOf Bad = 0
+numberWidthOf Boolean = 0
+numberWidthOf (Number c w) = w
+numberWidthOf (Text c) = 0
+numberWidthOf Variant = 0
+numberWidthOf Maybe = 0
+numberWidthOf Array = 0
+numberWidthOf OpenStructure = 0
+numberWidthOf CloseStructure = 0
+numberWidthOf OpenEntry = 0
+numberWidthOf CloseEntry = 0
+
+abbrev pub heldWidth : Letter → Bool → ℕ
+heldWidth number fixed = pick fixed 0 (numberWidthOf number)
+
 -- the size of an entry that is fixed
 abbrev pub entryEnd : Letter → Extent → ℕ
 entryEnd key value = endOf value (endOf (letterExtent key) 0)
@@ -56,10 +74,10 @@ abbrev pub entrySize : Letter → Extent → ℕ → ℕ
 entrySize key value a = entryEnd key value + padding (entryEnd key value) a
 
 abbrev pub entryItem : Shape → Letter → Extent → Item
-entryItem child key x = record { entry = true; child = child; key = key; extent = x; any = false; text = false }
+entryItem child key x = record { entry = true; child = child; key = key; extent = x; any = false; text = false; held = 0 }
 
-abbrev pub elementItem : Shape → Extent → Bool → Item
-elementItem child x any = record { entry = false; child = child; key = End; extent = x; any = any; text = isText (child .kind) }
+abbrev pub elementItem : Shape → Extent → Bool → ℕ → Item
+elementItem child x any held = record { entry = false; child = child; key = End; extent = x; any = any; text = isText (child .kind); held = held }
 
 -- how a child lies is as its test says, whatever is open
 pub record Known (x : Extent) (test : ℕ → Test) : Type 0 where
@@ -75,12 +93,18 @@ pub record Alike (x : Extent) (test : ℕ → Test) : Type 0 where
   pub close : (i : ℕ) → padding (i * x .size) (x .alignment) ≡ 0
   pub same : (nested : ℕ) (d : Depths) (l l′ : List ℕ) → length l ≡ length l′ → test nested .accepts d l ≡ test nested .accepts d l′
 
+-- a reading of a number of a width
+pub record Reads (w : ℕ) (test : ℕ → Test) : Type 0 where
+  pub aligned : Aligns w
+  pub is : (nested : ℕ) → test nested ≡ readingTest w
+
 -- what is known of what is repeated
 pub record Repeated (text tables : List ℕ) (i : Item) : Type 0 where
   pub child : Placed text tables (i .child)
   pub known : Known (i .extent) (λ n. itemTest n text i)
   pub key : Laid (letterExtent (i .key))
   pub any : i .any ≡ true → Alike (i .extent) (λ n. itemTest n text i)
+  pub reads : (i .held ≡ 0 → ⊥) → Reads (i .held) (λ n. itemTest n text i)
   pub texts : i .text ≡ true → (nested : ℕ) → itemTest nested text i ≡ textTest
 
 -- and that it is what the array or dictionary at a place repeats

@@ -14,7 +14,7 @@ ghost use Rattle.meaning.specs.Depths.{Depths};
 ghost use Rattle.meaning.specs.Limits.{largestFrame};
 ghost use Rattle.meaning.specs.Padding.{Aligns};
 ghost use Rattle.meaning_writing.specs.Strict.{childWritten, elementsWritten};
-ghost use Rattle.strict_basic.specs.Ends.{boolWritten, textWritten, letterWritten, extent as extentAs, letterExtent, Laid, letterTest, textTest, LoneBasic};
+ghost use Rattle.strict_basic.specs.Ends.{boolWritten, textWritten, letterWritten, extent as extentAs, letterExtent, Laid, letterTest, textTest, isBasic, mayOpen, readingOf, readingTest, LoneBasic};
 
 fn boolean_written(part: &[u8]) -> bool
     ensures { λ r. ⌜ r ≡ boolWritten (now (part .entry)) ⌝ }
@@ -37,6 +37,18 @@ fn text_written(part: &[u8]) -> bool
     }
     let refusal = text_refusal(&part[..end]);
     refusal == 0
+}
+
+// Whether a letter is a basic type's.
+pub fn is_basic(kind: Letter) -> bool
+    ensures { λ r. ⌜ r ≡ isBasic kind ⌝ }
+{
+    match kind {
+        Letter::Boolean => true,
+        Letter::Number { code: _, width: _ } => true,
+        Letter::Text { code: _ } => true,
+        _ => false,
+    }
 }
 
 // A basic value, by its letter.
@@ -106,6 +118,47 @@ pub fn texts_written(part: &[u8], rows: Rows) -> bool
             return false;
         }
         if !text_written(&part[place..e]) {
+            return false;
+        }
+        place = e;
+        from = from + width;
+        i = i + 1;
+    }
+    place == limit
+}
+
+// A reading of so many bytes: none, or those of its number where one more maybe may be open.
+fn reading_written(len: usize, width: usize, room: bool) -> bool
+    ensures { λ r. ⌜ r ≡ readingOf room width len ⌝ }
+{
+    if len == 0 {
+        return true;
+    }
+    if room {
+        return len == width;
+    }
+    false
+}
+
+// The elements of an array of readings, whose numbers have a width.
+pub fn readings_written(part: &[u8], rows: Rows, number: usize, room: bool) -> bool
+    requires { ⌜ (length (now part) ≤ largestFrame) × (rows .body ≤ length (now part)) × (rows .from + rows .count * rows .width ≤ length (now part)) × Aligns (rows .width) × Aligns number ⌝ }
+    ensures { λ r. ⌜ ((d : Depths) → room ≡ mayOpen d → r ≡ elementsWritten false (readingTest number) d (now (part .entry)) (rows .width) (rows .body) (rows .count) (rows .from) 0) ⌝ }
+{
+    let limit = rows.body;
+    let width = rows.width;
+    let many = rows.count;
+    let mut i = 0;
+    let mut from = rows.from;
+    let mut place = 0;
+    while i < many {
+        let e = offset_at(part, from, width);
+        let start = start_of(part, limit, place, e, number);
+        let there = start.there;
+        if !there {
+            return false;
+        }
+        if !reading_written(e - start.at, number, room) {
             return false;
         }
         place = e;

@@ -1,6 +1,5 @@
 // Where the children of a container begin and end, what stands between them, and the offsets of a container.
 use byte_order::number_at;
-use framing_offset_size::Fitting;
 use framing_offset_size::FramingOffsetSize;
 use utils::padding_for_n_bytes;
 ghost use mathlib.Core.Path.{_≡_};
@@ -11,7 +10,7 @@ ghost use lib.ListN.{length};
 ghost use Rattle.meaning.specs.Limits.{largestFrame, longestType};
 ghost use Rattle.meaning.specs.Numbers.{value};
 ghost use Rattle.meaning.specs.Padding.{padding, Aligns};
-ghost use Rattle.meaning.specs.Offsets.{writtenWidth};
+ghost use Rattle.meaning.specs.Offsets.{encodedWidth, writtenWidth};
 ghost use Rattle.meaning_writing.specs.Shapes.{part as partOf, oneMore, lastEnd, fieldEnd, offsetsLeft};
 ghost use Rattle.meaning_writing.specs.Strict.{allZero, elementEnd, fieldsFinished};
 ghost use Rattle.strict_basic.specs.Ends.{start as startAs, rows as rowsAs, Laid, endOf, StartAt, RowsOf, TableOf};
@@ -169,16 +168,38 @@ pub fn one_more(fixed: bool, count: usize) -> usize
     count + 1
 }
 
-// Whether a width is the smallest for a body and its offsets.
+// The width of the offsets in a container of so many bytes.
+fn width_of(len: usize) -> usize
+    requires { ⌜ len ≤ largestFrame ⌝ }
+    ensures { λ r. ⌜ r ≡ encodedWidth len ⌝ }
+{
+    if len <= 255 {
+        return 1;
+    }
+    if len <= 65535 {
+        return 2;
+    }
+    4
+}
+
+// Whether a width, which is that of a container's length, is the smallest for its body and its offsets.
 fn smallest(body: usize, count: usize, width: usize) -> bool
-    requires { ⌜ (body ≤ largestFrame) × (count ≤ largestFrame) ⌝ }
+    requires { ⌜ (body + count * width ≤ largestFrame) × (width ≡ encodedWidth (body + count * width)) ⌝ }
     ensures { λ r. ⌜ r ≡ eqb (writtenWidth body count) width ⌝ }
 {
-    let found = FramingOffsetSize::for_bare_container(body, count);
-    match found {
-        Fitting::Size(size) => size.width() == width,
-        Fitting::Nothing => false,
+    if width == 1 {
+        return true;
     }
+    if width == 2 {
+        if 255 < body + count {
+            return true;
+        }
+        return false;
+    }
+    if 65535 < body + 2 * count {
+        return true;
+    }
+    false
 }
 
 // The offsets of an array whose elements are not fixed.
@@ -220,8 +241,7 @@ pub fn rows_behind(len: usize, count: usize) -> Rows
     requires { ⌜ (len ≤ largestFrame) × (count ≤ longestType) ⌝ }
     ensures { λ r. ⌜ TableOf len count r ⌝ }
 {
-    let size = FramingOffsetSize::for_encoded_container(len);
-    let width = size.width();
+    let width = width_of(len);
     let table = count * width;
     if len < table {
         return rows_if(false, 0, count, width, len);

@@ -15,10 +15,10 @@ ghost use Prim.Native.Nat.{_+_, _≤_};
 ghost use Rattle.signature.specs.Places.{letterAt};
 ghost use Rattle.strict_basic.specs.Ends.{Laid, letterExtent, endOf};
 ghost use Rattle.meaning.specs.Padding.{padding, Aligns};
-ghost use Rattle.strict_basic.specs.Items.{Placed, isText, entrySize, entryItem, elementItem, ItemAt};
+ghost use Rattle.strict_basic.specs.Items.{Placed, isText, heldWidth, entrySize, entryItem, elementItem, ItemAt};
 
-// The element's shape, or the entry's value's; the entry's key; how it lies among others; whether any bytes of its size will do; and
-// whether it is a text.
+// The element's shape, or the entry's value's; the entry's key; how it lies among others; whether any bytes of its size will do;
+// whether it is a text; and where it is a reading, the width of its number.
 pub struct Item {
     pub entry: bool,
     pub child: Shape,
@@ -26,6 +26,7 @@ pub struct Item {
     pub extent: Extent,
     pub any: bool,
     pub text: bool,
+    pub held: usize,
 }
 
 fn is_text(kind: Letter) -> bool
@@ -34,6 +35,19 @@ fn is_text(kind: Letter) -> bool
     match kind {
         Letter::Text { code: _ } => true,
         _ => false,
+    }
+}
+
+// The width of the number that an element holds in a maybe, from that number's letter and whether the element is fixed; 0 for others.
+fn held_width(number: Letter, fixed: bool) -> usize
+    ensures { λ r. ⌜ r ≡ heldWidth number fixed ⌝ }
+{
+    if fixed {
+        return 0;
+    }
+    match number {
+        Letter::Number { code: _, width } => width,
+        _ => 0,
     }
 }
 
@@ -57,11 +71,12 @@ fn entry_item(child: Shape, key: Letter, extent: Extent) -> Item
         extent,
         any: false,
         text: false,
+        held: 0,
     }
 }
 
-fn element_item(child: Shape, extent: Extent, any: bool) -> Item
-    ensures { λ r. ⌜ r ≡ elementItem child extent any ⌝ }
+fn element_item(child: Shape, extent: Extent, any: bool, held: usize) -> Item
+    ensures { λ r. ⌜ r ≡ elementItem child extent any held ⌝ }
 {
     let kind = child.kind;
     let text = is_text(kind);
@@ -72,6 +87,7 @@ fn element_item(child: Shape, extent: Extent, any: bool) -> Item
         extent,
         any,
         text,
+        held,
     }
 }
 
@@ -90,5 +106,7 @@ pub fn repeated(text: &[u8], tables: &[u16], array: Shape) -> Item
         return entry_item(child, key, extent(found.alignment, found.fixed, size));
     }
     let any = any_in(tables, child);
-    element_item(child, lies, any)
+    let number = found.number;
+    let held = held_width(number, found.fixed);
+    element_item(child, lies, any, held)
 }

@@ -4,6 +4,7 @@ use mathlib.Core.List.{List, [], _∷_}
 use mathlib.Core.Bool.{Bool, true, false, _&&_}
 use Prim.Native.Nat.{ℕ, _+_, _-_, _*_, _≤_, _<_}
 use native.Mathlib.Omega.{arith}
+use lib.Dec.{eqb}
 use lib.ListN.{length, take, drop}
 use Rattle.meaning.specs.Choice.{pick}
 use Rattle.meaning.specs.Padding.{Aligns}
@@ -16,7 +17,7 @@ use Rattle.container_depths.specs.Opening.{depthsOf, Raises}
 use Rattle.container_depths.specs.declared.ContainerDepths.{ContainerDepths}
 use Rattle.container_depths.specs.declared.Raised.{Raised}
 use Rattle.reader_cycle.proofs.Readers.{raised-to}
-use Rattle.strict_basic.specs.Ends.{letterExtent, letterTest, textTest, endOf, RowsOf, TableOf}
+use Rattle.strict_basic.specs.Ends.{letterExtent, letterTest, textTest, mayOpen, readingTest, endOf, RowsOf, TableOf}
 use Rattle.strict_basic.specs.Items.{treeTest, itemTest, Repeated, ItemAt}
 use Rattle.strict_basic.specs.declared.ends.Extent.{Extent}
 use Rattle.strict_basic.specs.declared.ends.Rows.{Rows}
@@ -74,6 +75,26 @@ module _ {text tables : List ℕ} {at : ℕ} (i : Item) (g : ItemAt text tables 
       array-texts b h x k =
           array-on b h (k (depthsOf (r .depths)) ∙ ap (λ (y : Test). elementsWritten false y (depthsOf (r .depths)) l (s .width) (s .body) (s .count) (s .from) 0) (sym (g .repeated .texts x (r .depths .variant)))
           ∙ ap (λ (f : Bool). elementsWritten f t (depthsOf (r .depths)) l (s .width) (s .body) (s .count) (s .from) 0) (sym (text-loose x)))
+
+      -- of readings, which are not fixed
+      module _ (h : i .held ≡ 0 → ⊥) where
+        pub reads-aligned : Aligns (i .held)
+        reads-aligned = g .repeated .reads h .aligned
+
+        reads-loose : i .extent .fixed ≡ false
+        unfolding readingTest
+        reads-loose = sym (g .repeated .known .same-fixed 0) ∙ ap (λ (x : Test). x .shape .fixed) (g .repeated .reads h .is 0)
+
+        pub reads-wide : Aligns (s .width)
+        reads-wide = w .wide reads-loose
+
+        pub array-readings : (b : Bool) → s .stands ≡ true → (m : Raised) → Raises (depthsOf (r .depths)) (opened Depth.maybe (depthsOf (r .depths))) m
+            → ((e : Depths) → eqb (m .refusal) 0 ≡ mayOpen e → b ≡ elementsWritten false (readingTest (i .held)) e l (s .width) (s .body) (s .count) (s .from) 0)
+            → b ≡ treeTest (d .variant) text at .accepts (depthsOf d) l
+        array-readings b q m v k =
+            array-on b q (k (depthsOf (r .depths)) (ap (λ (n : ℕ). eqb n 0) (v .refusal))
+            ∙ ap (λ (y : Test). elementsWritten false y (depthsOf (r .depths)) l (s .width) (s .body) (s .count) (s .from) 0) (sym (g .repeated .reads h .is (r .depths .variant)))
+            ∙ ap (λ (f : Bool). elementsWritten f t (depthsOf (r .depths)) l (s .width) (s .body) (s .count) (s .from) 0) (sym reads-loose))
 
 -- ---- what is repeated
 

@@ -3,7 +3,7 @@ use types.Run.{OneOf, miss}
 use denote.Enum.Declared.{tagOf}
 use mathlib.Core.Path.{_≡_, refl, sym, ap, _∙_, subst}
 use mathlib.Core.List.{List, [], _∷_}
-use mathlib.Core.Bool.{Bool, true, false, _&&_}
+use mathlib.Core.Bool.{Bool, true, false, _&&_, false≢true}
 use Prim.Native.Nat.{ℕ, _+_, _-_, _≤_, _<_}
 use native.Mathlib.Omega.{arith}
 use lib.Dec.{eqb}
@@ -12,7 +12,7 @@ use borrow.Author.Tests.{eq-eqb, ne-eqb}
 use Rattle.meaning.specs.Choice.{pick}
 use Rattle.meaning.specs.Depths as Depth
 use Rattle.meaning.specs.Depths.{Depths, Opened, depthRefusal, opened}
-use Rattle.meaning.specs.Types.{Tree, basic, variant, maybe, array, dictionary, structure, fixed}
+use Rattle.meaning.specs.Types.{Basic, Tree, basic, variant, maybe, array, dictionary, structure, fixed}
 use Rattle.meaning.specs.TypeText.{firstType}
 use Rattle.meaning.specs.Written.{deeper}
 use Rattle.meaning_writing.specs.Shapes.{part}
@@ -32,7 +32,7 @@ use Rattle.signature.proofs.Dispatch.{Shown, shown, is-variant}
 use Rattle.signature.proofs.TreeLaws.{described-as, described-fixed, maybe-tree, maybe-described}
 use Rattle.reader_basic.proofs.Answers.{within-default}
 use Rattle.reader_cycle.proofs.Readers.{raised-to, raised-shallow}
-use Rattle.strict_basic.specs.Ends.{letterWritten, StartAt}
+use Rattle.strict_basic.specs.Ends.{letterWritten, isBasic, StartAt}
 use Rattle.strict_basic.specs.Items.{Placed, treeTest, Known}
 use Rattle.strict_basic.specs.declared.ends.Extent.{Extent}
 use Rattle.strict_basic.specs.declared.ends.Start.{Start}
@@ -63,6 +63,10 @@ inside-cut i e l w = let q = w .in-frame in record { in-frame = simp (length-tak
 abbrev unnested : List ℕ
 unnested = 0 ∷ 1 ∷ 2 ∷ 3 ∷ 4 ∷ 9 ∷ 10 ∷ 11 ∷ []
 
+basic-accepts : (b : Basic) (nested : ℕ) (k : Letter) (d : Depths) (l : List ℕ) → k ≡ basicKind b → letterWritten k l ≡ testOf (65 - nested) (basic b) .accepts d l
+basic-accepts b nested k d l e =
+    ap (λ (x : Letter). letterWritten x l) e ∙ letter-accepts (basicKind b) d l ∙ ap (λ (x : Test). x .accepts d l) (letter-test b ∙ sym (test-basic (65 - nested) b))
+
 pub basic-by : (signature : List ℕ) (at : ℕ) (k : Letter) (nested : ℕ) (d : Depths) (l : List ℕ) (r : Bool) → Typed signature at → k ≡ letterAt signature at → OneOf unnested (tagOf the-type k)
     → r ≡ letterWritten k l → r ≡ treeTest nested signature at .accepts d l
 basic-by signature at k nested d l r t e h g = g ∙ go (treeAt signature at) (shown signature at _ _ (t .found))
@@ -71,12 +75,28 @@ basic-by signature at k nested d l r t e h g = g ∙ go (treeAt signature at) (s
     tags x q = subst (λ (x : Letter). OneOf unnested (tagOf the-type x)) (e ∙ q) h
 
     go : (s : Tree) → Shown signature at s (behindBy (firstType (drop at signature))) → letterWritten k l ≡ testOf (65 - nested) s .accepts d l
-    go (basic b) w = ap (λ (x : Letter). letterWritten x l) (e ∙ w .letter) ∙ letter-accepts (basicKind b) d l ∙ ap (λ (x : Test). x .accepts d l) (letter-test b ∙ sym (test-basic (65 - nested) b))
+    go (basic b) w = basic-accepts b nested k d l (e ∙ w .letter)
     go variant w = absurd (miss unnested 5 tt (tags Variant (w .letter)))
     go (maybe s) w = absurd (miss unnested 6 tt (tags Maybe (w .letter)))
     go (array s) w = absurd (miss unnested 7 tt (tags Array (w .letter)))
     go (dictionary b s) w = absurd (miss unnested 7 tt (tags Array (w .letter)))
     go (structure ts) w = absurd (miss unnested 8 tt (tags OpenStructure (w .letter)))
+
+-- a letter that the code found to be basic
+pub basic-is : (signature : List ℕ) (at : ℕ) (k : Letter) (nested : ℕ) (d : Depths) (l : List ℕ) (r : Bool) → Typed signature at → k ≡ letterAt signature at → isBasic k ≡ true
+    → r ≡ letterWritten k l → r ≡ treeTest nested signature at .accepts d l
+basic-is signature at k nested d l r t e h g = g ∙ go (treeAt signature at) (shown signature at _ _ (t .found))
+  where
+    no : {A : Type 0} (x : Letter) → letterAt signature at ≡ x → isBasic x ≡ false → A
+    no x q f = absurd (false≢true (sym f ∙ ap isBasic (sym (e ∙ q)) ∙ h))
+
+    go : (s : Tree) → Shown signature at s (behindBy (firstType (drop at signature))) → letterWritten k l ≡ testOf (65 - nested) s .accepts d l
+    go (basic b) w = basic-accepts b nested k d l (e ∙ w .letter)
+    go variant w = no Variant (w .letter) refl
+    go (maybe s) w = no Maybe (w .letter) refl
+    go (array s) w = no Array (w .letter) refl
+    go (dictionary b s) w = no Array (w .letter) refl
+    go (structure ts) w = no OpenStructure (w .letter) refl
 
 pub value-variant : (signature : List ℕ) (at : ℕ) (d : ContainerDepths) (l : List ℕ) (r : Bool) → Typed signature at → letterAt signature at ≡ Variant → r ≡ variantAccepts d l
     → r ≡ treeTest (d .variant) signature at .accepts (depthsOf d) l

@@ -7,9 +7,11 @@ use signature::letter_at;
 use signature::shapes::Shape;
 use signature::shapes::shape_in;
 use strict_basic::basic::extent_of;
+use strict_basic::basic::is_basic;
 use strict_basic::basic::key_written;
 use strict_basic::basic::letter_written;
 use strict_basic::basic::lone_basic;
+use strict_basic::basic::readings_written;
 use strict_basic::basic::texts_written;
 use strict_basic::ends::Extent;
 use strict_basic::ends::Rows;
@@ -79,6 +81,10 @@ fn child(
     if !there {
         return false;
     }
+    let kind = shape.kind;
+    if is_basic(kind) {
+        return letter_written(kind, &part[from..e]);
+    }
     value(text, tables, shape, &part[from..e], d)
 }
 
@@ -100,6 +106,10 @@ fn maybe(text: &[u8], tables: &[u16], shape: Shape, part: &[u8], d: ContainerDep
     let held = shape_in(text, tables, shape.at + 1);
     let fixed = held.fixed;
     if fixed {
+        let kind = held.kind;
+        if is_basic(kind) {
+            return letter_written(kind, part);
+        }
         return value(text, tables, held, part, deeper);
     }
     let end = part.len() - 1;
@@ -136,6 +146,11 @@ fn array(text: &[u8], tables: &[u16], shape: Shape, part: &[u8], d: ContainerDep
     let texts = item.text;
     if texts {
         return texts_written(part, rows);
+    }
+    let held = item.held;
+    if held != 0 {
+        let room = deeper.inc_maybe();
+        return readings_written(part, rows, held, room.refusal == 0);
     }
     elements(text, tables, item, rows, part, deeper)
 }

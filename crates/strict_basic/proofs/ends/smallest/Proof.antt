@@ -1,48 +1,51 @@
 -- `smallest` meets its contract. Assumes nothing.
-use mathlib.Core.Path.{_≡_, refl, sym, ap, subst⁻¹, _∙_}
-use Rattle.framing_offset_size.specs.Widths.{fittingWidth}
-use Rattle.strict_basic.proofs.EndLaws.{smallest-is, smallest-none}
-use borrow.Author.Needs.{needs}
+use native.Mathlib.Omega.{arith}
+use Rattle.strict_basic.proofs.EndLaws.{smallest-one, smallest-two, smallest-not-two, smallest-four, smallest-not-four, pair-small}
 use Rattle.strict_basic.proofs.ends.smallest.Statement.{statement}
 use Rattle.strict_basic.proofs.ends.smallest.Tie as tie
 use Rattle.strict_basic.proofs.ends.smallest.Reads as reads
 use Rattle.strict_basic.proofs.ends.smallest.Lts as lts
-use Rattle.framing_offset_size.proofs.FramingOffsetSize.for_bare_container.Reads as for-bare-container-reads
-use Rattle.framing_offset_size.proofs.FramingOffsetSize.width.Reads as width-reads
 
--- src/ends.rt:177:9
-for-bare-container-requires : tie.Need-for-bare-container-requires
-for-bare-container-requires c κs = search needs
-
--- src/ends.rt:179:23
-enum-known-found : tie.Need-enum-known-found
-enum-known-found c = search needs
-
--- src/ends.rt:179:32
-width-requires : tie.Need-width-requires
-width-requires c κs = search needs
-
--- src/ends.rt:180:29
-enum-told : tie.Need-enum-told
-enum-told c = search needs
-
--- src/ends.rt:173:1
+-- src/ends.rt:191:9
 returns : tie.Need-returns
 returns c =
-    smallest-is _ _ (c .before .before .before .before .before .pre .0) (c .before .before .before .before .before .pre .1) (c .before .before .before .before .for-bare-container .result) (c .before .before .before .before .for-bare-container .ensures .width) _ _ (c .width .ensures ∙ ap fittingWidth (sym (c .before .before .found .given .1)))
+    smallest-one _ _ _ (c .before .pre .0) (c .before .pre .1) (c .if1 .taken)
 
--- src/ends.rt:173:1
+-- src/ends.rt:194:18
+add-if3 : tie.Need-add-if3
+add-if3 c =
+    omega (arith, pair-small _ _ _ (c .before .before .pre .0) (c .before .before .pre .1))
+
+-- src/ends.rt:195:13
 returns-2 : tie.Need-returns-2
 returns-2 c =
-    smallest-none _ _ (c .before .before .before .pre .0) (c .before .before .before .pre .1) _ (c .before .before .for-bare-container .ensures .width) _ (c .enum-told .given .1)
+    smallest-two _ _ _ (c .before .before .before .pre .0) (c .before .before .before .pre .1) (c .before .if2 .taken) (c .if3 .taken)
+
+-- src/ends.rt:197:9
+returns-3 : tie.Need-returns-3
+returns-3 c =
+    smallest-not-two _ _ _ (c .before .before .before .pre .0) (c .before .before .before .pre .1) (c .before .if2 .taken) (c .if3 .left)
+
+-- src/ends.rt:199:23
+mul-if4 : tie.Need-mul-if4
+mul-if4 c =
+    omega (arith, pair-small _ _ _ (c .before .before .pre .0) (c .before .before .pre .1))
+
+-- src/ends.rt:199:16
+add-if4 : tie.Need-add-if4
+add-if4 c =
+    omega (arith, pair-small _ _ _ (c .before .before .pre .0) (c .before .before .pre .1))
+
+-- src/ends.rt:200:9
+returns-4 : tie.Need-returns-4
+returns-4 c =
+    smallest-four _ _ _ (c .before .before .before .pre .0) (c .before .before .before .pre .1) (c .before .before .if1 .left) (c .before .if2 .left) (c .if4 .taken)
+
+-- src/ends.rt:186:1
+returns-5 : tie.Need-returns-5
+returns-5 c =
+    smallest-not-four _ _ _ (c .before .before .before .pre .0) (c .before .before .before .pre .1) (c .before .before .if1 .left) (c .before .if2 .left) (c .if4 .left)
 
 pub smallest-spec : {M : Type 1} → statement M
 smallest-spec =
-    tie.close
-    (tie.spec
-    for-bare-container-requires
-    enum-known-found
-    width-requires
-    enum-told
-    returns
-    returns-2)
+    tie.close (tie.spec returns add-if3 returns-2 returns-3 mul-if4 add-if4 returns-4 returns-5)

@@ -1,0 +1,102 @@
+-- `readings_written` meets its contract: the loop keeps what is left of the elements. Assumes nothing.
+use mathlib.Core.Path.{_≡_, refl, sym, ap, subst⁻¹, _∙_}
+use native.Mathlib.Omega.{arith}
+use borrow.Author.Needs.{needs}
+use Rattle.reader_basic.proofs.Answers.{granted, denied}
+use Prim.Native.Nat.{_-_}
+use Rattle.strict_basic.proofs.EndLaws.{element-other}
+use Rattle.strict_basic.proofs.ElementLaws.{ReadingsLeft, readings-begin, readings-room, readings-stop, readings-next, readings-end, reading-absent, reading-there}
+use Rattle.strict_basic.proofs.basic.readings_written.Statement.{statement}
+use Rattle.strict_basic.proofs.basic.readings_written.Tie as tie
+use Rattle.strict_basic.proofs.basic.readings_written.Reads as reads
+use Rattle.strict_basic.proofs.basic.readings_written.Lts as lts
+use Rattle.strict_basic.proofs.basic.reading_written.Reads as reading-written-reads
+use Rattle.strict_basic.proofs.ends.offset_at.Reads as offset-at-reads
+use Rattle.strict_basic.proofs.ends.start_of.Reads as start-of-reads
+
+abbrev Inv-loop : tie.InvT-loop
+Inv-loop part number room limit width many i₀ from₀ place₀ i from place =
+    ReadingsLeft room number part width limit many from₀ i from place
+
+abbrev μ-loop : tie.MeasureT-loop
+μ-loop part number room limit width many i₀ from₀ place₀ i from place =
+    many - i
+
+-- src/basic.rt:154:5
+loop-holds : tie.Need-loop-holds Inv-loop μ-loop
+loop-holds c =
+    readings-begin _ _ _ _ _ _ _ (c .before .pre .2)
+
+-- src/basic.rt:155:13
+offset-at-requires : tie.Need-offset-at-requires Inv-loop μ-loop
+offset-at-requires c κs =
+    (omega (arith, readings-room _ _ _ _ _ _ _ (c .before .loop .inv) (c .loop-test .taken)), c .before .before .before .pre .3)
+
+-- src/basic.rt:156:13
+start-of-requires : tie.Need-start-of-requires Inv-loop μ-loop
+start-of-requires c κs =
+    (c .before .before .loop .inv .place, c .before .before .before .before .pre .1, c .before .before .before .before .pre .0, c .before .before .before .before .pre .4)
+
+-- src/basic.rt:159:13
+returns : tie.Need-returns Inv-loop μ-loop
+returns c =
+    readings-stop _ _ _ _ _ _ _ (c .before .before .before .before .loop .inv) (c .before .before .before .loop-test .taken) _ (element-other _ _ _ _ _ _ refl (c .before .before .offset-at .ensures)) _ (reading-absent _ _ _ _ _ _ (c .before .start-of .ensures) (denied (c .if1 .taken)) _) refl
+
+-- src/basic.rt:161:29
+sub-reading-written : tie.Need-sub-reading-written Inv-loop μ-loop
+sub-reading-written c =
+    c .before .before .start-of .ensures .before (granted (c .before .if1 .left))
+
+-- src/basic.rt:161:13
+reading-written-requires : tie.Need-reading-written-requires Inv-loop μ-loop
+reading-written-requires c κs =
+    search needs
+
+-- src/basic.rt:162:13
+returns-2 : tie.Need-returns-2 Inv-loop μ-loop
+returns-2 c =
+    readings-stop _ _ _ _ _ _ _ (c .before .before .before .before .before .before .before .loop .inv) (c .before .before .before .before .before .before .loop-test .taken) _ (element-other _ _ _ _ _ _ refl (c .before .before .before .before .before .offset-at .ensures)) _ (reading-there _ _ _ _ _ _ (c .before .before .before .before .start-of .ensures) _ _ (granted (c .before .before .before .if1 .left)) (c .before .before .before .before .before .before .before .before .before .pre .1) (c .before .reading-written .ensures)) (denied (c .if2 .taken))
+
+-- src/basic.rt:165:16
+add-from : tie.Need-add-from Inv-loop μ-loop
+add-from c =
+    omega (arith, readings-room _ _ _ _ _ _ _ (c .before .before .before .before .before .before .before .loop .inv) (c .before .before .before .before .before .before .loop-test .taken), c .before .before .before .before .before .before .before .before .before .pre .0)
+
+-- src/basic.rt:166:13
+add-i : tie.Need-add-i Inv-loop μ-loop
+add-i c =
+    omega arith
+
+-- src/basic.rt:154:5
+loop-less : tie.Need-loop-less Inv-loop μ-loop
+loop-less c =
+    omega arith
+
+-- src/basic.rt:154:5
+loop-again : tie.Need-loop-again Inv-loop μ-loop
+loop-again c =
+    readings-next _ _ _ _ _ _ _ (c .before .before .before .before .before .before .before .loop .inv) (c .before .before .before .before .before .before .loop-test .taken) _ (element-other _ _ _ _ _ _ refl (c .before .before .before .before .before .offset-at .ensures)) _ (reading-there _ _ _ _ _ _ (c .before .before .before .before .start-of .ensures) _ _ (granted (c .before .before .before .if1 .left)) (c .before .before .before .before .before .before .before .before .before .pre .1) (c .before .reading-written .ensures)) (granted (c .if2 .left)) (c .before .before .before .before .start-of .ensures .within (granted (c .before .before .before .if1 .left)))
+
+-- src/basic.rt:144:1
+returns-3 : tie.Need-returns-3 Inv-loop μ-loop
+returns-3 c =
+    readings-end _ _ _ _ _ _ _ (c .before .loop .inv) (c .loop-test .left)
+
+pub readings-written-spec : {M : Type 1} → statement M
+readings-written-spec =
+    tie.close
+    (tie.spec
+    Inv-loop
+    μ-loop
+    loop-holds
+    offset-at-requires
+    start-of-requires
+    returns
+    sub-reading-written
+    reading-written-requires
+    returns-2
+    add-from
+    add-i
+    loop-less
+    loop-again
+    returns-3)

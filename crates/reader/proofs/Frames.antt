@@ -6,7 +6,8 @@ use Prim.Native.Nat.{ℕ, _-_, _*_, _/_, _≤_, _<_}
 use native.Mathlib.Omega.{arith}
 use native.Mathlib.Nat.{zero-add}
 use lib.Dec.{leb, eqb}
-use lib.ListN.{length}
+use lib.ListN.{length, take, drop}
+use lib.Seq.{take-length}
 use borrow.Author.Tests.{eq-eqb, ne-eqb, eqb-true, le-leb, lt-leb}
 use Rattle.meaning.specs.Choice.{pick}
 use Rattle.meaning.specs.Depths.{Depths, noneOpen, depthRefusal}
@@ -17,7 +18,8 @@ use Rattle.meaning.proofs.Bounds.{frame-events}
 use Rattle.container_depths.specs.Opening.{depthsOf}
 use Rattle.container_depths.specs.declared.ContainerDepths.{ContainerDepths}
 use Rattle.signature.specs.Places.{isType}
-use Rattle.reader_basic.specs.Answers.{Done, countsOf}
+use Rattle.meaning.specs.Reading.{child}
+use Rattle.reader_basic.specs.Answers.{Done, Whole, Between, countsOf}
 use Rattle.reader_cycle.specs.Places.{readerOf}
 use Rattle.reader_basic.specs.Parts.{Within}
 use Rattle.reader_basic.specs.declared.Answer.{Answer}
@@ -30,6 +32,13 @@ use Rattle.events.proofs.SliceLaws.{advance-most, fills}
 -- a frame is within the limits, with no container open
 pub within-frame : {len position : ℕ} {d : ContainerDepths} → len ≤ 65536 → position ≤ 65536 → depthsOf d ≡ noneOpen → Within len 0 position d
 within-frame {len} h i e = record { in-frame = rw (zero-add len) h; near = i; shallow = rw e (unfold depthRefusal in refl) }
+
+-- a frame is all of its part
+pub child-all : (R : ℕ → List ℕ → Outcome) (frame : List ℕ) (n : ℕ) (l l′ : List ℕ) (r : Answer) → Between (child R 0 frame 0 (length frame)) frame 0 (length frame) n l l′ r → Whole (R 0 frame) frame n l l′ r
+unfolding child
+child-all R frame n l l′ r d =
+    let z : length frame - 0 ≡ length frame = omega arith in
+    rw (le-leb 0 (length frame) (omega arith), le-leb (length frame) (length frame) (omega arith), z, take-length frame) at d
 
 -- ---- the ways out of whole
 

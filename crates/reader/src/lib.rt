@@ -8,6 +8,7 @@ use meaning::refusals::ROOM_TOO_SMALL;
 use meaning::refusals::TYPE_REFUSED;
 pub use reader_basic::Answer;
 use reader_basic::Context;
+use reader_basic::refused;
 use reader_cycle::value;
 use signature::shapes::shape_in;
 use signature::shapes::shapes_of;
@@ -24,11 +25,7 @@ pub fn size(signature: &[u8], big: bool, position: usize, frame: &[u8]) -> Answe
 {
     let mut shapes = [0u16; LONGEST_TYPE];
     if !shapes_of(signature, &mut shapes) {
-        return Answer {
-            refusal: TYPE_REFUSED,
-            used: 0,
-            count: 0,
-        };
+        return refused(TYPE_REFUSED, 0, 0);
     }
     sized(signature, &shapes, big, position, frame)
 }
@@ -40,11 +37,7 @@ pub fn read(signature: &[u8], big: bool, position: usize, frame: &[u8], out: &mu
 {
     let mut shapes = [0u16; LONGEST_TYPE];
     if !shapes_of(signature, &mut shapes) {
-        return Answer {
-            refusal: TYPE_REFUSED,
-            used: 0,
-            count: 0,
-        };
+        return refused(TYPE_REFUSED, 0, 0);
     }
     let s = sized(signature, &shapes, big, position, frame);
     let refusal = s.refusal;
@@ -53,11 +46,7 @@ pub fn read(signature: &[u8], big: bool, position: usize, frame: &[u8], out: &mu
         return s;
     }
     if out.len() / 3 < count {
-        return Answer {
-            refusal: ROOM_TOO_SMALL,
-            used: 0,
-            count: 0,
-        };
+        return refused(ROOM_TOO_SMALL, 0, 0);
     }
     whole(signature, &shapes, big, position, frame, out)
 }
@@ -71,11 +60,7 @@ fn sized(signature: &[u8], shapes: &[u16], big: bool, position: usize, frame: &[
     let r = whole(signature, shapes, big, position, frame, &mut none);
     let refusal = r.refusal;
     if refusal != 0 {
-        return Answer {
-            refusal,
-            used: 0,
-            count: 0,
-        };
+        return refused(refusal, 0, 0);
     }
     r
 }
@@ -93,18 +78,10 @@ fn whole(
     ensures { λ r. ⌜ Whole (frameReading (now (signature .entry)) big position (now (frame .entry))) (now (frame .entry)) 0 (now (out .entry)) (now (out .exit)) r ⌝ }
 {
     if LARGEST_FRAME < frame.len() {
-        return Answer {
-            refusal: OVER_LIMIT,
-            used: 0,
-            count: 0,
-        };
+        return refused(OVER_LIMIT, 0, 0);
     }
     if LARGEST_FRAME < position {
-        return Answer {
-            refusal: OVER_LIMIT,
-            used: 0,
-            count: 0,
-        };
+        return refused(OVER_LIMIT, 0, 0);
     }
     let depths = ContainerDepths::new();
     let context = Context {
@@ -113,5 +90,6 @@ fn whole(
         depths,
     };
     let shape = shape_in(signature, shapes, 0);
-    value(signature, shapes, shape, frame, 0, context, out, 0)
+    let len = frame.len();
+    value(signature, shapes, shape, frame, 0, len, 0, context, out, 0)
 }

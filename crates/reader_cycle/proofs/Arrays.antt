@@ -7,25 +7,26 @@ use native.Mathlib.Omega.{arith}
 use lib.ListN.{length, drop}
 use Rattle.meaning.specs.Choice.{pick}
 use Rattle.meaning.specs.Depths as Depth
-use Rattle.meaning.specs.Depths.{Depths, opened}
+use Rattle.meaning.specs.Depths.{Depths}
 use Rattle.meaning.specs.Offsets.{Table, tableOf, endsOf, tableStands}
 use Rattle.meaning.specs.Events.{event, opening}
 use Rattle.meaning.specs.Outcome.{Outcome, done, refused, chain, passing, closingAt, enclosed}
 use Rattle.meaning.specs.Reading.{Step, elements, elementsTo, tabled, arrayBody, arrayIn}
-use Rattle.container_depths.specs.Opening.{depthsOf, Raises}
+use Rattle.container_depths.specs.Opening.{depthsOf}
 use Rattle.framing_offsets.specs.Tables.{tableIn, emptyTable, Encoded}
-use Rattle.container_depths.specs.declared.ContainerDepths.{ContainerDepths}
-use Rattle.container_depths.specs.declared.Raised.{Raised}
 use Rattle.framing_offsets.specs.declared.EncodedArray.{EncodedArray}
 use Rattle.events.specs.Slices.{nextEvent, put}
 use Rattle.reader_basic.specs.Parts.{itemKind}
-use Rattle.reader_basic.specs.Answers.{Done}
+use Rattle.reader_basic.specs.Answers.{Done, From}
 use Rattle.signature.specs.Trees.{treeAt}
-use Rattle.reader_cycle.specs.Places.{bodyIn, itemStep, ItemAt, Repeated}
+use Rattle.reader_cycle.specs.Openings.{Deeper, Opens}
+use Rattle.reader_cycle.specs.declared.opening.Inner.{Inner}
+use Rattle.reader_cycle.specs.Places.{insideOf, itemStep, elementsOf, framedOf, ItemAt, Repeated}
 use Rattle.reader_basic.specs.declared.Answer.{Answer}
+use Rattle.reader_basic.specs.declared.Context.{Context}
 use Rattle.signature.specs.declared.items.Item.{Item}
 use Rattle.reader_basic.proofs.Answers.{answer, refusing, after-event}
-use Rattle.reader_cycle.proofs.Readers.{raised-to, within-open}
+use Rattle.reader_cycle.proofs.Deepening.{too-deep, within-open, same-inside}
 
 pub enclosed-on : (kind p end len n m : ℕ) (l l₁ l′ : List ℕ) (o : Outcome) (s : Answer) → m ≡ nextEvent n → l₁ ≡ put l n (event kind p 0) → Done (chain o (closingAt p)) end len m l₁ l′ s → Done (enclosed kind p o) end len n l l′ s
 unfolding enclosed
@@ -47,33 +48,31 @@ module _ (kind : ℕ) (fx : Bool) (step : Step) (k : ℕ) (l : List ℕ) (n : �
   body-tabled f b t e = rw f (rw (b, e))
 
 -- ---- the ways out of array
-module _ (text shapes : List ℕ) (at : ℕ) (i : Item) (a : ItemAt text shapes at i) (part : List ℕ) (lead place position : ℕ) (big : Bool) (d : ContainerDepths) (n : ℕ) (l : List ℕ)
-    (r : Raised) (u : Raises (depthsOf d) (opened Depth.array (depthsOf d)) r) where
+module _ {text shapes : List ℕ} {at : ℕ} {i : Item} (a : ItemAt text shapes at i) (part : List ℕ) (lead place : ℕ) (c : Context) (n : ℕ) (l : List ℕ) where
   abbrev body : Outcome
-  body = bodyIn position big (d .variant) (treeAt text at) d place part lead
+  body = insideOf c (treeAt text at) place part lead
 
-  abbrev len : ℕ
-  len = length part - lead
+  pub array-deep : {r : Inner} → Opens Depth.array c r → (r .refusal ≡ 0 → ⊥) → From body part lead n l l (answer (r .refusal) 0 n)
+  unfolding arrayIn
+  array-deep o z = rw (a .body (c .position) (c .big) (c .depths .variant) (c .depths) place part lead) (too-deep (place + lead) _ _ _ n l o z)
 
-  module _ (z : r .refusal ≡ 0) where
-    -- the step as it is taken, deeper
-    abbrev taken : ℕ → ℕ → ℕ → Outcome
-    taken = itemStep position big (r .depths .variant) text i (depthsOf (r .depths)) place part
-
-    opened-body : body ≡ arrayBody (itemKind i) (i .fixed) (itemStep position big (r .depths .variant) text i) place part lead (depthsOf (r .depths))
+  module _ {c′ : Context} (d : Deeper Depth.array c c′) where
+    opened-body : body ≡ arrayBody (itemKind i) (i .fixed) (itemStep (c′ .position) (c′ .big) (c′ .depths .variant) text i) place part lead (depthsOf (c′ .depths))
     unfolding arrayIn
     opened-body =
-        let v : r .depths .variant ≡ d .variant = ap (λ (x : Depths). x .variant) (raised-to Depth.array d r u z) in
-        a .body position big (d .variant) d place part lead ∙ within-open Depth.array d r (place + lead) _ u z ∙ rw (← v)
+        a .body (c .position) (c .big) (c .depths .variant) (c .depths) place part lead
+        ∙ within-open d (place + lead) (arrayBody (itemKind i) (i .fixed) (itemStep (c .position) (c .big) (c .depths .variant) text i) place part lead)
+        ∙ ap (λ (x : Step). arrayBody (itemKind i) (i .fixed) x place part lead (depthsOf (c′ .depths)))
+        (same-inside d (λ y w v. itemStep y w v text i) (c .depths .variant) (ap (λ (y : Depths). y .variant) (d .depths)))
 
     pub array-fixed : (m : ℕ) (l₁ l′ : List ℕ) (s : Answer) → i .fixed ≡ true → m ≡ nextEvent n → l₁ ≡ put l n (event (itemKind i) (place + lead) 0)
-        → Done (chain (elements (length part) (taken (length part)) (length part) lead) (closingAt (place + lead))) len len m l₁ l′ s → Done body len len n l l′ s
+        → From (chain (elementsOf c′ text i place part lead) (closingAt (place + lead))) part lead m l₁ l′ s → From body part lead n l l′ s
     array-fixed m l₁ l′ s f p q g =
-        rw (opened-body ∙ body-fixed (itemKind i) (i .fixed) (itemStep position big (r .depths .variant) text i) place part lead (depthsOf (r .depths)) f)
-        (enclosed-on (itemKind i) (place + lead) len len n m l l₁ l′ _ s p q g)
+        rw (opened-body ∙ body-fixed (itemKind i) (i .fixed) (itemStep (c′ .position) (c′ .big) (c′ .depths .variant) text i) place part lead (depthsOf (c′ .depths)) f)
+        (enclosed-on (itemKind i) (place + lead) _ _ n m l l₁ l′ _ s p q g)
 
     module _ (f : i .fixed ≡ false) (e : EncodedArray) (t : Encoded (drop lead part) e) where
-      pub table-is : (b : Bool) → e .refusal ≡ pick b 0 3 → e .refusal ≡ 0 → b ≡ true
+      table-is : (b : Bool) → e .refusal ≡ pick b 0 3 → e .refusal ≡ 0 → b ≡ true
       table-is true h y = refl
       table-is false h y = absurd (omega arith)
 
@@ -85,19 +84,18 @@ module _ (text shapes : List ℕ) (at : ℕ) (i : Item) (a : ItemAt text shapes 
       three true h y = absurd (y h)
       three false h y = h
 
-      pub array-no-table : (e .refusal ≡ 0 → ⊥) → Done body len len n l l (answer (e .refusal) 0 n)
-      array-no-table y = subst⁻¹ (λ (k : ℕ). Done body len len n l l (answer k 0 n)) (three (tableStands (tableOf (drop lead part)) (drop lead part)) (t .refusal) y)
-          (rw (opened-body ∙ body-no-table (itemKind i) (i .fixed) (itemStep position big (r .depths .variant) text i) place part lead (depthsOf (r .depths)) f (no-table _ (t .refusal) y))
-          (refusing 3 (place + lead) len len n l (λ w. omega arith)))
+      pub array-no-table : (e .refusal ≡ 0 → ⊥) → From body part lead n l l (answer (e .refusal) 0 n)
+      array-no-table y = subst⁻¹ (λ (k : ℕ). From body part lead n l l (answer k 0 n)) (three (tableStands (tableOf (drop lead part)) (drop lead part)) (t .refusal) y)
+          (rw (opened-body ∙ body-no-table (itemKind i) (i .fixed) (itemStep (c′ .position) (c′ .big) (c′ .depths .variant) text i) place part lead (depthsOf (c′ .depths)) f (no-table _ (t .refusal) y))
+          (refusing 3 (place + lead) _ _ n l (λ w. omega arith)))
 
       pub array-framed : (m : ℕ) (l₁ l′ : List ℕ) (s : Answer) → e .refusal ≡ 0 → m ≡ nextEvent n → l₁ ≡ put l n (event (itemKind i) (place + lead) 0)
-          → Done (chain (chain (elementsTo (taken (lead + e .offsets .start)) lead (endsOf (tableIn (e .offsets)) (drop lead part)) lead) (passing (length part - (lead + e .offsets .start)))) (closingAt (place + lead))) len len m l₁ l′ s
-          → Done body len len n l l′ s
+          → From (chain (framedOf c′ text i (e .offsets) place part lead) (closingAt (place + lead))) part lead m l₁ l′ s → From body part lead n l l′ s
       array-framed m l₁ l′ s y p q g =
           let b = table-is _ (t .refusal) y in
           let w : tableIn (e .offsets) ≡ tableOf (drop lead part) = t .table ∙ ap (λ (x : Bool). pick x (tableOf (drop lead part)) emptyTable) b in
-          rw (opened-body ∙ body-tabled (itemKind i) (i .fixed) (itemStep position big (r .depths .variant) text i) place part lead (depthsOf (r .depths)) f b (tableIn (e .offsets)) (sym w))
-          (enclosed-on (itemKind i) (place + lead) len len n m l l₁ l′ _ s p q g)
+          rw (opened-body ∙ body-tabled (itemKind i) (i .fixed) (itemStep (c′ .position) (c′ .big) (c′ .depths .variant) text i) place part lead (depthsOf (c′ .depths)) f b (tableIn (e .offsets)) (sym w))
+          (enclosed-on (itemKind i) (place + lead) _ _ n m l l₁ l′ _ s p q g)
 
 -- a fixed step that is done uses a byte
 pub item-least : (text shapes : List ℕ) (i : Item) → Repeated text shapes i → i .fixed ≡ true → (position : ℕ) (big : Bool) (nested : ℕ) (d : Depths) (place : ℕ) (part : List ℕ) (b j end len n : ℕ) (l l′ : List ℕ) (r : Answer)

@@ -21,11 +21,15 @@ use Rattle.meaning.proofs.OffsetSteps.{own-width}
 use Rattle.de.specs.Parts.{paddingAt}
 use Rattle.framing_offset_size.specs.Widths.{lastOffsetIn}
 use Rattle.utils.specs.declared.Checked as leafs
-use Rattle.reader_basic.specs.Answers.{Done}
+use Rattle.reader_basic.specs.Answers.{Done, Between}
+use Rattle.reader_cycle.specs.Children.{keyEnd, keyEnds, endsAt, endsMissing}
+use Rattle.reader_cycle.specs.declared.ends.Ends.{Ends}
 use Rattle.signature.specs.Trees.{treeAt}
-use Rattle.reader_cycle.specs.Places.{readerOf, itemStep}
-use Rattle.reader_basic.specs.Parts.{keyReader}
+use Rattle.reader_cycle.specs.Places.{readerOf, itemStep, valueAt, valueIn, stepIn, fixedKeyIn, textKeyIn, Repeated}
+use Rattle.reader_basic.specs.Parts.{keyReader, Inside}
 use Rattle.reader_basic.specs.declared.Answer.{Answer}
+use Rattle.reader_basic.specs.declared.Context.{Context}
+use Rattle.container_depths.specs.Opening.{depthsOf}
 use Rattle.signature.specs.declared.items.Item.{Item}
 use Rattle.reader_basic.proofs.Answers.{answer, refusing, after-bytes, both, stopped, ended, ended-refused}
 use Rattle.reader_basic.proofs.Leaves.{Pads, pads-at}
@@ -52,6 +56,11 @@ child-ordered R place part j e {r = r} d z = go (leb j e) refl
 abbrev pub Padded : ℕ → ℕ → ℕ → List ℕ → ℕ → Answer → Answer → Type 0
 Padded position a place part j r s =
     (o : Outcome) (end len n : ℕ) (l l′ : List ℕ) → len ≡ length part - j → Done o end len n l l′ r → Done (endPadding position true a place part j o) len len n l l′ s
+
+-- what an answer is with so many bytes passed behind it
+abbrev pub Passed : Answer → ℕ → Answer → Type 0
+Passed r more s =
+    (o : Outcome) (end end′ len n : ℕ) (l l′ : List ℕ) → (r .refusal ≡ 0 → r .used + more ≤ end) → end ≤ len → Done o end′ len n l l′ r → Done (chain o (passing more)) end len n l l′ s
 
 -- ---- a key that is fixed, and the value
 
@@ -116,68 +125,97 @@ key-end part j e w r h i p q = go (eqb (e - j) 0) refl
         let v : leb w (length (take (e - j) (drop j part))) ≡ true = le-leb w (length (take (e - j) (drop j part))) (omega (arith, m)) in
         record { there = ap (λ s. s .refusal) (q ∙ lastOffsetIn-is w (take (e - j) (drop j part))) ∙ rw (t, v); end = ap (λ s. s .value) (q ∙ lastOffsetIn-is w (take (e - j) (drop j part))) ∙ rw (t, v) (rw p) }
 
-module _ (position a : ℕ) (fx : Bool) (key value : Reader) (d : Depths) (place : ℕ) (part : List ℕ) (b j e n : ℕ) (l : List ℕ) where
-  pub text-key-before : e < j → Done (textKey position a fx key value d place part b j e) (e - j) (length part - j) n l l (answer 3 0 n)
-  unfolding textKey
-  text-key-before h = rw (lt-leb j e h) (refusing 3 (place + j) (e - j) (length part - j) n l (λ q. omega arith))
+-- where the key ends, by the answer of the leaf
+module _ (part : List ℕ) (b j e : ℕ) where
+  pub key-ends-before : e < j → endsMissing 3 ≡ keyEnds part b j e
+  unfolding keyEnds
+  key-ends-before h = rw (lt-leb j e h)
 
-  module _ (h : j ≤ e) (i : e ≤ b) (g : b ≤ length part) (w x : ℕ) (p : w ≡ encodedWidth (e - j)) (q : x ≡ lastOffset (encodedWidth (e - j)) (take (e - j) (drop j part))) where
-    pub text-key-past : b - j < x → Done (textKey position a fx key value d place part b j e) (e - j) (length part - j) n l l (answer 3 0 n)
-    unfolding textKey keyTo
-    text-key-past s =
+  module _ (h : j ≤ e) (i : e ≤ b) (x : ℕ) (q : x ≡ lastOffset (encodedWidth (e - j)) (take (e - j) (drop j part))) where
+    pub key-ends-past : b - j < x → endsMissing 3 ≡ keyEnds part b j e
+    unfolding keyEnds
+    key-ends-past s =
         let y : b < j + x = omega arith in
-        rw (le-leb j e h, ← q) (rw (lt-leb (j + x) b y) (refusing 3 (place + j) (e - j) (length part - j) n l (λ o. omega arith)))
+        rw (le-leb j e h, ← q, lt-leb (j + x) b y)
 
-    module _ (s : x ≤ b - j) (l₁ : List ℕ) (k : Answer) (c : Done (child (key d) place part j (j + x)) (j + x - j) (length part - j) n l l₁ k) where
-      text-key-is : textKey position a fx key value d place part b j e ≡ chain (child (key d) place part j (j + x)) (further (valueBefore position a fx key value d place part b e w) j)
-      unfolding textKey keyTo
-      text-key-is =
-          let y : j + x ≤ b = omega arith in
-          rw (le-leb j e h, ← q, p) (rw (le-leb (j + x) b y))
+    pub key-ends-there : (w : ℕ) → w ≡ encodedWidth (e - j) → x ≤ b - j → endsAt (j + x) w ≡ keyEnds part b j e
+    unfolding keyEnds
+    key-ends-there w p s =
+        let y : j + x ≤ b = omega arith in
+        rw (p, le-leb j e h, ← q, le-leb (j + x) b y)
 
-      pub text-key-stop : (k .refusal ≡ 0 → ⊥) → Done (textKey position a fx key value d place part b j e) (e - j) (length part - j) n l l₁ k
-      text-key-stop z =
-          rw text-key-is
-          (stopped (e - j) (j + x - j) (length part - j) (length part - j) n l l₁ (child (key d) place part j (j + x)) (further (valueBefore position a fx key value d place part b e w) j) k z (omega arith) c)
+-- where the key ends, and the value behind it
+pub record KeyThere (part : List ℕ) (b j e : ℕ) (o : Ends) : Type 0 where
+  pub ordered : j ≤ e
+  pub width : o .width ≡ encodedWidth (e - j)
+  pub end : o .child ≡ keyEnd part j e
+  pub within : o .child ≤ b
 
-      module _ (z : k .refusal ≡ 0) where
-        pub text-key-narrow : e < j + k .used + w → Done (textKey position a fx key value d place part b j e) (e - j) (length part - j) n l l₁ (answer 3 (k .used) (k .count))
-        unfolding valueBefore
-        text-key-narrow y =
-            let t : valueBefore position a fx key value d place part b e w (j + k .used) ≡ refused 3 (place + (j + k .used)) = rw (lt-leb (j + k .used + w) e y) in
-            rw text-key-is
-            (ended-refused (e - j) (j + x - j) (length part - j) (length part - j) n 3 (place + (j + k .used)) l l₁ (child (key d) place part j (j + x))
-            (further (valueBefore position a fx key value d place part b e w) j) k z t (λ o. omega arith) (c .fits) c)
+module _ (part : List ℕ) (b j e : ℕ) (o : Ends) (q : o ≡ keyEnds part b j e) where
+  pub key-there : o .refusal ≡ 0 → KeyThere part b j e o
+  unfolding keyEnds
+  key-there z = go (leb j e) (leb (keyEnd part j e) b) refl refl
+    where
+      go : (x y : Bool) → leb j e ≡ x → leb (keyEnd part j e) b ≡ y → KeyThere part b j e o
+      go true true f g =
+          let p : o ≡ endsAt (keyEnd part j e) (encodedWidth (e - j)) = q ∙ rw (f, g) in
+          let v : o .child ≡ keyEnd part j e = ap (λ (s : Ends). s .child) p in
+          let w : o .width ≡ encodedWidth (e - j) = ap (λ (s : Ends). s .width) p in
+          record { ordered = leb-true j e f; width = w; end = v; within = omega (arith, leb-true (keyEnd part j e) b g) }
+      go true false f g = let p : o ≡ endsMissing 3 = q ∙ rw (f, g) in let y : o .refusal ≡ 3 = ap (λ (s : Ends). s .refusal) p in absurd (omega arith)
+      go false y f g = let p : o ≡ endsMissing 3 = q ∙ rw f in let x : o .refusal ≡ 3 = ap (λ (s : Ends). s .refusal) p in absurd (omega arith)
 
-        module _ (y : j + k .used + w ≤ e) (l′ : List ℕ) (v : Answer)
-            (u : Done (child (value d) place part (j + k .used) (e - w)) (e - w - (j + k .used)) (length part - (j + k .used)) (k .count) l₁ l′ v) where
-          value-is : valueBefore position a fx key value d place part b e w (j + k .used) ≡ chain (child (value d) place part (j + k .used) (e - w)) (passing w)
-          unfolding valueBefore
-          value-is = rw (le-leb (j + k .used + w) e y)
+  module _ (position a : ℕ) (fx : Bool) (key value : Reader) (d : Depths) (place n : ℕ) (l : List ℕ) where
+    pub text-key-missing : (o .refusal ≡ 0 → ⊥) → Between (textKey position a fx key value d place part b j e) part j e n l l (answer (o .refusal) 0 n)
+    unfolding keyEnds textKey keyTo
+    text-key-missing z = go (leb j e) (leb (keyEnd part j e) b) refl refl
+      where
+        go : (x y : Bool) → leb j e ≡ x → leb (keyEnd part j e) b ≡ y → Between (textKey position a fx key value d place part b j e) part j e n l l (answer (o .refusal) 0 n)
+        go true true f g = let p : o ≡ endsAt (keyEnd part j e) (encodedWidth (e - j)) = q ∙ rw (f, g) in absurd (z (ap (λ (s : Ends). s .refusal) p))
+        go true false f g =
+            let y : o ≡ endsMissing 3 = q ∙ rw (f, g) in
+            let p : o .refusal ≡ 3 = ap (λ (s : Ends). s .refusal) y in
+            rw (p, f, g) (refusing 3 (place + j) (e - j) (length part - j) n l (λ o. omega arith))
+        go false y f g =
+            let y : o ≡ endsMissing 3 = q ∙ rw f in
+            let p : o .refusal ≡ 3 = ap (λ (s : Ends). s .refusal) y in
+            rw (p, f) (refusing 3 (place + j) (e - j) (length part - j) n l (λ o. omega arith))
 
-          pub text-key-value-stop : (v .refusal ≡ 0 → ⊥)
-              → Done (textKey position a fx key value d place part b j e) (e - j) (length part - j) n l l′ (answer (v .refusal) (k .used + v .used) (v .count))
-          text-key-value-stop o =
-              let f = c .fits in
-              let end = e - (j + k .used) in
-              let len = length part - (j + k .used) in
-              rw text-key-is
-              (both (e - j) (j + x - j) end (length part - j) (length part - j) len n l l₁ l′ (child (key d) place part j (j + x))
-              (further (valueBefore position a fx key value d place part b e w) j) k v z (omega arith) (omega arith) c
-              (rw value-is (stopped end (e - w - (j + k .used)) len len (k .count) l₁ l′ (child (value d) place part (j + k .used) (e - w)) (passing w) v o (omega arith) u)))
+module _ (position a : ℕ) (fx : Bool) (key value : Reader) (d : Depths) (place : ℕ) {part : List ℕ} {b j e : ℕ} {o : Ends} (t : KeyThere part b j e o) (n : ℕ) (l : List ℕ) (i : e ≤ b) (g : b ≤ length part)
+    (l₁ : List ℕ) (k : Answer) (c : Done (child (key d) place part j (o .child)) (o .child - j) (length part - j) n l l₁ k) where
+  text-key-is : textKey position a fx key value d place part b j e ≡ chain (child (key d) place part j (o .child)) (further (valueBefore position a fx key value d place part b e (o .width)) j)
+  unfolding textKey keyTo
+  text-key-is =
+      let y : keyEnd part j e ≤ b = omega (arith, t .end, t .within) in
+      rw (t .end, t .width, le-leb j e (t .ordered)) (rw (le-leb (keyEnd part j e) b y))
 
-          pub text-key-done : v .refusal ≡ 0
-              → Done (textKey position a fx key value d place part b j e) (e - j) (length part - j) n l l′ (answer 0 (k .used + v .used + w) (v .count))
-          text-key-done o =
-              let f = c .fits in
-              let m = u .ends o in
-              let end = e - (j + k .used) in
-              let len = length part - (j + k .used) in
-              rw (text-key-is, add-assoc (k .used) (v .used) w)
-              (both (e - j) (j + x - j) end (length part - j) (length part - j) len n l l₁ l′ (child (key d) place part j (j + x))
-              (further (valueBefore position a fx key value d place part b e w) j) k (answer 0 (v .used + w) (v .count)) z (omega arith) (omega arith) c
-              (rw value-is
-              (ended end (e - w - (j + k .used)) len len (k .count) w (v .used + w) l₁ l′ (child (value d) place part (j + k .used) (e - w)) (passing w) v o refl refl (omega arith) (omega arith) u)))
+  pub text-key-stop : (k .refusal ≡ 0 → ⊥) → Between (textKey position a fx key value d place part b j e) part j e n l l₁ k
+  text-key-stop z =
+      rw text-key-is
+      (stopped (e - j) (o .child - j) (length part - j) (length part - j) n l l₁ (child (key d) place part j (o .child)) (further (valueBefore position a fx key value d place part b e (o .width)) j) k z (omega arith) c)
+
+  module _ (z : k .refusal ≡ 0) where
+    pub text-key-narrow : e < j + k .used + o .width → Between (textKey position a fx key value d place part b j e) part j e n l l₁ (answer 3 (k .used) (k .count))
+    unfolding valueBefore
+    text-key-narrow y =
+        let x : valueBefore position a fx key value d place part b e (o .width) (j + k .used) ≡ refused 3 (place + (j + k .used)) = rw (lt-leb (j + k .used + o .width) e y) in
+        rw text-key-is
+        (ended-refused (e - j) (o .child - j) (length part - j) (length part - j) n 3 (place + (j + k .used)) l l₁ (child (key d) place part j (o .child))
+        (further (valueBefore position a fx key value d place part b e (o .width)) j) k z x (λ o. omega arith) (c .fits) c)
+
+    pub text-key-value : j + k .used + o .width ≤ e → (l′ : List ℕ) (v r : Answer)
+        → Done (child (value d) place part (j + k .used) (e - o .width)) (e - o .width - (j + k .used)) (length part - (j + k .used)) (k .count) l₁ l′ v → Passed v (o .width) r
+        → Between (textKey position a fx key value d place part b j e) part j e n l l′ (answer (r .refusal) (k .used + r .used) (r .count))
+    unfolding valueBefore
+    text-key-value y l′ v r u p =
+        let f = c .fits in
+        let end = e - (j + k .used) in
+        let len = length part - (j + k .used) in
+        rw text-key-is
+        (both (e - j) (o .child - j) end (length part - j) (length part - j) len n l l₁ l′ (child (key d) place part j (o .child))
+        (further (valueBefore position a fx key value d place part b e (o .width)) j) k r z (omega arith) (omega arith) c
+        (rw (le-leb (j + k .used + o .width) e y)
+        (p (child (value d) place part (j + k .used) (e - o .width)) end (e - o .width - (j + k .used)) len (k .count) l₁ l′ (λ x. let h = u .ends x in omega arith) (omega arith) u)))
 
 -- ---- a step: a child, or an entry behind its padding
 
@@ -224,11 +262,6 @@ module _ (position a : ℕ) (fk fx : Bool) (key value : Reader) (d : Depths) (pl
     entry-text k c =
         entry-behind (λ i. rw k (rw (lt-leb (j + p .value) e i))) (rw k c)
 
--- where the entry begins, behind its padding
-pub entry-within : (position place j a : ℕ) (part : List ℕ) (p : leafs.Checked) → Aligns a → position + place + j ≤ 18446744073709551615 → j ≤ length part
-    → p ≡ paddingAt (position + place) j a part → j + p .value ≤ length part
-entry-within position place j a part p s f h q = let w = pads-at position place j a part p s f h q .fits in omega arith
-
 -- by a test
 picked : (q : Bool) (s t : Step) (d : Depths) (place : ℕ) (part : List ℕ) (b j e end len n : ℕ) (l l′ : List ℕ) (r : Answer) → q ≡ true
     → Done (s d place part b j e) end len n l l′ r → Done (pick q s t d place part b j e) end len n l l′ r
@@ -238,38 +271,57 @@ other : (q : Bool) (s t : Step) (d : Depths) (place : ℕ) (part : List ℕ) (b 
     → Done (t d place part b j e) end len n l l′ r → Done (pick q s t d place part b j e) end len n l l′ r
 other q s t d place part b j e end len n l l′ r h c = rw h c
 
-module _ (position : ℕ) (big : Bool) (nested : ℕ) (text : List ℕ) (i : Item) (d : Depths) (place : ℕ) (part : List ℕ) (b j e n : ℕ) (l : List ℕ) where
-  pub step-child : (l′ : List ℕ) (r : Answer) → i .entry ≡ false
-      → Done (child (readerOf position big nested (treeAt text (i .child .at)) d) place part j e) (e - j) (length part - j) n l l′ r
-      → Done (itemStep position big nested text i d place part b j e) (e - j) (length part - j) n l l′ r
-  unfolding childStep
-  step-child l′ r h c =
-      other (i .entry) (entryStep position (i .alignment) (i .keyed) (i .fixed) (keyReader position big (i .key)) (readerOf position big nested (treeAt text (i .child .at))))
-      (childStep (readerOf position big nested (treeAt text (i .child .at)))) d place part b j e (e - j) (length part - j) n l l′ r h c
+-- an element of an array is a child
+pub step-child : (c : Context) (text : List ℕ) (i : Item) (place : ℕ) (part : List ℕ) (b j e n : ℕ) (l l′ : List ℕ) (r : Answer) → i .entry ≡ false
+    → Between (child (valueIn c (treeAt text (i .child .at))) place part j e) part j e n l l′ r → Between (stepIn c text i place part b j e) part j e n l l′ r
+unfolding childStep
+step-child c text i place part b j e n l l′ r h g =
+    other (i .entry) (entryStep (c .position) (i .alignment) (i .keyed) (i .fixed) (keyReader (c .position) (c .big) (i .key)) (valueAt c (treeAt text (i .child .at))))
+    (childStep (valueAt c (treeAt text (i .child .at)))) (depthsOf (c .depths)) place part b j e (e - j) (length part - j) n l l′ r h g
 
-  module _ (w : i .entry ≡ true) (p : leafs.Checked) (s : Aligns (i .alignment)) (f : position + place + j ≤ 18446744073709551615) (h : j ≤ length part)
-      (q : p ≡ paddingAt (position + place) j (i .alignment) part) where
-    pub step-unpadded : (p .refusal ≡ 0 → ⊥) → Done (itemStep position big nested text i d place part b j e) (e - j) (length part - j) n l l (answer (p .refusal) 0 n)
+-- an entry of a dictionary whose padding was judged
+pub record EntryPadded (c : Context) (text shapes : List ℕ) (i : Item) (place : ℕ) (part : List ℕ) (j : ℕ) (p : leafs.Checked) : Type 0 where
+  pub repeated : Repeated text shapes i
+  pub entry : i .entry ≡ true
+  pub inside : Inside (length part) place c
+  pub starts : j ≤ length part
+  pub padding : p ≡ paddingAt (c .position + place) j (i .alignment) part
+
+pub entry-padded : (c : Context) (part : List ℕ) (place j : ℕ) {text shapes : List ℕ} {i : Item} {p : leafs.Checked} → Repeated text shapes i → i .entry ≡ true → Inside (length part) place c → j ≤ length part
+    → p ≡ paddingAt (c .position + place) j (i .alignment) part → EntryPadded c text shapes i place part j p
+entry-padded c part place j r e w h q = record { repeated = r; entry = e; inside = w; starts = h; padding = q }
+
+module _ {c : Context} {text shapes : List ℕ} {i : Item} {place : ℕ} {part : List ℕ} {j : ℕ} {p : leafs.Checked} (s : EntryPadded c text shapes i place part j p) where
+  abbrev keys : Reader
+  keys = keyReader (c .position) (c .big) (i .key)
+
+  abbrev values : Reader
+  values = valueAt c (treeAt text (i .child .at))
+
+  near : c .position + place + j ≤ 18446744073709551615
+  near = omega (arith, s .inside .in-frame, s .inside .near, s .starts)
+
+  -- where it begins
+  pub entry-within : j + p .value ≤ length part
+  entry-within = let w = pads-at (c .position) place j (i .alignment) part p (s .repeated .aligned) near (s .starts) (s .padding) .fits in let x = s .starts in omega arith
+
+  module _ (b e n : ℕ) (l : List ℕ) where
+    as-entry : (l′ : List ℕ) (r : Answer) → Between (entryStep (c .position) (i .alignment) (i .keyed) (i .fixed) keys values (depthsOf (c .depths)) place part b j e) part j e n l l′ r
+        → Between (stepIn c text i place part b j e) part j e n l l′ r
+    as-entry l′ r g =
+        picked (i .entry) (entryStep (c .position) (i .alignment) (i .keyed) (i .fixed) keys values) (childStep values) (depthsOf (c .depths)) place part b j e (e - j) (length part - j) n l l′ r (s .entry) g
+
+    pub step-unpadded : (p .refusal ≡ 0 → ⊥) → Between (stepIn c text i place part b j e) part j e n l l (answer (p .refusal) 0 n)
     step-unpadded z =
-        picked (i .entry) (entryStep position (i .alignment) (i .keyed) (i .fixed) (keyReader position big (i .key)) (readerOf position big nested (treeAt text (i .child .at))))
-        (childStep (readerOf position big nested (treeAt text (i .child .at)))) d place part b j e (e - j) (length part - j) n l l (answer (p .refusal) 0 n) w
-        (entry-missing position (i .alignment) (i .keyed) (i .fixed) (keyReader position big (i .key)) (readerOf position big nested (treeAt text (i .child .at))) d place part b j e n l p s f h q z)
+        as-entry l _ (entry-missing (c .position) (i .alignment) (i .keyed) (i .fixed) keys values (depthsOf (c .depths)) place part b j e n l p (s .repeated .aligned) near (s .starts) (s .padding) z)
 
     module _ (z : p .refusal ≡ 0) (l′ : List ℕ) (r : Answer) where
-      pub step-keyed : i .keyed ≡ true
-          → Done (fixedKey position (i .alignment) (i .fixed) (keyReader position big (i .key)) (readerOf position big nested (treeAt text (i .child .at))) d place part b (j + p .value) e)
-          (e - (j + p .value)) (length part - (j + p .value)) n l l′ r
-          → Done (itemStep position big nested text i d place part b j e) (e - j) (length part - j) n l l′ (answer (r .refusal) (p .value + r .used) (r .count))
-      step-keyed k c =
-          picked (i .entry) (entryStep position (i .alignment) (i .keyed) (i .fixed) (keyReader position big (i .key)) (readerOf position big nested (treeAt text (i .child .at))))
-          (childStep (readerOf position big nested (treeAt text (i .child .at)))) d place part b j e (e - j) (length part - j) n l l′ (answer (r .refusal) (p .value + r .used) (r .count)) w
-          (entry-keyed position (i .alignment) (i .keyed) (i .fixed) (keyReader position big (i .key)) (readerOf position big nested (treeAt text (i .child .at))) d place part b j e n l p s f h q z l′ r k c)
+      pub step-keyed : i .keyed ≡ true → Between (fixedKeyIn c text i place part b (j + p .value) e) part (j + p .value) e n l l′ r
+          → Between (stepIn c text i place part b j e) part j e n l l′ (answer (r .refusal) (p .value + r .used) (r .count))
+      step-keyed k g =
+          as-entry l′ _ (entry-keyed (c .position) (i .alignment) (i .keyed) (i .fixed) keys values (depthsOf (c .depths)) place part b j e n l p (s .repeated .aligned) near (s .starts) (s .padding) z l′ r k g)
 
-      pub step-text : i .keyed ≡ false
-          → Done (textKey position (i .alignment) (i .fixed) (keyReader position big (i .key)) (readerOf position big nested (treeAt text (i .child .at))) d place part b (j + p .value) e)
-          (e - (j + p .value)) (length part - (j + p .value)) n l l′ r
-          → Done (itemStep position big nested text i d place part b j e) (e - j) (length part - j) n l l′ (answer (r .refusal) (p .value + r .used) (r .count))
-      step-text k c =
-          picked (i .entry) (entryStep position (i .alignment) (i .keyed) (i .fixed) (keyReader position big (i .key)) (readerOf position big nested (treeAt text (i .child .at))))
-          (childStep (readerOf position big nested (treeAt text (i .child .at)))) d place part b j e (e - j) (length part - j) n l l′ (answer (r .refusal) (p .value + r .used) (r .count)) w
-          (entry-text position (i .alignment) (i .keyed) (i .fixed) (keyReader position big (i .key)) (readerOf position big nested (treeAt text (i .child .at))) d place part b j e n l p s f h q z l′ r k c)
+      pub step-text : i .keyed ≡ false → Between (textKeyIn c text i place part b (j + p .value) e) part (j + p .value) e n l l′ r
+          → Between (stepIn c text i place part b j e) part j e n l l′ (answer (r .refusal) (p .value + r .used) (r .count))
+      step-text k g =
+          as-entry l′ _ (entry-text (c .position) (i .alignment) (i .keyed) (i .fixed) keys values (depthsOf (c .depths)) place part b j e n l p (s .repeated .aligned) near (s .starts) (s .padding) z l′ r k g)

@@ -17,7 +17,7 @@ use Rattle.signature.specs.Places.{basicKind, letterAt}
 use Rattle.signature.specs.Trees.{treeAt, Typed, Described}
 use Rattle.signature.specs.Items.{heldNumber, itemIn, EntryOf, ElementOf}
 use Rattle.signature.specs.declared.Letter.{Letter}
-use Rattle.signature.specs.declared.Letter.the-variants.{End, Number, Maybe, Array}
+use Rattle.signature.specs.declared.Letter.the-variants.{End, Number, Text, Maybe, Array}
 use Rattle.signature.specs.declared.shapes.Shape.{Shape}
 use Rattle.signature.specs.declared.items.Item.{Item}
 use Rattle.signature.proofs.Dispatch.{is-number, is-maybe}
@@ -25,8 +25,16 @@ use Rattle.signature.proofs.ItemLaws.{number-held, entry-of, element-of, opens}
 use Rattle.reader_basic.specs.Answers.{Done}
 use Rattle.reader_basic.specs.Parts.{KeyAligned, keyReader}
 use Rattle.reader_basic.specs.declared.Answer.{Answer}
-use Rattle.reader_cycle.specs.Places.{bodyIn, itemStep, ItemAt, NumberStep}
-use Rattle.reader_cycle.proofs.Readers.{number-by, width-by}
+use Rattle.meaning.specs.Choice.{pick}
+use Rattle.meaning.specs.Outcome.{Outcome}
+use Rattle.meaning.specs.Reading.{readText}
+use Rattle.container_depths.specs.Opening.{depthsOf}
+use Rattle.framing_offsets.specs.declared.FramingOffsets.{FramingOffsets}
+use Rattle.signature.proofs.TreeLaws.{described-kind}
+use Rattle.reader_basic.specs.Parts.{elementsBy}
+use Rattle.reader_basic.specs.declared.Context.{Context}
+use Rattle.reader_cycle.specs.Places.{bodyIn, itemStep, stepIn, valueAt, elementKind, framedOf, Repeated, ItemAt, NumberStep}
+use Rattle.reader_cycle.proofs.Readers.{number-by, width-by, reads-text}
 
 abbrev item : Bool → Shape → Letter → Bool → ℕ → Bool → Letter → Item
 item entry child key keyed a f m = record { entry = entry; child = child; key = key; keyed = keyed; alignment = a; fixed = f; number = m }
@@ -42,7 +50,7 @@ key-reader position big bool = refl
 key-reader position big (number c) = refl
 key-reader position big (text c) = refl
 
-key-aligned : (b : Basic) → KeyAligned (basicKind b)
+pub key-aligned : (b : Basic) → KeyAligned (basicKind b)
 key-aligned bool = tt
 key-aligned (number c) = number-aligned c
 key-aligned (text c) = tt
@@ -160,3 +168,17 @@ module _ (text : List ℕ) (i : Item) (c w : ℕ) (q : NumberStep text i c w) (p
       → Done (chain (elementsTo (childStep (readMaybe position w true (readNumber position big c w)) d place part b) lead ends lead) (passing more)) end len n l l′ r
       → Done (chain (elementsTo (itemStep position big nested text i d place part b) lead ends lead) (passing more)) end len n l l′ r
   held-numbers ends more f g = subst⁻¹ (λ (s : Step). Done (chain (elementsTo (s d place part b) lead ends lead) (passing more)) end len n l l′ r) (q .held f position big nested) g
+
+-- the elements are texts
+pub held-texts : (c : Context) (x shapes : List ℕ) (i : Item) (k : ℕ) → Repeated x shapes i → Text k ≡ elementKind i → (t : FramingOffsets) (place : ℕ) (part : List ℕ) (lead end len n : ℕ) (l l′ : List ℕ) (r : Answer)
+    → ((d : Depths) → Done (elementsBy (childStep (readText k) d place part (lead + t .start)) t part lead) end len n l l′ r) → Done (framedOf c x i t place part lead) end len n l l′ r
+held-texts c x shapes i k w e t place part lead end len n l l′ r g = go (i .entry) refl e
+  where
+    go : (b : Bool) → i .entry ≡ b → Text k ≡ pick b End (i .child .kind) → Done (framedOf c x i t place part lead) end len n l l′ r
+    go true h q = let y : _≡_ {A = ℕ} 0 1 = cc in absurd (omega arith)
+    go false h q =
+        let a : letterAt x (i .child .at) ≡ Text k = sym (q ∙ described-kind (w .child)) in
+        let s : stepIn c x i ≡ childStep (readText k) (depthsOf (c .depths)) =
+        ap (λ (b : Bool). pick b (entryStep (c .position) (i .alignment) (i .keyed) (i .fixed) (keyReader (c .position) (c .big) (i .key)) (valueAt c (treeAt x (i .child .at)))) (childStep (valueAt c (treeAt x (i .child .at)))) (depthsOf (c .depths))) h
+        ∙ ap (λ (R : Reader). childStep R (depthsOf (c .depths))) (reads-text x (i .child .at) (w .child .typed) (c .position) (c .big) (c .depths .variant) k a) in
+        subst⁻¹ (λ (f : ℕ → List ℕ → ℕ → ℕ → ℕ → Outcome). Done (elementsBy (f place part (lead + t .start)) t part lead) end len n l l′ r) s (g (depthsOf (c .depths)))

@@ -1,6 +1,8 @@
 pub mod Arrays
-pub mod Readers
+pub mod Deepening
 pub mod Entries
+pub mod ItemLaws
+pub mod Maybes
+pub mod Readers
 pub mod Structures
 pub mod Variants
-pub mod ItemLaws

@@ -1,4 +1,4 @@
--- A law for each way out of value, container, maybe and the child of a part. Assumes nothing.
+-- A law for each way out of a value and of a container, and what tells the containers apart. Assumes nothing.
 use mathlib.Core.Path.{_≡_, refl, ap, sym, _∙_, subst, subst⁻¹}
 use types.Run.{OneOf, miss}
 use denote.Enum.Declared.{tagOf}
@@ -10,8 +10,7 @@ use lib.Dec.{ltb, eqb}
 use lib.ListN.{length, take, drop, getD, length-take, length-drop}
 use borrow.Author.Tests.{eq-eqb, ne-eqb, le-leb, lt-leb, ltb-false}
 use Rattle.meaning.specs.Choice.{pick}
-use Rattle.meaning.specs.Depths as Depth
-use Rattle.meaning.specs.Depths.{Depths, Opened, total, depthRefusal, opened}
+use Rattle.meaning.specs.Depths.{Depths}
 use Rattle.meaning.specs.Types.{Number as NumberType, Text as TextType, numberWidth, Basic, bool, number, text, Tree, basic, variant, maybe, array, dictionary, structure, alignment, fixed}
 use Rattle.meaning.specs.Letters.{numberLetter, textLetter}
 use Rattle.meaning.specs.TypeText.{firstType}
@@ -21,11 +20,10 @@ use Rattle.meaning.specs.Outcome.{Outcome, done, after, chain, closingAt, enclo
 use Rattle.meaning.specs.Reading.{arrayIn, fieldsIn, structureBody, structureIn, Reader, child, within, readBool, readNumber, readText, readBasic, endByte, presentIn, maybeIn, pad, readMaybe, readTree, readVariant, readArray, readStructure, reading}
 use Rattle.meaning.specs.Padding.{Aligns}
 use Rattle.meaning.proofs.TypeLaws.{number-aligned as aligned-number}
-use Rattle.container_depths.specs.Opening.{depthsOf, Raises}
+use Rattle.container_depths.specs.Opening.{depthsOf}
 use Rattle.de.specs.Parts.{paddingAt}
 use Rattle.utils.specs.declared.Checked as leafs
 use Rattle.container_depths.specs.declared.ContainerDepths.{ContainerDepths}
-use Rattle.container_depths.specs.declared.Raised.{Raised}
 use Rattle.signature.specs.Places.{basicKind, letterAt}
 use Rattle.signature.specs.declared.Letter.{Letter}
 use Rattle.signature.specs.declared.Letter.the-variants.{Boolean, Number, Text, Variant, Maybe, Array, OpenStructure}
@@ -41,34 +39,7 @@ use Rattle.reader_basic.specs.Parts.{Within}
 use Rattle.reader_basic.specs.declared.Answer.{Answer}
 use Rattle.reader_basic.proofs.Answers.{answer, refusing, single, wider, after-event, both, stopped, ended, ended-refused}
 use Rattle.reader_basic.proofs.Leaves.{Pads, pads-first, pads-done}
-
--- ---- depths
-
-pub total-most : (d : Depths) → depthRefusal d ≡ 0 → total d ≤ 64
-unfolding depthRefusal
-total-most d h = go (ltb 32 (d .structure)) (ltb 32 (d .array)) (ltb 64 (total d)) refl h
-  where
-    go : (x y z : Bool) → ltb 64 (total d) ≡ z → _≡_ {A = ℕ} (pick x 10 (pick y 11 (pick z 12 0))) 0 → total d ≤ 64
-    go true y z e h = absurd (omega arith)
-    go false true z e h = absurd (omega arith)
-    go false false true e h = absurd (omega arith)
-    go false false false e h = ltb-false 64 (total d) e
-
-pub few-variants : {len place position : ℕ} {d : ContainerDepths} → Within len place position d → d .variant ≤ 64
-few-variants {d = d} w = omega (arith, total-most (depthsOf d) (w .shallow))
-
--- what is left of the depth
-abbrev pub level : ContainerDepths → ℕ
-level d = 64 - total (depthsOf d)
-
--- a raise that is done: the record is the raised one
-pub raised-to : (x : Opened) (d : ContainerDepths) (r : Raised) → Raises (depthsOf d) (opened x (depthsOf d)) r → r .refusal ≡ 0 → depthsOf (r .depths) ≡ opened x (depthsOf d)
-raised-to x d r h z =
-    let e : eqb (depthRefusal (opened x (depthsOf d))) 0 ≡ true = eq-eqb _ 0 (sym (h .refusal) ∙ z) in
-    h .depths ∙ rw e
-
-pub raised-shallow : (x : Opened) (d : ContainerDepths) (r : Raised) → Raises (depthsOf d) (opened x (depthsOf d)) r → r .refusal ≡ 0 → depthRefusal (depthsOf (r .depths)) ≡ 0
-raised-shallow x d r h z = rw (raised-to x d r h z) (sym (h .refusal) ∙ z)
+use Rattle.reader_cycle.proofs.Deepening.{few-variants}
 
 -- ---- the reading of a type, one step
 
@@ -148,101 +119,6 @@ module _ (text shapes : List ℕ) (s : Shape) (part : List ℕ) (place position 
       (both (length part) (length part) (length part - p .value) (length part) (length part) (length part - p .value) n l l l′ _ (bodyIn position big (d .variant) (treeAt text (s .at)) d place part) (answer (p .refusal) (p .value) n) r z (omega arith) (omega arith)
       (pads-done n l container-pads) g)
 
--- the ways out of a child of a part, over any reader
-module _ (R : ℕ → List ℕ → Outcome) (place : ℕ) (part : List ℕ) (j e n : ℕ) (l : List ℕ) where
-  pub child-before : e < j → Done (child R place part j e) (e - j) (length part - j) n l l (answer 3 0 n)
-  unfolding child
-  child-before h = rw (lt-leb j e h) (refusing 3 (place + j) _ _ n l (λ z. omega arith))
-
-  pub child-past : j ≤ e → length part < e → Done (child R place part j e) (e - j) (length part - j) n l l (answer 3 0 n)
-  unfolding child
-  child-past g h = rw (le-leb j e g, lt-leb e (length part) h) (refusing 3 (place + j) _ _ n l (λ z. omega arith))
-
-  pub child-here : (l′ : List ℕ) (r : Answer) → j ≤ e → e ≤ length part → Done (R (place + j) (take (e - j) (drop j part))) (length (take (e - j) (drop j part))) (length (take (e - j) (drop j part))) n l l′ r
-      → Done (child R place part j e) (e - j) (length part - j) n l l′ r
-  unfolding child
-  child-here l′ r g h d =
-      let m : length (take (e - j) (drop j part)) ≤ e - j = simp (length-take, length-drop) (omega arith) in
-      rw (le-leb j e g, le-leb e (length part) h) (wider _ (e - j) _ (length part - j) n l l′ _ r m (omega arith) d)
-
--- within a raised depth
-pub within-deep : (x : Opened) (d : ContainerDepths) (r : Raised) (p : ℕ) (inside : Depths → Outcome) (end len n : ℕ) (l : List ℕ) → Raises (depthsOf d) (opened x (depthsOf d)) r → (r .refusal ≡ 0 → ⊥)
-    → Done (within (opened x (depthsOf d)) p inside) end len n l l (answer (r .refusal) 0 n)
-unfolding within
-within-deep x d r p inside end len n l h z =
-    let e : eqb (depthRefusal (opened x (depthsOf d))) 0 ≡ false = ne-eqb _ 0 (λ q. z (h .refusal ∙ q)) in
-    rw (e, h .refusal) (refusing (depthRefusal (opened x (depthsOf d))) p end len n l (λ q. z (h .refusal ∙ q)))
-
-pub within-open : (x : Opened) (d : ContainerDepths) (r : Raised) (p : ℕ) (inside : Depths → Outcome) → Raises (depthsOf d) (opened x (depthsOf d)) r → r .refusal ≡ 0
-    → within (opened x (depthsOf d)) p inside ≡ inside (depthsOf (r .depths))
-unfolding within
-within-open x d r p inside h z =
-    let e : eqb (depthRefusal (opened x (depthsOf d))) 0 ≡ true = eq-eqb _ 0 (sym (h .refusal) ∙ z) in
-    rw (e, raised-to x d r h z)
-
-pub level-falls : (x : Opened) (d : ContainerDepths) (r : Raised) → Raises (depthsOf d) (opened x (depthsOf d)) r → r .refusal ≡ 0 → level (r .depths) + 1 ≡ level d
-level-falls x d r h z =
-    let a = raised-shallow x d r h z in
-    let b = raised-to x d r h z in
-    omega (arith, ap total b, total-opened x (depthsOf d), total-most (depthsOf (r .depths)) a)
-  where
-    total-opened : (x : Opened) (d : Depths) → total (opened x d) ≡ total d + 1
-    total-opened Depth.structure d = omega arith
-    total-opened Depth.array d = omega arith
-    total-opened Depth.variant d = omega arith
-    total-opened Depth.maybe d = omega arith
-
--- ---- the ways out of maybe
-module _ (text : List ℕ) (at : ℕ) (t : Typed text at) (e : letterAt text at ≡ Maybe) (x : ℕ) (there : x ≡ at + 1) where
-  module _ (part : List ℕ) (lead place position : ℕ) (big : Bool) (d : ContainerDepths) (n : ℕ) (l : List ℕ) where
-    maybe-body : bodyIn position big (d .variant) (treeAt text at) d place part lead
-        ≡ maybeIn (fixed (treeAt text x)) (readerOf position big (d .variant) (treeAt text x)) (depthsOf d) place part lead
-    unfolding bodyIn
-    maybe-body = rw (maybe-tree text at t e ∙ ap (λ (y : ℕ). maybe (treeAt text y)) (sym there))
-
-    pub maybe-none : (m : ℕ) (l′ : List ℕ) → length part ≤ lead → m ≡ nextEvent n → l′ ≡ put l n (event 78 (place + lead) 0)
-        → Done (bodyIn position big (d .variant) (treeAt text at) d place part lead) (length part - lead) (length part - lead) n l l′ (answer 0 0 m)
-    unfolding maybeIn
-    maybe-none m l′ h p q = rw maybe-body (rw (le-leb (length part) lead h) (single 0 _ _ n m l l′ (nothing (place + lead)) (omega arith) (omega arith) p q))
-
-    module _ (h : lead < length part) (r : Raised) (u : Raises (depthsOf d) (opened Depth.maybe (depthsOf d)) r) where
-      pub maybe-deep : (r .refusal ≡ 0 → ⊥) → Done (bodyIn position big (d .variant) (treeAt text at) d place part lead) (length part - lead) (length part - lead) n l l (answer (r .refusal) 0 n)
-      unfolding maybeIn
-      maybe-deep z = rw maybe-body (rw (lt-leb (length part) lead h) (within-deep Depth.maybe d r (place + lead) _ _ _ n l u z))
-
-      module _ (z : r .refusal ≡ 0) (m : ℕ) (l₁ : List ℕ) (p : m ≡ nextEvent n) (q : l₁ ≡ put l n (event 109 (place + lead) 0)) where
-        -- the child as it is read, deeper
-        abbrev of : ℕ → List ℕ → Outcome
-        of = readerOf position big (r .depths .variant) (treeAt text x) (depthsOf (r .depths))
-
-        as-read : (s : Answer) (l′ : List ℕ) → Done (after 0 (present (place + lead) ∷ []) (pick (fixed (treeAt text x)) (child of place part lead (length part))
-            (chain (child of place part lead (length part - 1)) (endByte place part lead)))) (length part - lead) (length part - lead) n l l′ s
-            → Done (bodyIn position big (d .variant) (treeAt text at) d place part lead) (length part - lead) (length part - lead) n l l′ s
-        unfolding maybeIn presentIn
-        as-read s l′ g =
-            let v : r .depths .variant ≡ d .variant = ap (λ (x : Depths). x .variant) (raised-to Depth.maybe d r u z) in
-            rw maybe-body (rw (lt-leb (length part) lead h, within-open Depth.maybe d r (place + lead) _ u z, ← v) g)
-
-        pub maybe-fixed : (s : Answer) (l′ : List ℕ) → fixed (treeAt text x) ≡ true → Done (child of place part lead (length part)) (length part - lead) (length part - lead) m l₁ l′ s
-            → Done (bodyIn position big (d .variant) (treeAt text at) d place part lead) (length part - lead) (length part - lead) n l l′ s
-        maybe-fixed s l′ f g = as-read s l′ (rw f (after-event _ _ n m l l₁ l′ (present (place + lead)) _ s p q g))
-
-        module _ (f : fixed (treeAt text x) ≡ false) (s : Answer) (l′ : List ℕ) (g : Done (child of place part lead (length part - 1)) (length part - 1 - lead) (length part - lead) m l₁ l′ s) where
-          pub maybe-stop : (s .refusal ≡ 0 → ⊥) → Done (bodyIn position big (d .variant) (treeAt text at) d place part lead) (length part - lead) (length part - lead) n l l′ s
-          maybe-stop y = as-read s l′ (rw f (after-event _ _ n m l l₁ l′ (present (place + lead)) _ s p q (stopped _ _ _ _ m l₁ l′ _ (endByte place part lead) s y (omega arith) g)))
-
-          pub maybe-seven : s .refusal ≡ 0 → (getD part (lead + s .used) 1 ≡ 0 → ⊥) → Done (bodyIn position big (d .variant) (treeAt text at) d place part lead) (length part - lead) (length part - lead) n l l′ (answer 7 (s .used) (s .count))
-          unfolding endByte
-          maybe-seven y b = as-read _ l′ (rw f (after-event _ _ n m l l₁ l′ (present (place + lead)) _ _ p q
-              (ended-refused _ _ _ _ m 7 (place + (lead + s .used)) l₁ l′ _ (endByte place part lead) s y (rw (ne-eqb (getD part (lead + s .used) 1) 0 b)) (λ w. omega arith) (g .fits) g)))
-
-          pub maybe-closed : s .refusal ≡ 0 → getD part (lead + s .used) 1 ≡ 0 → Done (bodyIn position big (d .variant) (treeAt text at) d place part lead) (length part - lead) (length part - lead) n l l′ (answer 0 (s .used + 1) (s .count))
-          unfolding endByte
-          maybe-closed y b =
-              let i = g .ends y in
-              as-read _ l′ (rw f (after-event _ _ n m l l₁ l′ (present (place + lead)) _ _ p q
-              (ended _ _ _ _ m 1 (s .used + 1) l₁ l′ _ (endByte place part lead) s y (rw (eq-eqb (getD part (lead + s .used) 1) 0 b)) refl (omega arith) (omega arith) g)))
-
 -- ---- the ways out of value, by the letter
 
 module _ (text : List ℕ) (at : ℕ) (t : Typed text at) (position : ℕ) (big : Bool) (nested : ℕ) (D : Depths) (k : ℕ) (part : List ℕ) (end len n : ℕ) (l l′ : List ℕ) (r : Answer) where
@@ -303,47 +179,7 @@ body-variant signature at position big d k part lead end len n l l′ r e g = rw
 
 -- ---- what callees ask
 
-pub within-raised : {len place position : ℕ} (x : Opened) (d : ContainerDepths) (r : Raised) → Within len place position d → Raises (depthsOf d) (opened x (depthsOf d)) r → r .refusal ≡ 0 → Within len place position (r .depths)
-within-raised x d r w h z = record { in-frame = w .in-frame; near = w .near; shallow = raised-shallow x d r h z }
-
 pub within-child : {place position : ℕ} {d : ContainerDepths} (part : List ℕ) (j e : ℕ) → Within (length part) place position d → j ≤ e → e ≤ length part → Within (length (take (e - j) (drop j part))) (place + j) position d
 within-child {place} part j e w g h =
     let a = w .in-frame in
     record { in-frame = simp (length-take, length-drop) (omega arith); near = w .near; shallow = w .shallow }
-
--- the array or dictionary at a letter of one: too deep, whichever it is
-pub sequence-deep : (signature : List ℕ) (at : ℕ) (t : Typed signature at) → letterAt signature at ≡ Array → (part : List ℕ) (lead place position : ℕ) (big : Bool) (d : ContainerDepths) (n : ℕ) (l : List ℕ) (r : Raised)
-    → Raises (depthsOf d) (opened Depth.array (depthsOf d)) r → (r .refusal ≡ 0 → ⊥) → Done (bodyIn position big (d .variant) (treeAt signature at) d place part lead) (length part - lead) (length part - lead) n l l (answer (r .refusal) 0 n)
-sequence-deep signature at t e part lead place position big d n l r u z = go (treeAt signature at) (shown signature at _ _ (t .found))
-  where
-    no : {A : Type 0} (x : Letter) (ks : List ℕ) → letterAt signature at ≡ x → (Array ≡ x → ⊥) → A
-    no x ks q f = absurd (f (sym e ∙ q))
-
-    basic-no : (b : Basic) → Array ≡ basicKind b → ⊥
-    basic-no bool q = let y : _≡_ {A = ℕ} 0 1 = cc in omega arith
-    basic-no (number c) q = let y : _≡_ {A = ℕ} 0 1 = cc in omega arith
-    basic-no (text c) q = let y : _≡_ {A = ℕ} 0 1 = cc in omega arith
-
-    go : (s : Tree) → Shown signature at s (behindBy (firstType (drop at signature))) → Done (bodyIn position big (d .variant) s d place part lead) (length part - lead) (length part - lead) n l l (answer (r .refusal) 0 n)
-    go (basic b) w = no (basicKind b) [] (w .letter) (basic-no b)
-    go variant w = no Variant [] (w .letter) (λ q. let y : _≡_ {A = ℕ} 0 1 = cc in omega arith)
-    go (maybe s) w = no Maybe [] (w .letter) (λ q. let y : _≡_ {A = ℕ} 0 1 = cc in omega arith)
-    go (array s) w = unfold bodyIn arrayIn in within-deep Depth.array d r (place + lead) _ _ _ n l u z
-    go (dictionary b s) w = unfold bodyIn arrayIn in within-deep Depth.array d r (place + lead) _ _ _ n l u z
-    go (structure ts) w = no OpenStructure [] (w .letter) (λ q. let y : _≡_ {A = ℕ} 0 1 = cc in omega arith)
-
--- ---- the ways out of structure
-module _ {text shapes : List ℕ} {s : Shape} (t : Described text shapes s) (e : letterAt text (s .at) ≡ OpenStructure) where
-  module _ (part : List ℕ) (lead place position : ℕ) (big : Bool) (d : ContainerDepths) (n : ℕ) (l : List ℕ) (r : Raised) (u : Raises (depthsOf d) (opened Depth.structure (depthsOf d)) r) where
-    pub structure-deep : (r .refusal ≡ 0 → ⊥) → Done (bodyIn position big (d .variant) (treeAt text (s .at)) d place part lead) (length part - lead) (length part - lead) n l l (answer (r .refusal) 0 n)
-    unfolding bodyIn structureIn
-    structure-deep z = rw (structure-tree t e) (within-deep Depth.structure d r (place + lead) _ _ _ n l u z)
-
-    pub structure-on : (m : ℕ) (l₁ l′ : List ℕ) (a : Answer) → r .refusal ≡ 0 → m ≡ nextEvent n → l₁ ≡ put l n (event 40 (place + lead) 0)
-        → Done (chain (fieldsIn position (s .fixed) (s .alignment) place part lead (encodedWidth (length part - lead)) (depthsOf (r .depths)) (readersOf position big (r .depths .variant) (fieldsAt text (s .at + 1))) (length part) lead) (closingAt (place + lead))) (length part - lead) (length part - lead) m l₁ l′ a
-        → Done (bodyIn position big (d .variant) (treeAt text (s .at)) d place part lead) (length part - lead) (length part - lead) n l l′ a
-    unfolding bodyIn structureIn structureBody enclosed
-    structure-on m l₁ l′ a z p q g =
-        let v : r .depths .variant ≡ d .variant = ap (λ (x : Depths). x .variant) (raised-to Depth.structure d r u z) in
-        rw (structure-tree t e) (rw (within-open Depth.structure d r (place + lead) _ u z, ← structure-fixed t e, ← structure-alignment t e, ← v)
-        (after-event _ _ n m l l₁ l′ (opening 40 (place + lead)) _ a p q g))

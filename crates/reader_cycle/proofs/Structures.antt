@@ -1,34 +1,47 @@
--- A law for each way out of the readers of a structure's fields, and what the loop over them keeps. Assumes nothing.
+-- A law for each way out of the readers of a structure and its fields, and what the loop over them keeps. Assumes nothing.
 use mathlib.Core.Path.{subst⁻¹, _≡_, refl, ap, sym, _∙_}
 use mathlib.Core.List.{List, [], _∷_, append-nil}
-use mathlib.Core.Bool.{Bool, true, false, _&&_, _||_}
+use mathlib.Core.Bool.{Bool, true, false, _&&_, _||_, false≢true}
 use Prim.Native.Nat.{ℕ, zero, suc, _+_, _-_, _^_, _≤_, _<_}
 use native.Mathlib.Omega.{arith}
 use native.Mathlib.Nat.{add-zero, add-assoc}
 use lib.Dec.{leb, eqb}
 use lib.ListN.{length, take, drop, getD}
-use lib.Seq.{getD-drop}
-use borrow.Author.Tests.{leb-true, leb-false, eqb-true}
+use lib.Seq.{getD-drop, drop-cons}
+use borrow.Author.Tests.{leb-true, leb-false, eqb-true, eqb-false}
 use Rattle.meaning.specs.Choice.{pick}
+use Rattle.meaning.specs.Depths as Depth
 use Rattle.meaning.specs.Depths.{Depths}
 use Rattle.meaning.specs.Numbers.{value}
 use Rattle.meaning.specs.Offsets.{encodedWidth}
-use Rattle.meaning.specs.Types.{Tree, Fields, last, next, fixed, allFixed}
-use Rattle.meaning.specs.Outcome.{Outcome, done, refused, after, chain, passing}
-use Rattle.meaning.specs.Reading.{child, further, endPadding, offsetStands, fieldOffset, fieldsIn, readTree, readVariant, reading}
+use Rattle.meaning.specs.Events.{event, opening}
+use Rattle.meaning.specs.Types.{Tree, Fields, last, next, fixed, allFixed, largestAlignment}
+use Rattle.meaning.specs.Outcome.{Outcome, done, refused, after, chain, passing, closingAt, enclosed}
+use Rattle.meaning.specs.Reading.{child, further, endPadding, offsetStands, fieldOffset, fieldsIn, readTree, readVariant, reading, structureBody, structureIn}
 use Rattle.meaning.proofs.OffsetLaws.{encodedWidth-1, encodedWidth-2, encodedWidth-4}
 use Rattle.utils.specs.Checks as leaf
 use Rattle.utils.specs.declared.Checked as leafs
-use Rattle.signature.specs.Trees.{treeAt, fieldsAt, Rowed}
+use Rattle.signature.specs.Places.{letterAt, letterBy, letterOf}
+use Rattle.meaning.specs.TypeText.{basicAmong}
+use Rattle.signature.proofs.Letters.{cut, letter-some}
+use Rattle.signature.specs.declared.Letter.the-variants.{OpenStructure, CloseStructure}
+use Rattle.signature.specs.Trees.{treeAt, fieldsAt, Rowed, Described}
 use Rattle.signature.specs.declared.shapes.Shape.{Shape}
-use Rattle.signature.proofs.TreeLaws.{LastField, NextField}
-use Rattle.reader_basic.specs.Answers.{Done}
-use Rattle.reader_cycle.specs.Places.{readerOf, readersOf}
+use Rattle.signature.proofs.TreeLaws.{LastField, NextField, structure-tree, structure-fixed, structure-alignment}
+use Rattle.events.specs.Slices.{nextEvent, put}
+use Rattle.reader_basic.specs.Answers.{Done, From, Between}
+use Rattle.reader_cycle.specs.Openings.{Deeper, Opens}
+use Rattle.reader_cycle.specs.Children.{endsAt, endsMissing, fieldEnds, ClosesAt}
+use Rattle.reader_cycle.specs.declared.ends.Ends.{Ends}
+use Rattle.reader_cycle.specs.declared.opening.Inner.{Inner}
+use Rattle.reader_cycle.specs.Places.{readerOf, readersOf, bodyIn, insideOf, fieldsOf}
 use Rattle.reader_basic.specs.Parts.{offsetAnswer}
 use Rattle.reader_basic.specs.declared.Answer.{Answer}
-use Rattle.reader_basic.proofs.Answers.{answer, refusing, stopped, ended}
+use Rattle.reader_basic.specs.declared.Context.{Context}
+use Rattle.reader_basic.proofs.Answers.{answer, refusing, stopped, after-event}
 use Rattle.reader_basic.proofs.Rests.{Rest, rest-all, rest-on, rest-as, rest-chain, rest-end}
-use Rattle.reader_cycle.proofs.Entries.{child-ordered, Padded}
+use Rattle.reader_cycle.proofs.Entries.{child-ordered, Padded, Passed}
+use Rattle.reader_cycle.proofs.Deepening.{too-deep, within-open}
 use Rattle.reader_basic.proofs.Loops.{kept}
 
 -- ---- the readers of fields
@@ -53,10 +66,10 @@ module _ (position : ℕ) (big : Bool) (nested : ℕ) (h : nested ≤ 64) (fx : 
   next-is t (last u) end j = rw (← reader-is position big nested t h)
   next-is t (next u us) end j = rw (← reader-is position big nested t h)
 
--- ---- the last field
+-- ---- behind the last field
 
 -- nothing is passed
-pub pass-none : (o : Outcome) (end len n : ℕ) (l l′ : List ℕ) (r : Answer) (k : ℕ) → k ≡ 0 → Done o end len n l l′ r → Done (chain o (passing k)) end len n l l′ r
+pass-none : (o : Outcome) (end len n : ℕ) (l l′ : List ℕ) (r : Answer) (k : ℕ) → k ≡ 0 → Done o end len n l l′ r → Done (chain o (passing k)) end len n l l′ r
 unfolding chain
 pass-none o end len n l l′ r k e d = go (eqb (o .refusal) 0) refl
   where
@@ -71,31 +84,21 @@ pass-none o end len n l l′ r k e d = go (eqb (o .refusal) 0) refl
     }
     go false q = d
 
-module _ (R : ℕ → List ℕ → Outcome) (position : ℕ) (fx : Bool) (a place : ℕ) (part : List ℕ) (j end n : ℕ) (l l′ : List ℕ) (r : Answer)
-    (c : Done (child R place part j end) (end - j) (length part - j) n l l′ r) where
-  pub last-field-padded : (s : Answer) → fx ≡ true → end ≡ length part → Padded position a place part j r s
-      → Done (chain (endPadding position fx a place part j (child R place part j end)) (passing (length part - end))) (length part - j) (length part - j) n l l′ s
-  last-field-padded s h i p =
+-- the structure is fixed: padding; or it is not: the table, which the last field ends before
+module _ (read : ℕ → List ℕ → Outcome) (position : ℕ) (fx : Bool) (a place : ℕ) (part : List ℕ) (j end n : ℕ) (l l′ : List ℕ) (r s : Answer)
+    (c : Between (child read place part j end) part j end n l l′ r) where
+  pub closed-by-padding : fx ≡ true → end ≡ length part → Padded position a place part j r s
+      → From (chain (endPadding position fx a place part j (child read place part j end)) (passing (length part - end))) part j n l l′ s
+  closed-by-padding h i p =
       rw h
-      (pass-none (endPadding position true a place part j (child R place part j end)) (length part - j) (length part - j) n l l′ s (length part - end) (omega arith)
-      (p (child R place part j end) (end - j) (length part - j) n l l′ refl c))
+      (pass-none (endPadding position true a place part j (child read place part j end)) (length part - j) (length part - j) n l l′ s (length part - end) (omega arith)
+      (p (child read place part j end) (end - j) (length part - j) n l l′ refl c))
 
-  pub last-field-stop : fx ≡ false → (r .refusal ≡ 0 → ⊥)
-      → Done (chain (endPadding position fx a place part j (child R place part j end)) (passing (length part - end))) (length part - j) (length part - j) n l l′ r
+  pub closed-by-table : fx ≡ false → end ≤ length part → Passed r (length part - end) s
+      → From (chain (endPadding position fx a place part j (child read place part j end)) (passing (length part - end))) part j n l l′ s
   unfolding endPadding
-  last-field-stop h z =
-      rw h (stopped (length part - j) (end - j) (length part - j) (length part - j) n l l′ (child R place part j end) (passing (length part - end)) r z (omega arith) c)
-
-  pub last-field-done : fx ≡ false → end ≤ length part → r .refusal ≡ 0
-      → Done (chain (endPadding position fx a place part j (child R place part j end)) (passing (length part - end))) (length part - j) (length part - j) n l l′
-      (answer 0 (r .used + (length part - end)) (r .count))
-  unfolding endPadding
-  last-field-done h i z =
-      let g = child-ordered R place part j end c z in
-      let f = c .ends z in
-      rw h
-      (ended (length part - j) (end - j) (length part - j) (length part - j) n (length part - end) (r .used + (length part - end)) l l′ (child R place part j end) (passing (length part - end)) r z refl refl
-      (omega arith) (omega arith) c)
+  closed-by-table h i p =
+      rw h (p (child read place part j end) (length part - j) (end - j) (length part - j) n l l′ (λ z. let g = child-ordered read place part j end c z in let f = c .ends z in omega arith) (omega arith) c)
 
 -- ---- the loop over fields
 
@@ -201,6 +204,56 @@ width-small n h = go (leb n 255) (leb n 65535) refl refl
     go false true p q = omega (arith, encodedWidth-2 n (leb-false n 255 p) (leb-true n 65535 q))
     go false false p q = omega (arith, encodedWidth-4 n (leb-false n 65535 q) (omega arith))
 
+-- where a field ends, by the answer of the leaf
+module _ (lead w end : ℕ) (part : List ℕ) (fx : Bool) where
+  pub ends-fixed : fx ≡ true → endsAt end 0 ≡ fieldEnds lead w fx end part
+  unfolding fieldEnds
+  ends-fixed h = rw h
+
+  module _ (v : ℕ) (y : v ≡ w) (o : leafs.Checked) (q : o ≡ offsetAnswer lead v end part) (h : fx ≡ false) where
+    pub ends-missing : (o .refusal ≡ 0 → ⊥) → endsMissing (o .refusal) ≡ fieldEnds lead w fx end part
+    unfolding fieldEnds
+    ends-missing z =
+        let s : offsetStands lead w end ≡ false = rw y at (offset-missing lead v end part o q z) in
+        ap endsMissing (offset-three lead v end part o q z) ∙ rw (h, s)
+
+    pub ends-there : o .refusal ≡ 0 → endsAt (lead + o .value) v ≡ fieldEnds lead w fx end part
+    unfolding fieldEnds
+    ends-there z =
+        let s = offset-there lead w end part o (rw y at q) z in
+        rw (h, s .stands, y, s .is)
+
+-- the table reaches before an offset that is there
+pub ends-room : (lead w end : ℕ) (part : List ℕ) (fx : Bool) (o : Ends) → o ≡ fieldEnds lead w fx end part → o .refusal ≡ 0 → o .width ≤ end
+unfolding fieldEnds offsetStands
+ends-room lead w end part fx o q z = go fx (leb lead end) (leb w end) (eqb end lead || leb (lead + w) end) refl q
+  where
+    go : (f a b c : Bool) → leb w end ≡ b → o ≡ pick f (endsAt end 0) (pick (a && (b && c)) (endsAt (lead + fieldOffset lead w end part) w) (endsMissing 3)) → o .width ≤ end
+    go true a b c h e = let v : o .width ≡ 0 = ap (λ (x : Ends). x .width) e in omega arith
+    go false true true true h e = let v : o .width ≡ w = ap (λ (x : Ends). x .width) e in omega (arith, leb-true w end h)
+    go false true true false h e = let v : o .refusal ≡ 3 = ap (λ (x : Ends). x .refusal) e in absurd (omega arith)
+    go false true false c h e = let v : o .refusal ≡ 3 = ap (λ (x : Ends). x .refusal) e in absurd (omega arith)
+    go false false b c h e = let v : o .refusal ≡ 3 = ap (λ (x : Ends). x .refusal) e in absurd (omega arith)
+
+-- whether a structure's type ends at a place
+module _ (text : List ℕ) (at : ℕ) where
+  pub closes-past : length text ≤ at → ClosesAt text at false
+  closes-past h = record {
+    there = λ z. absurd (false≢true z);
+    missing = λ z q. let w = cut text at CloseStructure 41 q refl .within in absurd (omega arith);
+  }
+
+  pub closes-by : at < length text → ClosesAt text at (eqb (getD text at 0) 41)
+  unfolding letterBy basicAmong
+  closes-by h = record {
+    there = λ z. letter-some text at h ∙ ap letterOf (eqb-true (getD text at 0) 41 z);
+    missing = λ z q.
+        let c = cut text at CloseStructure 41 q refl .is in
+        let d = drop-cons text at 0 h in
+        let e : getD text at 0 ≡ 41 = cc in
+        eqb-false (getD text at 0) 41 z e;
+  }
+
 others : (p q : Bool) → (p && q) ≡ true → q ≡ true
 others true q h = h
 others false q h = let z : _≡_ {A = ℕ} 0 1 = cc in absurd (omega arith)
@@ -217,46 +270,75 @@ module _ {position : ℕ} {big : Bool} {nested : ℕ} {text : List ℕ} {at : �
       e .rest .whole l₂ r (rw (g .fields, last-is position big nested k fx a place part lead w d (treeAt text (f .at)) end (lead + u)) c)
 
   module _ (g : NextField text shapes i f) where
-    -- the field is fixed
-    pub turn-fixed : f .fixed ≡ true → (stop end′ : ℕ) → stop ≡ end → end′ ≡ end → Turn position big nested text fx a place part lead w d i end (lead + u) f stop end′
-    turn-fixed h stop end′ p q =
-        let t = e .inside in
-        record {
-          is = ap (λ ts. fieldsIn position fx a place part lead w d (readersOf position big nested ts) end (lead + u)) (g .fields)
-              ∙ next-is position big nested k fx a place part lead w d (treeAt text (f .at)) (fieldsAt text (f .next)) end (lead + u)
-              ∙ rw (sym (g .same-fixed) ∙ h, p, q);
-          whole = λ x. q ∙ e .whole x;
-          inside = omega arith;
-        }
+    -- by where it ends
+    module _ (o : Ends) (q : o ≡ fieldEnds lead w (f .fixed) end part) where
+      ended-fixed : f .fixed ≡ true → o ≡ endsAt end 0
+      unfolding fieldEnds
+      ended-fixed h = q ∙ ap (λ (x : Bool). fieldEnds lead w x end part) h
 
-    module _ (h : f .fixed ≡ false) (v : ℕ) (y : v ≡ w) (o : leafs.Checked) (q : o ≡ offsetAnswer lead v end part) where
-      -- it is not, and has no offset
+      ended-there : f .fixed ≡ false → offsetStands lead w end ≡ true → o ≡ endsAt (lead + fieldOffset lead w end part) w
+      unfolding fieldEnds
+      ended-there h s = q ∙ ap (λ (x : Bool). fieldEnds lead w x end part) h ∙ rw s
+
+      ended-missing : f .fixed ≡ false → offsetStands lead w end ≡ false → o ≡ endsMissing 3
+      unfolding fieldEnds
+      ended-missing h s = q ∙ ap (λ (x : Bool). fieldEnds lead w x end part) h ∙ rw s
+
+      field-is : (b : Bool) → f .fixed ≡ b → fieldsIn position fx a place part lead w d (readersOf position big nested (fieldsAt text i)) end (lead + u)
+          ≡ pick b (chain (child (readerOf position big nested (treeAt text (f .at)) d) place part (lead + u) end) (further (fieldsIn position fx a place part lead w d (readersOf position big nested (fieldsAt text (f .next))) end) (lead + u)))
+          (pick (offsetStands lead w end)
+          (chain (child (readerOf position big nested (treeAt text (f .at)) d) place part (lead + u) (lead + fieldOffset lead w end part)) (further (fieldsIn position fx a place part lead w d (readersOf position big nested (fieldsAt text (f .next))) (end - w)) (lead + u)))
+          (refused 3 (place + lead)))
+      field-is b h =
+          ap (λ ts. fieldsIn position fx a place part lead w d (readersOf position big nested ts) end (lead + u)) (g .fields)
+          ∙ next-is position big nested k fx a place part lead w d (treeAt text (f .at)) (fieldsAt text (f .next)) end (lead + u)
+          ∙ rw (sym (g .same-fixed) ∙ h)
+
+      -- it has no offset
       pub fields-no-offset : (o .refusal ≡ 0 → ⊥)
           → Done (fieldsIn position fx a place part lead w d (readersOf position big nested (fieldsAt text at)) (length part) lead) (length part - lead) (length part - lead) n l l₁ (answer (o .refusal) u m)
-      fields-no-offset z =
-          let s : offsetStands lead w end ≡ false = rw y at (offset-missing lead v end part o q z) in
-          subst⁻¹ (λ (x : ℕ). Done (fieldsIn position fx a place part lead w d (readersOf position big nested (fieldsAt text at)) (length part) lead) (length part - lead) (length part - lead) n l l₁ (answer x u m)) (offset-three lead v end part o q z)
-          (rest-end (e .rest)
-          (rw (g .fields, next-is position big nested k fx a place part lead w d (treeAt text (f .at)) (fieldsAt text (f .next)) end (lead + u), sym (g .same-fixed) ∙ h, s)
-          (refusing 3 (place + lead) (length part - (lead + u)) (length part - (lead + u)) m l₁ (λ x. omega arith))))
+      fields-no-offset z = go (f .fixed) (offsetStands lead w end) refl refl
+        where
+          go : (b c : Bool) → f .fixed ≡ b → offsetStands lead w end ≡ c
+              → Done (fieldsIn position fx a place part lead w d (readersOf position big nested (fieldsAt text at)) (length part) lead) (length part - lead) (length part - lead) n l l₁ (answer (o .refusal) u m)
+          go true c h s = absurd (z (ap (λ (x : Ends). x .refusal) (ended-fixed h)))
+          go false true h s = absurd (z (ap (λ (x : Ends). x .refusal) (ended-there h s)))
+          go false false h s =
+              let y : o .refusal ≡ 3 = ap (λ (x : Ends). x .refusal) (ended-missing h s) in
+              subst⁻¹ (λ (x : ℕ). Done (fieldsIn position fx a place part lead w d (readersOf position big nested (fieldsAt text at)) (length part) lead) (length part - lead) (length part - lead) n l l₁ (answer x u m)) y
+              (rest-end (e .rest) (rw (field-is false h, s) (refusing 3 (place + lead) (length part - (lead + u)) (length part - (lead + u)) m l₁ (λ x. omega arith))))
 
-      -- or has one
-      pub turn-other : o .refusal ≡ 0 → (stop end′ : ℕ) → stop ≡ lead + o .value → end′ ≡ end - v
-          → Turn position big nested text fx a place part lead w d i end (lead + u) f stop end′
+      -- or it ends there
+      pub field-turn : o .refusal ≡ 0 → Turn position big nested text fx a place part lead w d i end (lead + u) f (o .child) (end - o .width)
       unfolding allFixed
-      turn-other z stop end′ p x =
-          let s = offset-there lead w end part o (rw y at q) z in
-          let t = e .inside in
-          record {
-            is = ap (λ ts. fieldsIn position fx a place part lead w d (readersOf position big nested ts) end (lead + u)) (g .fields)
-                ∙ next-is position big nested k fx a place part lead w d (treeAt text (f .at)) (fieldsAt text (f .next)) end (lead + u)
-                ∙ rw (sym (g .same-fixed) ∙ h, s .stands, p, x, s .is, y);
-            whole = λ t.
-                let b : allFixed (next (treeAt text (f .at)) (fieldsAt text (f .next))) ≡ true = ap allFixed (sym (g .fields)) ∙ e .all t in
-                let c : _≡_ {A = Bool} false true = rw (sym (g .same-fixed) ∙ h) at b in
-                let y : _≡_ {A = ℕ} 0 1 = cc in absurd (omega arith);
-            inside = omega arith;
-          }
+      field-turn z = go (f .fixed) (offsetStands lead w end) refl refl
+        where
+          turned : (stop end′ : ℕ) → o .child ≡ stop → end - o .width ≡ end′ → Turn position big nested text fx a place part lead w d i end (lead + u) f stop end′
+              → Turn position big nested text fx a place part lead w d i end (lead + u) f (o .child) (end - o .width)
+          turned stop end′ p q t = rw (p, q) t
+
+          go : (b c : Bool) → f .fixed ≡ b → offsetStands lead w end ≡ c → Turn position big nested text fx a place part lead w d i end (lead + u) f (o .child) (end - o .width)
+          go true c h s =
+              let y = ended-fixed h in
+              let v : o .width ≡ 0 = ap (λ (x : Ends). x .width) y in
+              let t = e .inside in
+              turned end end (ap (λ (x : Ends). x .child) y) (omega arith) (record { is = field-is true h; whole = e .whole; inside = t })
+          go false true h s =
+              let y = ended-there h s in
+              let v : o .width ≡ w = ap (λ (x : Ends). x .width) y in
+              let t = e .inside in
+              turned (lead + fieldOffset lead w end part) (end - w) (ap (λ (x : Ends). x .child) y) (ap (λ (x : ℕ). end - x) v)
+              (record {
+                is = field-is false h ∙ rw s;
+                whole = λ t.
+                    let b : allFixed (next (treeAt text (f .at)) (fieldsAt text (f .next))) ≡ true = ap allFixed (sym (g .fields)) ∙ e .all t in
+                    let c : _≡_ {A = Bool} false true = rw (sym (g .same-fixed) ∙ h) at b in
+                    let y : _≡_ {A = ℕ} 0 1 = cc in absurd (omega arith);
+                inside = omega arith;
+              })
+          go false false h s =
+              let y : o .refusal ≡ 3 = ap (λ (x : Ends). x .refusal) (ended-missing h s) in
+              absurd (omega arith)
 
     -- the field is read: refused, or done and the others are left
     module _ {stop end′ : ℕ} (t : Turn position big nested text fx a place part lead w d i end (lead + u) f stop end′) (l₂ : List ℕ) (r : Answer)
@@ -295,3 +377,26 @@ module _ {position : ℕ} {big : Bool} {nested : ℕ} {text : List ℕ} {at : �
                 (child (readerOf position big nested (treeAt text (f .at)) d) place part (lead + u) stop)
                 (further (fieldsIn position fx a place part lead w d (readersOf position big nested (fieldsAt text (f .next))) end′) (lead + u)) r z (omega arith) (omega arith) c)));
           }
+
+-- ---- the ways out of structure
+module _ {text shapes : List ℕ} {s : Shape} (t : Described text shapes s) (e : letterAt text (s .at) ≡ OpenStructure) (part : List ℕ) (lead place : ℕ) (c : Context) (n : ℕ) (l : List ℕ) where
+  pub structure-deep : {r : Inner} → Opens Depth.structure c r → (r .refusal ≡ 0 → ⊥) → From (insideOf c (treeAt text (s .at)) place part lead) part lead n l l (answer (r .refusal) 0 n)
+  unfolding bodyIn structureIn
+  structure-deep o z = rw (structure-tree t e) (too-deep (place + lead) _ _ _ n l o z)
+
+  pub structure-on : {c′ : Context} → Deeper Depth.structure c c′ → (m : ℕ) (l₁ l′ : List ℕ) (a : Answer) → m ≡ nextEvent n → l₁ ≡ put l n (event 40 (place + lead) 0)
+      → From (chain (fieldsOf c′ text s place part lead) (closingAt (place + lead))) part lead m l₁ l′ a
+      → From (insideOf c (treeAt text (s .at)) place part lead) part lead n l l′ a
+  unfolding bodyIn structureIn structureBody enclosed
+  structure-on {c′} d m l₁ l′ a p q g =
+      let v : c′ .depths .variant ≡ c .depths .variant = ap (λ (x : Depths). x .variant) (d .depths) in
+      rw (structure-tree t e)
+      (rw (
+        within-open d (place + lead) (structureBody (c .position) (largestAlignment (fieldsAt text (s .at + 1))) (allFixed (fieldsAt text (s .at + 1))) (readersOf (c .position) (c .big) (c .depths .variant) (fieldsAt text (s .at + 1))) place part lead),
+        ← structure-fixed t e,
+        ← structure-alignment t e,
+        ← v,
+        ← d .position,
+        ← d .big,
+      )
+      (after-event _ _ n m l l₁ l′ (opening 40 (place + lead)) _ a p q g))

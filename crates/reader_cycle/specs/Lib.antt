@@ -1,1 +1,3 @@
+pub mod Children
+pub mod Openings
 pub mod Places

@@ -2,23 +2,28 @@
 use mathlib.Core.Path.{_≡_}
 use mathlib.Core.List.{List}
 use mathlib.Core.Bool.{Bool, true, false, _&&_}
-use Prim.Native.Nat.{ℕ, _-_, _≤_, _<_, max}
-use lib.ListN.{length}
+use Prim.Native.Nat.{ℕ, _+_, _-_, _≤_, _<_, max}
+use lib.ListN.{length, drop}
 use Rattle.meaning.specs.Choice.{pick}
 use Rattle.meaning.specs.Depths.{Depths}
 use Rattle.meaning.specs.Types.{Tree, Fields, basic, variant, maybe, array, dictionary, structure, alignment, largestAlignment, fixed, allFixed, basicFixed, entryAlignment, entryFixed}
 use Rattle.meaning.specs.Outcome as outcome
-use Rattle.meaning.specs.Outcome.{Outcome}
-use Rattle.meaning.specs.Reading.{Reader, Step, Field, readNumber, readBasic, readMaybe, maybeIn, arrayIn, childStep, entryStep, structureIn, variantIn, readers, readVariant, reading}
+use Rattle.meaning.specs.Outcome.{Outcome, chain, passing}
+use Rattle.meaning.specs.Offsets.{encodedWidth, endsOf}
+use Rattle.meaning.specs.Reading.{Reader, Step, Field, readNumber, readBasic, readMaybe, maybeIn, arrayIn, childStep, entryStep, structureIn, variantIn, readers, readVariant, reading, elements, elementsTo, fixedKey, textKey, fieldsIn}
 use Rattle.meaning.specs.Padding.{Aligns}
 use Rattle.meaning.specs.Limits.{mostVariants, mostContainers}
 use Rattle.meaning.specs.Letters.{arrayLetter, dictionaryLetter}
 use Rattle.meaning.specs.Refusals.{typeRefused}
 use Rattle.container_depths.specs.Opening.{depthsOf}
 use Rattle.container_depths.specs.declared.ContainerDepths.{ContainerDepths}
-use Rattle.signature.specs.Trees.{treeAt, Described}
-use Rattle.signature.specs.declared.Letter.the-variants.{Number}
-use Rattle.reader_basic.specs.Parts.{keyReader, KeyAligned, itemKind}
+use Rattle.framing_offsets.specs.Tables.{tableIn}
+use Rattle.framing_offsets.specs.declared.FramingOffsets.{FramingOffsets}
+use Rattle.signature.specs.Trees.{treeAt, fieldsAt, Described}
+use Rattle.signature.specs.declared.shapes.Shape.{Shape}
+use Rattle.signature.specs.declared.Letter.{Letter}
+use Rattle.signature.specs.declared.Letter.the-variants.{Number, End}
+use Rattle.reader_basic.specs.Parts.{keyReader, KeyAligned, itemKind, elementsBy}
 use Rattle.signature.specs.declared.items.Item.{Item}
 use Rattle.reader_basic.specs.declared.Context.{Context}
 
@@ -86,6 +91,29 @@ insideOf c t k l n = bodyIn (c .position) (c .big) (c .depths .variant) t (c .de
 
 abbrev pub stepIn : Context → List ℕ → Item → ℕ → List ℕ → ℕ → ℕ → ℕ → Outcome
 stepIn c text i = itemStep (c .position) (c .big) (c .depths .variant) text i (depthsOf (c .depths))
+
+-- the elements of an array, or a dictionary's entries: fixed, or by a table; an entry by its key; the fields of a structure
+abbrev pub elementsOf : Context → List ℕ → Item → ℕ → List ℕ → ℕ → Outcome
+elementsOf c text i k l n = elements (length l) (stepIn c text i k l (length l)) (length l) n
+
+abbrev pub elementKind : Item → Letter
+elementKind i = pick (i .entry) End (i .child .kind)
+
+abbrev pub framedOf : Context → List ℕ → Item → FramingOffsets → ℕ → List ℕ → ℕ → Outcome
+framedOf c text i t k l n = elementsBy (stepIn c text i k l (n + t .start)) t l n
+
+abbrev pub fixedKeyIn : Context → List ℕ → Item → ℕ → List ℕ → ℕ → ℕ → ℕ → Outcome
+fixedKeyIn c text i =
+    fixedKey (c .position) (i .alignment) (i .fixed) (keyReader (c .position) (c .big) (i .key)) (valueAt c (treeAt text (i .child .at))) (depthsOf (c .depths))
+
+abbrev pub textKeyIn : Context → List ℕ → Item → ℕ → List ℕ → ℕ → ℕ → ℕ → Outcome
+textKeyIn c text i =
+    textKey (c .position) (i .alignment) (i .fixed) (keyReader (c .position) (c .big) (i .key)) (valueAt c (treeAt text (i .child .at))) (depthsOf (c .depths))
+
+abbrev pub fieldsOf : Context → List ℕ → Shape → ℕ → List ℕ → ℕ → Outcome
+fieldsOf c text s k l n =
+    fieldsIn (c .position) (s .fixed) (s .alignment) k l n (encodedWidth (length l - n)) (depthsOf (c .depths))
+    (readersIn c (fieldsAt text (s .at + 1))) (length l) n
 
 -- a container's type
 abbrev pub Contains : Tree → Type 0

@@ -1,8 +1,12 @@
 -- `reader::whole` meets its contract. Assumes nothing.
+use Rattle.reader_cycle.proofs.Deepening.{told}
+use Rattle.reader.proofs.Frames.{child-all}
+use native.Mathlib.Omega.{arith}
 use mathlib.Core.Path.{ap}
 use Rattle.signature.specs.declared.shapes.Shape.{Shape}
 use Rattle.signature.proofs.TreeLaws.{front, front-described, described-as}
 use Rattle.reader.proofs.Frames.{whole-long, whole-far, within-frame, whole-read}
+use Rattle.reader_basic.proofs.refused.Reads as refused-reads
 use borrow.Author.Needs.{needs}
 use Rattle.reader.proofs.whole.Statement.{statement}
 use Rattle.reader.proofs.whole.Tie as tie
@@ -13,10 +17,12 @@ use Rattle.reader_cycle.proofs.value.Reads as value-reads
 use Rattle.signature.proofs.shapes.shape_in.Reads as shape-in-reads
 
 returns : tie.Need-returns
-returns c = whole-long _ _ _ _ _ (front _ (c .before .before .before .before .before .pre .0)) (c .if1 .taken)
+returns c =
+    told (c .refused .ensures) (whole-long _ _ _ _ _ (front _ (c .before .before .before .before .before .before .pre .0)) (c .before .if1 .taken))
 
 returns-2 : tie.Need-returns-2
-returns-2 c = whole-far _ _ _ _ _ (front _ (c .before .before .before .before .before .before .pre .0)) (c .before .if1 .left) (c .if2 .taken)
+returns-2 c =
+    told (c .refused2 .ensures) (whole-far _ _ _ _ _ (front _ (c .before .before .before .before .before .before .before .pre .0)) (c .before .before .if1 .left) (c .before .if2 .taken))
 
 new-requires : tie.Need-new-requires
 new-requires c κs = search needs
@@ -25,19 +31,29 @@ shape-in-requires : tie.Need-shape-in-requires
 shape-in-requires c κs = search needs
 
 value-requires : tie.Need-value-requires
-value-requires c κs = (described-as (c .before .shape-in .ensures) (front-described _ _ (c .before .before .before .before .before .before .before .before .before .pre .1) (front _ (c .before .before .before .before .before .before .before .before .before .pre .0))), within-frame (c .before .before .before .before .if1 .left) (c .before .before .before .if2 .left) (c .before .before .new .ensures))
+value-requires c κs =
+    (described-as (c .before .shape-in .ensures) (front-described _ _ (c .before .before .before .before .before .before .before .before .before .pre .1) (front _ (c .before .before .before .before .before .before .before .before .before .pre .0))), within-frame (c .before .before .before .before .if1 .left) (c .before .before .before .if2 .left) (c .before .before .new .ensures), omega arith)
 
 same-length : tie.Need-same-length
 same-length c = search needs
 
 returns-3 : tie.Need-returns-3
-returns-3 c = whole-read _ _ _ _ _ (front _ (c .before .before .before .before .before .before .before .before .before .before .before .before .pre .0)) (c .before .before .before .before .before .before .before .if1 .left) (c .before .before .before .before .before .before .if2 .left) _ (c .before .before .before .before .before .new .ensures) _ (ap (λ (s : Shape). s .at) (c .before .before .before .before .shape-in .ensures)) _ _ (c .before .before .value .ensures)
+returns-3 c =
+    whole-read _ _ _ _ _ (front _ (c .before .before .before .before .before .before .before .before .before .before .before .before .pre .0)) (c .before .before .before .before .before .before .before .if1 .left) (c .before .before .before .before .before .before .if2 .left) _ (c .before .before .before .before .before .new .ensures) _ (ap (λ (s : Shape). s .at) (c .before .before .before .before .shape-in .ensures)) _ _ (child-all _ (c .before .before .before .before .before .before .before .before .before .before .before .before .args .frame .now) 0 _ _ _ (c .before .before .value .ensures))
+
+refused-requires : tie.Need-refused-requires
+refused-requires c κs = search needs
+
+refused-requires-2 : tie.Need-refused-requires-2
+refused-requires-2 c κs = search needs
 
 pub whole-spec : {M : Type 1} → statement M
 whole-spec =
     tie.close
     (tie.spec
+    refused-requires
     returns
+    refused-requires-2
     returns-2
     new-requires
     shape-in-requires

@@ -1,0 +1,267 @@
+-- The needs of `array·framed`, and what answers each.
+use Prim.Native.Nat.{_+_, _-_, ℕ}
+use Rattle.framing_offsets.specs.Tables.{tableIn}
+use Rattle.meaning.specs.Offsets.{endsOf}
+use Rattle.reader_basic.proofs.Loops.{FramedLeft, ends-below, framed-begin, framed-end, framed-next, framed-stop, kept, length-ends, next-end, tail}
+use Rattle.reader_basic.specs.Answers.{Between}
+use Rattle.reader_cycle.proofs.Deepening.{arrived, told}
+use Rattle.reader_cycle.proofs.Entries.{step-child}
+use Rattle.reader_cycle.proofs.ItemLaws.{held-numbers, held-texts}
+use Rattle.reader_cycle.specs.Places.{stepIn}
+use borrow.Author.Needs.{needs}
+use lib.ListN.{drop, length-drop}
+use mathlib.Core.Bool.{false≢true}
+use mathlib.Core.Logic.{⊎-elim}
+use mathlib.Core.Path.{_∙_, sym}
+use native.Mathlib.Omega.{arith}
+use Rattle.reader_cycle.proofs as of
+use Rattle.reader_cycle.proofs.+array-array+array-elements+array-framed+body+container+dictionary-entry+dictionary-fixed_key+dictionary-text_key+maybe-maybe+structure-fields+structure-structure+value+variant-variant as cycle
+use cycle.Proof.Measures.{array·framed-at, dictionary·entry-below, value-below}
+use Rattle.framing_offsets.proofs.next.Reads as next-reads
+use Rattle.reader_basic.proofs.behind.Reads as behind-reads
+use Rattle.reader_basic.proofs.done.Reads as done-reads
+use Rattle.reader_basic.proofs.numbers.readings.Reads as readings-reads
+use Rattle.reader_basic.proofs.texts_run.texts.Reads as texts-reads
+use cycle.Lts-array-framed as array·framed-lts
+use of.array.element_kind.Reads as element-kind-reads
+use of.array.framed.Reads as array·framed
+use of.dictionary.entry.Reads as dictionary·entry
+use of.value.Reads as value
+
+abbrev array·framed-callees : ℕ → array·framed-lts.Claims
+array·framed-callees t = (
+  readings-reads.Asked,
+  readings-reads.Learnt,
+  element-kind-reads.Asked,
+  element-kind-reads.Learnt,
+  texts-reads.Asked,
+  texts-reads.Learnt,
+  next-reads.Asked,
+  next-reads.Learnt,
+  dictionary·entry-below t,
+  dictionary·entry.Post,
+  value-below t,
+  value.Post,
+  behind-reads.Asked,
+  behind-reads.Learnt,
+  done-reads.Asked,
+  done-reads.Learnt,
+)
+
+abbrev array·framed-Inv-loop : array·framed-lts.InvT-loop
+array·framed-Inv-loop text shapes item offsets part lead place context out₀ n is-entry child table many b i₀ u₀ m₀ out i u m =
+    FramedLeft (stepIn context text item place part (lead + offsets .start)) part lead (lead + offsets .start) n out₀ (endsOf (tableIn offsets) (drop lead part)) i u m out
+
+abbrev array·framed-μ-loop : array·framed-lts.MeasureT-loop
+array·framed-μ-loop text shapes item offsets part lead place context out₀ n is-entry child table many b i₀ u₀ m₀ out i u m =
+    offsets .count - i
+
+array·framed-enum-known-held : (t : ℕ) → array·framed-lts.Need-enum-known-held (array·framed-callees t) (array·framed-at t) array·framed.Post array·framed-Inv-loop array·framed-μ-loop
+array·framed-enum-known-held t c = search needs
+
+array·framed-readings-requires : (t : ℕ) → array·framed-lts.Need-readings-requires (array·framed-callees t) (array·framed-at t) array·framed.Post array·framed-Inv-loop array·framed-μ-loop
+array·framed-readings-requires t c κs =
+    let at-held = c .before .before in
+    let start = at-held .before .before .before .before .before .before in
+    (start .pre .1 .2, record { begins = start .pre .1 .3; stands = start .pre .1 .4 }, start .pre .1 .0 .number _ _ (at-held .held .given .1) .aligned)
+
+array·framed-same-length : (t : ℕ) → array·framed-lts.Need-same-length (array·framed-callees t) (array·framed-at t) array·framed.Post array·framed-Inv-loop array·framed-μ-loop
+array·framed-same-length t c = search needs
+
+array·framed-returns : (t : ℕ) → array·framed-lts.Need-returns (array·framed-callees t) (array·framed-at t) array·framed.Post array·framed-Inv-loop array·framed-μ-loop
+array·framed-returns t c =
+    let at-readings = c .before .before in
+    let at-held = at-readings .before .before .before in
+    let start = at-held .before .before .before .before .before .before in
+    held-numbers _ _ _ _ (start .pre .1 .0 .number _ _ (at-held .held .given .1)) _ _ _ _ _ _ _ _ _ _ _ _ _ _ _ _ (start .pre .1 .1) (at-readings .readings .ensures)
+
+array·framed-element-kind-requires : (t : ℕ) → array·framed-lts.Need-element-kind-requires (array·framed-callees t) (array·framed-at t) array·framed.Post array·framed-Inv-loop array·framed-μ-loop
+array·framed-element-kind-requires t c κs = search needs
+
+array·framed-enum-known-plain : (t : ℕ) → array·framed-lts.Need-enum-known-plain (array·framed-callees t) (array·framed-at t) array·framed.Post array·framed-Inv-loop array·framed-μ-loop
+array·framed-enum-known-plain t c = search needs
+
+array·framed-texts-requires : (t : ℕ) → array·framed-lts.Need-texts-requires (array·framed-callees t) (array·framed-at t) array·framed.Post array·framed-Inv-loop array·framed-μ-loop
+array·framed-texts-requires t c κs =
+    let start = c .before .before .before .before .before .before .before .before .before .before in
+    (start .pre .1 .2 .in-frame, record { begins = start .pre .1 .3; stands = start .pre .1 .4 })
+
+array·framed-same-length-2 : (t : ℕ) → array·framed-lts.Need-same-length-2 (array·framed-callees t) (array·framed-at t) array·framed.Post array·framed-Inv-loop array·framed-μ-loop
+array·framed-same-length-2 t c = search needs
+
+array·framed-returns-2 : (t : ℕ) → array·framed-lts.Need-returns-2 (array·framed-callees t) (array·framed-at t) array·framed.Post array·framed-Inv-loop array·framed-μ-loop
+array·framed-returns-2 t c =
+    let at-texts = c .before .before in
+    let at-plain = at-texts .before .before .before in
+    let at-element-kind = at-plain .before .before in
+    let start = at-element-kind .before .before .before .before .before .before in
+    held-texts (start .args .context) (start .args .text .now) (start .args .shapes .now) (start .args .item) _ (start .pre .1 .0) (sym (at-plain .plain .given .1) ∙ at-element-kind .element-kind .ensures) (start .args .offsets) (start .args .place) (start .args .part .now) (start .args .lead) _ _ _ _ _ _ (at-texts .texts .ensures)
+
+array·framed-sub-table : (t : ℕ) → array·framed-lts.Need-sub-table (array·framed-callees t) (array·framed-at t) array·framed.Post array·framed-Inv-loop array·framed-μ-loop
+array·framed-sub-table t c = omega arith
+
+array·framed-part-table-start : (t : ℕ) → array·framed-lts.Need-part-table-start (array·framed-callees t) (array·framed-at t) array·framed.Post array·framed-Inv-loop array·framed-μ-loop
+array·framed-part-table-start t c = omega arith
+
+array·framed-part-table-end : (t : ℕ) → array·framed-lts.Need-part-table-end (array·framed-callees t) (array·framed-at t) array·framed.Post array·framed-Inv-loop array·framed-μ-loop
+array·framed-part-table-end t c = omega arith
+
+array·framed-add-b : (t : ℕ) → array·framed-lts.Need-add-b (array·framed-callees t) (array·framed-at t) array·framed.Post array·framed-Inv-loop array·framed-μ-loop
+array·framed-add-b t c =
+    let start = c .before .before .before .before .before .before .before .before .before .before in
+    omega (arith, start .pre .1 .4 .start, length-drop (start .args .lead) (start .args .part .now), start .pre .1 .2 .in-frame, start .pre .1 .3)
+
+array·framed-loop-holds : (t : ℕ) → array·framed-lts.Need-loop-holds (array·framed-callees t) (array·framed-at t) array·framed.Post array·framed-Inv-loop array·framed-μ-loop
+array·framed-loop-holds t c = framed-begin _ _ _ _ _ _ _ (omega arith)
+
+array·framed-add-j : (t : ℕ) → array·framed-lts.Need-add-j (array·framed-callees t) (array·framed-at t) array·framed.Post array·framed-Inv-loop array·framed-μ-loop
+array·framed-add-j t c =
+    let at-loop = c .before in
+    let start = at-loop .before .before .before .before .before .before .before .before .before .before .before in
+    omega (arith, at-loop .loop .inv .bound, start .pre .1 .4 .start, length-drop (start .args .lead) (start .args .part .now), start .pre .1 .2 .in-frame, start .pre .1 .3)
+
+array·framed-next-requires : (t : ℕ) → array·framed-lts.Need-next-requires (array·framed-callees t) (array·framed-at t) array·framed.Post array·framed-Inv-loop array·framed-μ-loop
+array·framed-next-requires t c κs = search needs
+
+array·framed-add-e : (t : ℕ) → array·framed-lts.Need-add-e (array·framed-callees t) (array·framed-at t) array·framed.Post array·framed-Inv-loop array·framed-μ-loop
+array·framed-add-e t c =
+    let at-next = c .before in
+    let at-loop-test = at-next .before in
+    let at-loop = at-loop-test .before in
+    let start = at-loop .before .before .before .before .before .before .before .before .before .before .before in
+    omega (arith, (next-end (start .pre .1 .4) (at-loop .loop .i) (at-next .next .result) (at-loop-test .loop-test .taken) (rw (tail (start .args .lead) (start .args .part .now)) at (at-next .next .ensures))), ends-below (start .pre .1 .4) (at-loop .loop .i), start .pre .1 .4 .start, length-drop (start .args .lead) (start .args .part .now), start .pre .1 .2 .in-frame, start .pre .1 .3)
+
+array·framed-entry-requires : (t : ℕ) → array·framed-lts.Need-entry-requires (array·framed-callees t) (array·framed-at t) array·framed.Post array·framed-Inv-loop array·framed-μ-loop
+array·framed-entry-requires t c κs =
+    let at-if1 = c .before in
+    let at-next = at-if1 .before .before in
+    let at-loop-test = at-next .before in
+    let at-loop = at-loop-test .before in
+    let start = at-loop .before .before .before .before .before .before .before .before .before .before .before in
+    (omega (arith, start .pre .0), (start .pre .1 .0, at-if1 .if1 .taken, start .pre .1 .2, omega (arith, at-loop .loop .inv .bound, start .pre .1 .4 .start, length-drop (start .args .lead) (start .args .part .now), start .pre .1 .3), omega (arith, (next-end (start .pre .1 .4) (at-loop .loop .i) (at-next .next .result) (at-loop-test .loop-test .taken) (rw (tail (start .args .lead) (start .args .part .now)) at (at-next .next .ensures))), ends-below (start .pre .1 .4) (at-loop .loop .i)), omega (arith, start .pre .1 .4 .start, length-drop (start .args .lead) (start .args .part .now), start .pre .1 .3), λ z. absurd (false≢true (sym (start .pre .1 .1) ∙ z))))
+
+array·framed-value-requires : (t : ℕ) → array·framed-lts.Need-value-requires (array·framed-callees t) (array·framed-at t) array·framed.Post array·framed-Inv-loop array·framed-μ-loop
+array·framed-value-requires t c κs =
+    let at-loop = c .before .before .before .before .before in
+    let start = at-loop .before .before .before .before .before .before .before .before .before .before .before in
+    (omega (arith, start .pre .0), (start .pre .1 .0 .child, start .pre .1 .2, omega (arith, at-loop .loop .inv .bound, start .pre .1 .4 .start, length-drop (start .args .lead) (start .args .part .now), start .pre .1 .3)))
+
+-- what one turn reads: an element, or an entry
+array·framed-turn : (t : ℕ) (c : array·framed-lts.Joined1 (array·framed-callees t) (array·framed-at t) array·framed.Post array·framed-Inv-loop array·framed-μ-loop)
+    → Between (stepIn (c .before .before .before .before .before .before .before .before .before .before .before .before .before .before .before .args .context) (c .before .before .before .before .before .before .before .before .before .before .before .before .before .before .before .args .text .now) (c .before .before .before .before .before .before .before .before .before .before .before .before .before .before .before .args .item) (c .before .before .before .before .before .before .before .before .before .before .before .before .before .before .before .args .place) (c .before .before .before .before .before .before .before .before .before .before .before .before .before .before .before .args .part .now) (c .before .before .before .before .before .before .before .before .before .before .before .before .before .before .before .args .lead + c .before .before .before .before .before .before .before .before .before .before .before .before .before .before .before .args .offsets .start) (c .before .before .before .before .before .before .before .before .before .before .before .before .before .before .before .args .lead + c .before .before .before .before .loop .u) (c .before .before .before .before .before .before .before .before .before .before .before .before .before .before .before .args .lead + c .before .before .next .result .value)) (c .before .before .before .before .before .before .before .before .before .before .before .before .before .before .before .args .part .now) (c .before .before .before .before .before .before .before .before .before .before .before .before .before .before .before .args .lead + c .before .before .before .before .loop .u) (c .before .before .before .before .before .before .before .before .before .before .before .before .before .before .before .args .lead + c .before .before .next .result .value) (c .before .before .before .before .loop .m) (c .before .before .before .before .loop .out) (c .if1 .out) (c .if1 .r)
+array·framed-turn t c =
+    let at-next = c .before .before in
+    let at-loop = at-next .before .before in
+    let start = at-loop .before .before .before .before .before .before .before .before .before .before .before in
+    ⊎-elim (λ x. arrived (x .5) (x .6) (x .2 .ensures))
+    (λ x. arrived (x .5) (x .6) (step-child (start .args .context) (start .args .text .now) (start .args .item) (start .args .place) (start .args .part .now) (start .args .lead + start .args .offsets .start) (start .args .lead + at-loop .loop .u) (start .args .lead + at-next .next .result .value) _ _ _ _ (x .0 .left) (x .2 .ensures)))
+    (c .if1 .came)
+
+array·framed-behind-requires : (t : ℕ) → array·framed-lts.Need-behind-requires (array·framed-callees t) (array·framed-at t) array·framed.Post array·framed-Inv-loop array·framed-μ-loop
+array·framed-behind-requires t c κs =
+    let at-1 = c .before in
+    let at-loop = at-1 .before .before .before .before in
+    let start = at-loop .before .before .before .before .before .before .before .before .before .before .before in
+    omega (arith, (array·framed-turn t (at-1)) .fits, at-loop .loop .inv .bound, start .pre .1 .4 .start, length-drop (start .args .lead) (start .args .part .now), start .pre .1 .2 .in-frame, start .pre .1 .3)
+
+array·framed-same-length-3 : (t : ℕ) → array·framed-lts.Need-same-length-3 (array·framed-callees t) (array·framed-at t) array·framed.Post array·framed-Inv-loop array·framed-μ-loop
+array·framed-same-length-3 t c =
+    let at-2 = c .before .before in
+    let at-loop = at-2 .before .before .before .before in
+    kept (array·framed-turn t (at-2)) ∙ at-loop .loop .inv .same
+
+array·framed-returns-3 : (t : ℕ) → array·framed-lts.Need-returns-3 (array·framed-callees t) (array·framed-at t) array·framed.Post array·framed-Inv-loop array·framed-μ-loop
+array·framed-returns-3 t c =
+    let at-if2 = c .before in
+    let at-2 = at-if2 .before in
+    let at-next = at-2 .before .before in
+    let at-loop-test = at-next .before in
+    let at-loop = at-loop-test .before in
+    let start = at-loop .before .before .before .before .before .before .before .before .before .before .before in
+    told (c .behind .ensures) (framed-stop _ _ _ _ _ _ _ _ _ _ _ (at-loop .loop .inv) (omega (arith, start .pre .1 .4 .start, length-drop (start .args .lead) (start .args .part .now), start .pre .1 .3)) (omega (arith, length-ends (tableIn (start .args .offsets)) (drop (start .args .lead) (start .args .part .now)), at-loop-test .loop-test .taken)) _ _ (omega (arith, ends-below (start .pre .1 .4) (at-loop .loop .i))) (rw (next-end (start .pre .1 .4) (at-loop .loop .i) (at-next .next .result) (at-loop-test .loop-test .taken) (rw (tail (start .args .lead) (start .args .part .now)) at (at-next .next .ensures))) at (array·framed-turn t (at-2))) (at-if2 .if2 .taken))
+
+array·framed-add-u : (t : ℕ) → array·framed-lts.Need-add-u (array·framed-callees t) (array·framed-at t) array·framed.Post array·framed-Inv-loop array·framed-μ-loop
+array·framed-add-u t c =
+    let at-2 = c .before .before in
+    let at-loop = at-2 .before .before .before .before in
+    let start = at-loop .before .before .before .before .before .before .before .before .before .before .before in
+    omega (arith, (array·framed-turn t (at-2)) .fits, at-loop .loop .inv .bound, start .pre .1 .4 .start, length-drop (start .args .lead) (start .args .part .now), start .pre .1 .2 .in-frame, start .pre .1 .3)
+
+array·framed-add-i : (t : ℕ) → array·framed-lts.Need-add-i (array·framed-callees t) (array·framed-at t) array·framed.Post array·framed-Inv-loop array·framed-μ-loop
+array·framed-add-i t c = omega arith
+
+array·framed-loop-less : (t : ℕ) → array·framed-lts.Need-loop-less (array·framed-callees t) (array·framed-at t) array·framed.Post array·framed-Inv-loop array·framed-μ-loop
+array·framed-loop-less t c =
+    let at-loop-test = c .before .before .before .before .before in
+    omega (arith, at-loop-test .loop-test .taken)
+
+array·framed-loop-again : (t : ℕ) → array·framed-lts.Need-loop-again (array·framed-callees t) (array·framed-at t) array·framed.Post array·framed-Inv-loop array·framed-μ-loop
+array·framed-loop-again t c =
+    let at-if2 = c .before in
+    let at-2 = at-if2 .before in
+    let at-next = at-2 .before .before in
+    let at-loop-test = at-next .before in
+    let at-loop = at-loop-test .before in
+    let start = at-loop .before .before .before .before .before .before .before .before .before .before .before in
+    framed-next _ _ _ _ _ _ _ _ _ _ _ (at-loop .loop .inv) (omega (arith, start .pre .1 .4 .start, length-drop (start .args .lead) (start .args .part .now), start .pre .1 .3)) (omega (arith, length-ends (tableIn (start .args .offsets)) (drop (start .args .lead) (start .args .part .now)), at-loop-test .loop-test .taken)) _ _ (omega (arith, ends-below (start .pre .1 .4) (at-loop .loop .i))) (rw (next-end (start .pre .1 .4) (at-loop .loop .i) (at-next .next .result) (at-loop-test .loop-test .taken) (rw (tail (start .args .lead) (start .args .part .now)) at (at-next .next .ensures))) at (array·framed-turn t (at-2))) (at-if2 .if2 .left)
+
+array·framed-sub-done : (t : ℕ) → array·framed-lts.Need-sub-done (array·framed-callees t) (array·framed-at t) array·framed.Post array·framed-Inv-loop array·framed-μ-loop
+array·framed-sub-done t c =
+    let start = c .before .before .before .before .before .before .before .before .before .before .before .before in
+    omega (arith, start .pre .1 .4 .start, length-drop (start .args .lead) (start .args .part .now), start .pre .1 .3)
+
+array·framed-add-done : (t : ℕ) → array·framed-lts.Need-add-done (array·framed-callees t) (array·framed-at t) array·framed.Post array·framed-Inv-loop array·framed-μ-loop
+array·framed-add-done t c =
+    let at-loop = c .before in
+    let start = at-loop .before .before .before .before .before .before .before .before .before .before .before in
+    omega (arith, at-loop .loop .inv .bound, start .pre .1 .4 .start, length-drop (start .args .lead) (start .args .part .now), start .pre .1 .2 .in-frame, start .pre .1 .3)
+
+array·framed-done-requires : (t : ℕ) → array·framed-lts.Need-done-requires (array·framed-callees t) (array·framed-at t) array·framed.Post array·framed-Inv-loop array·framed-μ-loop
+array·framed-done-requires t c κs = search needs
+
+array·framed-same-length-4 : (t : ℕ) → array·framed-lts.Need-same-length-4 (array·framed-callees t) (array·framed-at t) array·framed.Post array·framed-Inv-loop array·framed-μ-loop
+array·framed-same-length-4 t c = search needs
+
+array·framed-returns-4 : (t : ℕ) → array·framed-lts.Need-returns-4 (array·framed-callees t) (array·framed-at t) array·framed.Post array·framed-Inv-loop array·framed-μ-loop
+array·framed-returns-4 t c =
+    let at-loop-test = c .before in
+    let at-loop = at-loop-test .before in
+    let start = at-loop .before .before .before .before .before .before .before .before .before .before .before in
+    told (c .done .ensures) (framed-end _ _ _ _ _ _ _ _ _ _ _ (at-loop .loop .inv) (omega (arith, start .pre .1 .4 .start, length-drop (start .args .lead) (start .args .part .now), start .pre .1 .3)) (omega (arith, length-ends (tableIn (start .args .offsets)) (drop (start .args .lead) (start .args .part .now)), at-loop-test .loop-test .left)))
+
+pub array·framed-spec : {M : Type 1} (t : ℕ) → array·framed-lts.Closed (array·framed-callees t) (array·framed-at t) array·framed.Post M
+array·framed-spec t =
+    array·framed-lts.spec (array·framed-callees t) (array·framed-at t) array·framed.Post
+    array·framed-Inv-loop
+    array·framed-μ-loop
+    (array·framed-enum-known-held t)
+    (array·framed-readings-requires t)
+    (array·framed-same-length t)
+    (array·framed-returns t)
+    (array·framed-element-kind-requires t)
+    (array·framed-enum-known-plain t)
+    (array·framed-texts-requires t)
+    (array·framed-same-length-2 t)
+    (array·framed-returns-2 t)
+    (array·framed-sub-table t)
+    (array·framed-part-table-start t)
+    (array·framed-part-table-end t)
+    (array·framed-add-b t)
+    (array·framed-loop-holds t)
+    (array·framed-add-j t)
+    (array·framed-next-requires t)
+    (array·framed-add-e t)
+    (array·framed-entry-requires t)
+    (array·framed-value-requires t)
+    (array·framed-behind-requires t)
+    (array·framed-same-length-3 t)
+    (array·framed-returns-3 t)
+    (array·framed-add-u t)
+    (array·framed-add-i t)
+    (array·framed-loop-less t)
+    (array·framed-loop-again t)
+    (array·framed-sub-done t)
+    (array·framed-add-done t)
+    (array·framed-done-requires t)
+    (array·framed-same-length-4 t)
+    (array·framed-returns-4 t)

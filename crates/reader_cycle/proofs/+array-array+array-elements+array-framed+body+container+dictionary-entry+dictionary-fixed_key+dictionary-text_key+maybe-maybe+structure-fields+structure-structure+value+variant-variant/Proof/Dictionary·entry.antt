@@ -1,0 +1,121 @@
+-- The needs of `dictionary·entry`, and what answers each.
+use Prim.Native.Nat.{ℕ}
+use Rattle.reader_cycle.proofs.Deepening.{told}
+use Rattle.reader_cycle.proofs.Entries.{entry-padded, entry-within, step-keyed, step-text, step-unpadded}
+use borrow.Author.Needs.{needs}
+use native.Mathlib.Omega.{arith}
+use Rattle.reader_cycle.proofs as of
+use Rattle.reader_cycle.proofs.+array-array+array-elements+array-framed+body+container+dictionary-entry+dictionary-fixed_key+dictionary-text_key+maybe-maybe+structure-fields+structure-structure+value+variant-variant as cycle
+use cycle.Proof.Measures.{dictionary·entry-at, dictionary·fixed-key-below, dictionary·text-key-below}
+use Rattle.de.proofs.parse_padding.Reads as parse-padding-reads
+use Rattle.reader_basic.proofs.behind.Reads as behind-reads
+use Rattle.reader_basic.proofs.refused.Reads as refused-reads
+use cycle.Lts-dictionary-entry as dictionary·entry-lts
+use of.dictionary.entry.Reads as dictionary·entry
+use of.dictionary.fixed_key.Reads as dictionary·fixed-key
+use of.dictionary.text_key.Reads as dictionary·text-key
+
+abbrev dictionary·entry-callees : ℕ → dictionary·entry-lts.Claims
+dictionary·entry-callees t = (
+  parse-padding-reads.Asked,
+  parse-padding-reads.Learnt,
+  refused-reads.Asked,
+  refused-reads.Learnt,
+  dictionary·fixed-key-below t,
+  dictionary·fixed-key.Post,
+  behind-reads.Asked,
+  behind-reads.Learnt,
+  dictionary·text-key-below t,
+  dictionary·text-key.Post,
+)
+
+dictionary·entry-add-parse-padding : (t : ℕ) → dictionary·entry-lts.Need-add-parse-padding (dictionary·entry-callees t) (dictionary·entry-at t) dictionary·entry.Post
+dictionary·entry-add-parse-padding t c =
+    let start = c .before .before .before .before .before in
+    omega (arith, start .pre .1 .2 .in-frame, start .pre .1 .2 .near)
+
+dictionary·entry-parse-padding-requires : (t : ℕ) → dictionary·entry-lts.Need-parse-padding-requires (dictionary·entry-callees t) (dictionary·entry-at t) dictionary·entry.Post
+dictionary·entry-parse-padding-requires t c κs = search needs
+
+dictionary·entry-refused-requires : (t : ℕ) → dictionary·entry-lts.Need-refused-requires (dictionary·entry-callees t) (dictionary·entry-at t) dictionary·entry.Post
+dictionary·entry-refused-requires t c κs = search needs
+
+dictionary·entry-returns : (t : ℕ) → dictionary·entry-lts.Need-returns (dictionary·entry-callees t) (dictionary·entry-at t) dictionary·entry.Post
+dictionary·entry-returns t c =
+    let at-if1 = c .before in
+    let at-parse-padding = at-if1 .before in
+    let start = at-parse-padding .before .before .before .before .before .before in
+    told (c .refused .ensures) (step-unpadded (entry-padded (start .args .context) (start .args .part .now) _ _ (start .pre .1 .0) (start .pre .1 .1) (start .pre .1 .2) (start .pre .1 .3) (at-parse-padding .parse-padding .ensures)) _ _ _ _ (at-if1 .if1 .taken))
+
+dictionary·entry-add-from : (t : ℕ) → dictionary·entry-lts.Need-add-from (dictionary·entry-callees t) (dictionary·entry-at t) dictionary·entry.Post
+dictionary·entry-add-from t c =
+    let at-parse-padding = c .before in
+    let start = at-parse-padding .before .before .before .before .before .before in
+    omega (arith, entry-within (entry-padded (start .args .context) (start .args .part .now) _ _ (start .pre .1 .0) (start .pre .1 .1) (start .pre .1 .2) (start .pre .1 .3) (at-parse-padding .parse-padding .ensures)), start .pre .1 .2 .in-frame)
+
+dictionary·entry-fixed-key-requires : (t : ℕ) → dictionary·entry-lts.Need-fixed-key-requires (dictionary·entry-callees t) (dictionary·entry-at t) dictionary·entry.Post
+dictionary·entry-fixed-key-requires t c κs =
+    let at-parse-padding = c .before .before .before in
+    let start = at-parse-padding .before .before .before .before .before .before in
+    (omega (arith, start .pre .0), (start .pre .1 .0, start .pre .1 .2, entry-within (entry-padded (start .args .context) (start .args .part .now) _ _ (start .pre .1 .0) (start .pre .1 .1) (start .pre .1 .2) (start .pre .1 .3) (at-parse-padding .parse-padding .ensures)), omega (arith, start .pre .1 .4, start .pre .1 .5), start .pre .1 .6))
+
+dictionary·entry-behind-requires : (t : ℕ) → dictionary·entry-lts.Need-behind-requires (dictionary·entry-callees t) (dictionary·entry-at t) dictionary·entry.Post
+dictionary·entry-behind-requires t c κs =
+    let at-fixed-key = c .before .before in
+    let at-parse-padding = at-fixed-key .before .before .before .before in
+    let start = at-parse-padding .before .before .before .before .before .before in
+    omega (arith, at-fixed-key .fixed-key .ensures 0 .fits, entry-within (entry-padded (start .args .context) (start .args .part .now) _ _ (start .pre .1 .0) (start .pre .1 .1) (start .pre .1 .2) (start .pre .1 .3) (at-parse-padding .parse-padding .ensures)), start .pre .1 .2 .in-frame)
+
+dictionary·entry-same-length : (t : ℕ) → dictionary·entry-lts.Need-same-length (dictionary·entry-callees t) (dictionary·entry-at t) dictionary·entry.Post
+dictionary·entry-same-length t c = search needs
+
+dictionary·entry-returns-2 : (t : ℕ) → dictionary·entry-lts.Need-returns-2 (dictionary·entry-callees t) (dictionary·entry-at t) dictionary·entry.Post
+dictionary·entry-returns-2 t c =
+    let at-fixed-key = c .before .before .before in
+    let at-if2 = at-fixed-key .before .before in
+    let at-if1 = at-if2 .before in
+    let at-parse-padding = at-if1 .before in
+    let start = at-parse-padding .before .before .before .before .before .before in
+    told (c .behind .ensures) (step-keyed (entry-padded (start .args .context) (start .args .part .now) _ _ (start .pre .1 .0) (start .pre .1 .1) (start .pre .1 .2) (start .pre .1 .3) (at-parse-padding .parse-padding .ensures)) _ _ _ _ (at-if1 .if1 .left) _ _ (at-if2 .if2 .taken) (at-fixed-key .fixed-key .ensures _))
+
+dictionary·entry-text-key-requires : (t : ℕ) → dictionary·entry-lts.Need-text-key-requires (dictionary·entry-callees t) (dictionary·entry-at t) dictionary·entry.Post
+dictionary·entry-text-key-requires t c κs =
+    let at-parse-padding = c .before .before .before in
+    let start = at-parse-padding .before .before .before .before .before .before in
+    (omega (arith, start .pre .0), (start .pre .1 .0, start .pre .1 .2, entry-within (entry-padded (start .args .context) (start .args .part .now) _ _ (start .pre .1 .0) (start .pre .1 .1) (start .pre .1 .2) (start .pre .1 .3) (at-parse-padding .parse-padding .ensures)), start .pre .1 .4, start .pre .1 .5))
+
+dictionary·entry-behind-requires-2 : (t : ℕ) → dictionary·entry-lts.Need-behind-requires-2 (dictionary·entry-callees t) (dictionary·entry-at t) dictionary·entry.Post
+dictionary·entry-behind-requires-2 t c κs =
+    let at-text-key = c .before .before in
+    let at-parse-padding = at-text-key .before .before .before .before in
+    let start = at-parse-padding .before .before .before .before .before .before in
+    omega (arith, at-text-key .text-key .ensures .fits, entry-within (entry-padded (start .args .context) (start .args .part .now) _ _ (start .pre .1 .0) (start .pre .1 .1) (start .pre .1 .2) (start .pre .1 .3) (at-parse-padding .parse-padding .ensures)), start .pre .1 .2 .in-frame)
+
+dictionary·entry-same-length-2 : (t : ℕ) → dictionary·entry-lts.Need-same-length-2 (dictionary·entry-callees t) (dictionary·entry-at t) dictionary·entry.Post
+dictionary·entry-same-length-2 t c = search needs
+
+dictionary·entry-returns-3 : (t : ℕ) → dictionary·entry-lts.Need-returns-3 (dictionary·entry-callees t) (dictionary·entry-at t) dictionary·entry.Post
+dictionary·entry-returns-3 t c =
+    let at-text-key = c .before .before .before in
+    let at-if2 = at-text-key .before .before in
+    let at-if1 = at-if2 .before in
+    let at-parse-padding = at-if1 .before in
+    let start = at-parse-padding .before .before .before .before .before .before in
+    told (c .behind2 .ensures) (step-text (entry-padded (start .args .context) (start .args .part .now) _ _ (start .pre .1 .0) (start .pre .1 .1) (start .pre .1 .2) (start .pre .1 .3) (at-parse-padding .parse-padding .ensures)) _ _ _ _ (at-if1 .if1 .left) _ _ (at-if2 .if2 .left) (at-text-key .text-key .ensures))
+
+pub dictionary·entry-spec : {M : Type 1} (t : ℕ) → dictionary·entry-lts.Closed (dictionary·entry-callees t) (dictionary·entry-at t) dictionary·entry.Post M
+dictionary·entry-spec t =
+    dictionary·entry-lts.spec (dictionary·entry-callees t) (dictionary·entry-at t) dictionary·entry.Post
+    (dictionary·entry-add-parse-padding t)
+    (dictionary·entry-parse-padding-requires t)
+    (dictionary·entry-refused-requires t)
+    (dictionary·entry-returns t)
+    (dictionary·entry-add-from t)
+    (dictionary·entry-fixed-key-requires t)
+    (dictionary·entry-behind-requires t)
+    (dictionary·entry-same-length t)
+    (dictionary·entry-returns-2 t)
+    (dictionary·entry-text-key-requires t)
+    (dictionary·entry-behind-requires-2 t)
+    (dictionary·entry-same-length-2 t)
+    (dictionary·entry-returns-3 t)

@@ -1,0 +1,95 @@
+-- A container that is opened: what is left of the depth, and what is the same inside it. Assumes nothing.
+use mathlib.Core.Path.{_≡_, refl, ap, sym, subst⁻¹, _∙_}
+use mathlib.Core.List.{List}
+use mathlib.Core.Bool.{Bool, true, false}
+use Prim.Native.Nat.{ℕ, _+_, _-_, _≤_}
+use native.Mathlib.Omega.{arith}
+use lib.Dec.{ltb, eqb}
+use borrow.Author.Tests.{eq-eqb, ne-eqb, ltb-false}
+use Rattle.meaning.specs.Choice.{pick}
+use Rattle.meaning.specs.Depths as Depth
+use Rattle.meaning.specs.Depths.{Depths, Opened, total, depthRefusal, opened}
+use Rattle.meaning.specs.Outcome.{Outcome}
+use Rattle.meaning.specs.Reading.{within}
+use Rattle.container_depths.specs.Opening.{depthsOf, Raises}
+use Rattle.container_depths.specs.declared.ContainerDepths.{ContainerDepths}
+use Rattle.container_depths.specs.declared.Raised.{Raised}
+use Rattle.reader_basic.specs.Answers.{Done}
+use Rattle.reader_basic.specs.Parts.{Within, Inside}
+use Rattle.reader_basic.specs.declared.Answer.{Answer}
+use Rattle.reader_basic.specs.declared.Context.{Context}
+use Rattle.reader_basic.proofs.Answers.{answer, refusing}
+use Rattle.reader_cycle.specs.Openings.{innerOf, Deeper, Opens}
+use Rattle.reader_cycle.specs.declared.opening.Inner.{Inner}
+
+-- an answer by what is known of it
+pub told : {o : Outcome} {end len n : ℕ} {l l′ : List ℕ} {r s : Answer} → r ≡ s → Done o end len n l l′ s → Done o end len n l l′ r
+told {o} {end} {len} {n} {l} {l′} e d = subst⁻¹ (λ (x : Answer). Done o end len n l l′ x) e d
+
+-- an answer and a slice that came by one way or another
+pub arrived : {o : Outcome} {end len n : ℕ} {l l′ l″ : List ℕ} {r s : Answer} → l′ ≡ l″ → r ≡ s → Done o end len n l l″ s → Done o end len n l l′ r
+arrived e f d = rw (e, f) d
+
+pub total-most : (d : Depths) → depthRefusal d ≡ 0 → total d ≤ 64
+unfolding depthRefusal
+total-most d h = go (ltb 32 (d .structure)) (ltb 32 (d .array)) (ltb 64 (total d)) refl h
+  where
+    go : (x y z : Bool) → ltb 64 (total d) ≡ z → _≡_ {A = ℕ} (pick x 10 (pick y 11 (pick z 12 0))) 0 → total d ≤ 64
+    go true y z e h = absurd (omega arith)
+    go false true z e h = absurd (omega arith)
+    go false false true e h = absurd (omega arith)
+    go false false false e h = ltb-false 64 (total d) e
+
+pub few-variants : {len place position : ℕ} {d : ContainerDepths} → Within len place position d → d .variant ≤ 64
+few-variants {d = d} w = omega (arith, total-most (depthsOf d) (w .shallow))
+
+-- what is left of the depth
+abbrev pub level : ContainerDepths → ℕ
+level d = 64 - total (depthsOf d)
+
+-- ---- a raise of the depths, as a context
+
+pub opens-by : (x : Opened) (c : Context) (r : Raised) (s : Inner) → s ≡ innerOf c r → Raises (depthsOf (c .depths)) (opened x (depthsOf (c .depths))) r → Opens x c s
+opens-by x c r s e h = subst⁻¹ (λ (y : Inner). Opens x c y) e
+    (record {
+      refusal = h .refusal;
+      deeper = λ z.
+          let q : eqb (depthRefusal (opened x (depthsOf (c .depths)))) 0 ≡ true = eq-eqb _ 0 (sym (h .refusal) ∙ z) in
+          let d : depthsOf (r .depths) ≡ opened x (depthsOf (c .depths)) = h .depths ∙ rw q in
+          record { position = refl; big = refl; depths = d; shallow = ap depthRefusal d ∙ sym (h .refusal) ∙ z };
+    })
+
+-- ---- one container too many
+
+pub too-deep : {x : Opened} {c : Context} {r : Inner} (p : ℕ) (inside : Depths → Outcome) (end len n : ℕ) (l : List ℕ) → Opens x c r → (r .refusal ≡ 0 → ⊥)
+    → Done (within (opened x (depthsOf (c .depths))) p inside) end len n l l (answer (r .refusal) 0 n)
+unfolding within
+too-deep {x} {c} {r} p inside end len n l h z =
+    let e : eqb (depthRefusal (opened x (depthsOf (c .depths)))) 0 ≡ false = ne-eqb _ 0 (λ q. z (h .refusal ∙ q)) in
+    rw (e, h .refusal) (refusing (depthRefusal (opened x (depthsOf (c .depths)))) p end len n l (λ q. z (h .refusal ∙ q)))
+
+-- ---- inside
+
+module _ {x : Opened} {c c′ : Context} (d : Deeper x c c′) where
+  pub within-open : (p : ℕ) (inside : Depths → Outcome) → within (opened x (depthsOf (c .depths))) p inside ≡ inside (depthsOf (c′ .depths))
+  unfolding within
+  within-open p inside =
+      let e : eqb (depthRefusal (opened x (depthsOf (c .depths)))) 0 ≡ true = eq-eqb _ 0 (ap depthRefusal (sym (d .depths)) ∙ d .shallow) in
+      rw e (ap inside (sym (d .depths)))
+
+  pub level-falls : level (c′ .depths) + 1 ≡ level (c .depths)
+  level-falls = omega (arith, ap total (d .depths), total-opened x (depthsOf (c .depths)), total-most (depthsOf (c′ .depths)) (d .shallow))
+    where
+      total-opened : (x : Opened) (d : Depths) → total (opened x d) ≡ total d + 1
+      total-opened Depth.structure d = omega arith
+      total-opened Depth.array d = omega arith
+      total-opened Depth.variant d = omega arith
+      total-opened Depth.maybe d = omega arith
+
+  pub inside-deeper : {len place : ℕ} → Inside len place c → Inside len place c′
+  inside-deeper w = record { in-frame = w .in-frame; near = omega (arith, d .position, w .near); shallow = d .shallow }
+
+  -- what is made of position, byte order and nested variants
+  pub same-inside : {A : Type 0} (f : ℕ → Bool → ℕ → A) (v : ℕ) → c′ .depths .variant ≡ v → f (c .position) (c .big) v ≡ f (c′ .position) (c′ .big) (c′ .depths .variant)
+  same-inside f v e =
+      sym (ap (λ (p : ℕ). f p (c′ .big) (c′ .depths .variant)) (d .position) ∙ ap (λ (b : Bool). f (c .position) b (c′ .depths .variant)) (d .big) ∙ ap (λ (y : ℕ). f (c .position) (c .big) y) e)

@@ -1,0 +1,21 @@
+-- `reader_cycle::structure::closes_at` meets its contract. Assumes nothing.
+use Rattle.reader_cycle.proofs.Structures.{closes-past, closes-by}
+use borrow.Author.Needs.{needs}
+use Rattle.reader_cycle.proofs.structure.closes_at.Statement.{statement}
+use Rattle.reader_cycle.proofs.structure.closes_at.Tie as tie
+use Rattle.reader_cycle.proofs.structure.closes_at.Reads as reads
+use Rattle.reader_cycle.proofs.structure.closes_at.Lts as lts
+
+returns : tie.Need-returns
+returns c =
+    closes-past _ _ (c .if1 .taken)
+
+shared-slice-read-result : tie.Need-shared-slice-read-result
+shared-slice-read-result c = search needs
+
+returns-2 : tie.Need-returns-2
+returns-2 c =
+    closes-by _ _ (c .before .if1 .left)
+
+pub closes-at-spec : {M : Type 1} → statement M
+closes-at-spec = tie.close (tie.spec returns shared-slice-read-result returns-2)

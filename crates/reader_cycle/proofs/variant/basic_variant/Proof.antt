@@ -1,0 +1,75 @@
+-- `reader_cycle::variant::basic_variant` meets its contract. Assumes nothing.
+use Rattle.reader_cycle.proofs.Variants.{basic-deep, basic-closed, basic-type, basic-aligned}
+use Rattle.reader_cycle.proofs.Deepening.{told, inside-deeper, few-variants}
+use native.Mathlib.Omega.{arith}
+use borrow.Author.Needs.{needs}
+use Rattle.reader_cycle.proofs.variant.basic_variant.Statement.{statement}
+use Rattle.reader_cycle.proofs.variant.basic_variant.Tie as tie
+use Rattle.reader_cycle.proofs.variant.basic_variant.Reads as reads
+use Rattle.reader_cycle.proofs.variant.basic_variant.Lts as lts
+use Rattle.events.proofs.emit.Reads as emit-reads
+use Rattle.reader_basic.proofs.basic.child_key.Reads as child-key-reads
+use Rattle.reader_basic.proofs.refused.Reads as refused-reads
+use Rattle.reader_cycle.proofs.opening.in_variant.Reads as in-variant-reads
+use Rattle.reader_cycle.proofs.variant.close_variant.Reads as close-variant-reads
+
+add-emit : tie.Need-add-emit
+add-emit c = search needs
+
+emit-requires : tie.Need-emit-requires
+emit-requires c κs = search needs
+
+add-emit-2 : tie.Need-add-emit-2
+add-emit-2 c = search needs
+
+emit-requires-2 : tie.Need-emit-requires-2
+emit-requires-2 c κs = search needs
+
+in-variant-requires : tie.Need-in-variant-requires
+in-variant-requires c κs = search needs
+
+refused-requires : tie.Need-refused-requires
+refused-requires c κs = search needs
+
+same-length : tie.Need-same-length
+same-length c = search needs
+
+returns : tie.Need-returns
+returns c =
+    told (c .refused .ensures) (basic-deep _ _ _ _ _ _ _ _ (c .before .before .before .before .before .before .before .before .before .before .before .before .before .pre .1) _ _ (c .before .before .before .before .before .before .before .before .before .emit .ensures .0) (c .before .before .before .before .before .before .before .before .before .emit .ensures .1) _ _ (c .before .before .before .before .before .emit2 .ensures .0) (c .before .before .before .before .before .emit2 .ensures .1) (c .before .before .in-variant .ensures) (c .before .if1 .taken))
+
+sub-child-key : tie.Need-sub-child-key
+sub-child-key c = search needs
+
+child-key-requires : tie.Need-child-key-requires
+child-key-requires c κs =
+    (inside-deeper (c .before .before .in-variant .ensures .deeper (c .before .if1 .left)) (c .before .before .before .before .before .before .before .before .before .before .before .before .before .pre .0), omega (arith, c .before .before .before .before .before .before .before .before .before .before .before .before .before .pre .1 .there, c .before .before .before .before .before .before .before .before .before .before .before .before .before .pre .1 .inside), basic-aligned (basic-type _ _ (c .before .before .before .before .before .before .before .before .before .before .before .before .before .pre .1 .one) (c .before .before .before .before .before .before .before .before .before .before .before .before .before .pre .1 .basic)))
+
+close-variant-requires : tie.Need-close-variant-requires
+close-variant-requires c κs =
+    (c .before .before .before .before .before .before .before .before .before .before .before .before .before .before .before .before .before .pre .0 .in-frame, omega (arith, c .before .before .before .before .before .before .before .before .before .before .before .before .before .before .before .before .before .pre .1 .there, c .before .before .before .before .before .before .before .before .before .before .before .before .before .before .before .before .before .pre .1 .inside))
+
+same-length-2 : tie.Need-same-length-2
+same-length-2 c = search needs
+
+returns-2 : tie.Need-returns-2
+returns-2 c =
+    basic-closed _ _ _ _ _ _ _ _ (c .before .before .before .before .before .before .before .before .before .before .before .before .before .before .before .before .before .before .before .before .pre .1) _ _ (c .before .before .before .before .before .before .before .before .before .before .before .before .before .before .before .before .emit .ensures .0) (c .before .before .before .before .before .before .before .before .before .before .before .before .before .before .before .before .emit .ensures .1) _ _ (c .before .before .before .before .before .before .before .before .before .before .before .before .emit2 .ensures .0) (c .before .before .before .before .before .before .before .before .before .before .before .before .emit2 .ensures .1) (c .before .before .before .before .before .before .before .before .before .in-variant .ensures .deeper (c .before .before .before .before .before .before .before .before .if1 .left)) (few-variants (c .before .before .before .before .before .before .before .before .before .before .before .before .before .before .before .before .before .before .before .before .pre .0)) _ _ (c .before .before .close-variant .ensures _ _ _ _ (c .before .before .before .before .before .before .child-key .ensures _))
+
+pub basic-variant-spec : {M : Type 1} → statement M
+basic-variant-spec =
+    tie.close
+    (tie.spec
+    add-emit
+    emit-requires
+    add-emit-2
+    emit-requires-2
+    in-variant-requires
+    refused-requires
+    same-length
+    returns
+    sub-child-key
+    child-key-requires
+    close-variant-requires
+    same-length-2
+    returns-2)

@@ -1,0 +1,189 @@
+// Arrays, and the walk over a dictionary's entries. Ports ArrayDeserializer and its SeqAccess of gvariant/de.rs.
+use crate::dictionary::entry;
+use crate::opening::in_array;
+use crate::value;
+use events::emit;
+use framing_offsets::FramingOffsets;
+use framing_offsets::from_encoded_array;
+use framing_offsets::next;
+use reader_basic::Answer;
+use reader_basic::Context;
+use reader_basic::basic::close;
+use reader_basic::basic::item_kind;
+use reader_basic::behind;
+use reader_basic::done;
+use reader_basic::numbers::numbers;
+use reader_basic::numbers::readings;
+use reader_basic::refused;
+use reader_basic::texts_run::texts;
+use signature::Letter;
+use signature::items::Item;
+use signature::items::item_of;
+use signature::shapes::Shape;
+ghost use mathlib.Core.Path.{_≡_};
+ghost use mathlib.Core.Bool.{true, false};
+ghost use Prim.Native.Nat.{_≤_};
+ghost use lib.ListN.{length, drop};
+ghost use Rattle.framing_offsets.specs.Tables.{tableIn};
+ghost use Rattle.signature.specs.Places.{letterAt};
+ghost use Rattle.signature.specs.Trees.{treeAt, Described};
+ghost use Rattle.reader_basic.specs.Answers.{From};
+ghost use Rattle.reader_basic.specs.Parts.{Stands, Inside};
+ghost use Rattle.reader_cycle.specs.Places.{insideOf, elementKind, elementsOf, framedOf, Repeated};
+
+pub(crate) fn array(
+    text: &[u8],
+    shapes: &[u16],
+    shape: Shape,
+    part: &[u8],
+    lead: usize,
+    place: usize,
+    context: Context,
+    out: &mut [u64],
+    n: usize,
+) -> Answer
+    requires { ⌜ Described (now text) (now shapes) shape × (letterAt (now text) (shape .at) ≡ Letter.Array) × Inside (length (now part)) place context × (lead ≤ length (now part)) ⌝ }
+    ensures { λ r. ⌜ From (insideOf context (treeAt (now (text .entry)) (shape .at)) place (now (part .entry)) lead) (now (part .entry)) lead n (now (out .entry)) (now (out .exit)) r ⌝ }
+{
+    let inner = in_array(context);
+    let refusal = inner.refusal;
+    if refusal != 0 {
+        return refused(refusal, 0, n);
+    }
+    let deeper = inner.context;
+    let item = item_of(text, shapes, shape);
+    let kind = item_kind(item);
+    let fixed = item.fixed;
+    if fixed {
+        let m = emit(out, n, kind, place + lead, 0);
+        let r = elements(text, shapes, item, part, lead, place, deeper, out, m);
+        return close(r, place + lead, out);
+    }
+    let table = from_encoded_array(&part[lead..]);
+    let fault = table.refusal;
+    let ends = table.offsets;
+    if fault != 0 {
+        return refused(fault, 0, n);
+    }
+    let m = emit(out, n, kind, place + lead, 0);
+    let r = framed(text, shapes, item, ends, part, lead, place, deeper, out, m);
+    close(r, place + lead, out)
+}
+
+// Elements that are fixed, one behind another to the part's end.
+pub(crate) fn elements(
+    text: &[u8],
+    shapes: &[u16],
+    item: Item,
+    part: &[u8],
+    lead: usize,
+    place: usize,
+    context: Context,
+    out: &mut [u64],
+    n: usize,
+) -> Answer
+    requires { ⌜ Repeated (now text) (now shapes) item × (item .fixed ≡ true) × Inside (length (now part)) place context × (lead ≤ length (now part)) ⌝ }
+    ensures { λ r. ⌜ From (elementsOf context (now (text .entry)) item place (now (part .entry)) lead) (now (part .entry)) lead n (now (out .entry)) (now (out .exit)) r ⌝ }
+{
+    let plain = item.number;
+    if let Letter::Number { code, width } = plain {
+        return numbers(part, lead, place, context, code, width, out, n);
+    }
+    let is_entry = item.entry;
+    let child = item.child;
+    let len = part.len();
+    let mut u = 0;
+    let mut m = n;
+    while lead + u < len {
+        let j = lead + u;
+        let r = if is_entry {
+            entry(
+                text,
+                shapes,
+                item,
+                part,
+                len,
+                j,
+                len,
+                place,
+                context,
+                out,
+                m,
+            )
+        } else {
+            value(text, shapes, child, part, j, len, place, context, out, m)
+        };
+        let refusal = r.refusal;
+        if refusal != 0 {
+            return behind(u, r);
+        }
+        u = u + r.used;
+        m = r.count;
+    }
+    done(u, m)
+}
+
+// Elements that are not fixed, each up to the end that the table gives; then the table.
+pub(crate) fn framed(
+    text: &[u8],
+    shapes: &[u16],
+    item: Item,
+    offsets: FramingOffsets,
+    part: &[u8],
+    lead: usize,
+    place: usize,
+    context: Context,
+    out: &mut [u64],
+    n: usize,
+) -> Answer
+    requires { ⌜ Repeated (now text) (now shapes) item × (item .fixed ≡ false) × Inside (length (now part)) place context × (lead ≤ length (now part)) × Stands (tableIn offsets) (drop lead (now part)) ⌝ }
+    ensures { λ r. ⌜ From (framedOf context (now (text .entry)) item offsets place (now (part .entry)) lead) (now (part .entry)) lead n (now (out .entry)) (now (out .exit)) r ⌝ }
+{
+    let held = item.number;
+    if let Letter::Number { code, width } = held {
+        return readings(offsets, part, lead, place, context, code, width, out, n);
+    }
+    let plain = element_kind(item);
+    if let Letter::Text { code } = plain {
+        return texts(offsets, part, lead, place, code, out, n);
+    }
+    let is_entry = item.entry;
+    let child = item.child;
+    let table = &part[lead..];
+    let many = offsets.count;
+    let b = lead + offsets.start;
+    let mut i = 0;
+    let mut u = 0;
+    let mut m = n;
+    while i < many {
+        let j = lead + u;
+        let offset = next(table, offsets, i);
+        let e = lead + offset.value;
+        let r = if is_entry {
+            entry(text, shapes, item, part, b, j, e, place, context, out, m)
+        } else {
+            value(text, shapes, child, part, j, e, place, context, out, m)
+        };
+        let refusal = r.refusal;
+        if refusal != 0 {
+            return behind(u, r);
+        }
+        u = u + r.used;
+        m = r.count;
+        i = i + 1;
+    }
+    done(u + (part.len() - b), m)
+}
+
+// The letter of an array's element; of a dictionary there is none.
+fn element_kind(item: Item) -> Letter
+    ensures { λ r. ⌜ r ≡ elementKind item ⌝ }
+{
+    let entry = item.entry;
+    let child = item.child;
+    if entry {
+        return Letter::End;
+    }
+    let kind = child.kind;
+    kind
+}

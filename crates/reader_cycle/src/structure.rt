@@ -1,0 +1,151 @@
+// Structures. Ports StructureDeserializer of gvariant/de.rs.
+use crate::ends::Ends;
+use crate::ends::past;
+use crate::opening::in_structure;
+use crate::value;
+use events::emit;
+use framing_offset_size::FramingOffsetSize;
+use meaning::letters::STRUCTURE_LETTER;
+use reader_basic::Answer;
+use reader_basic::Context;
+use reader_basic::basic::close;
+use reader_basic::basic::end_padding;
+use reader_basic::basic::offset_before;
+use reader_basic::behind;
+use reader_basic::refused;
+use signature::Letter;
+use signature::shapes::Shape;
+use signature::shapes::shape_in;
+ghost use mathlib.Core.Path.{_≡_};
+ghost use mathlib.Core.Bool.{true};
+ghost use mathlib.Core.List.{List};
+ghost use Prim.Native.Nat.{ℕ, _+_, _-_, _≤_};
+ghost use lib.ListN.{length};
+ghost use Rattle.meaning.specs.Limits.{largestFrame};
+ghost use Rattle.meaning.specs.Offsets.{encodedWidth};
+ghost use Rattle.meaning.specs.Outcome.{Outcome, chain, passing};
+ghost use Rattle.meaning.specs.Reading.{child, endPadding};
+ghost use Rattle.meaning.specs.Padding.{Aligns};
+ghost use Rattle.signature.specs.Places.{letterAt};
+ghost use Rattle.signature.specs.Trees.{treeAt, Described};
+ghost use Rattle.reader_basic.specs.Answers.{From, Between};
+ghost use Rattle.reader_basic.specs.Parts.{Inside};
+ghost use Rattle.reader_cycle.specs.Places.{insideOf, fieldsOf};
+ghost use Rattle.reader_cycle.specs.Children.{fieldEnds, ClosesAt};
+
+pub(crate) fn structure(
+    text: &[u8],
+    shapes: &[u16],
+    shape: Shape,
+    part: &[u8],
+    lead: usize,
+    place: usize,
+    context: Context,
+    out: &mut [u64],
+    n: usize,
+) -> Answer
+    requires { ⌜ Described (now text) (now shapes) shape × (letterAt (now text) (shape .at) ≡ Letter.OpenStructure) × Inside (length (now part)) place context × (lead ≤ length (now part)) ⌝ }
+    ensures { λ r. ⌜ From (insideOf context (treeAt (now (text .entry)) (shape .at)) place (now (part .entry)) lead) (now (part .entry)) lead n (now (out .entry)) (now (out .exit)) r ⌝ }
+{
+    let inner = in_structure(context);
+    let refusal = inner.refusal;
+    if refusal != 0 {
+        return refused(refusal, 0, n);
+    }
+    let deeper = inner.context;
+    let m = emit(out, n, STRUCTURE_LETTER, place + lead, 0);
+    let r = fields(text, shapes, shape, part, lead, place, deeper, out, m);
+    close(r, place + lead, out)
+}
+
+// The fields of a structure. One that is neither fixed nor last takes its end from the back of the table.
+pub(crate) fn fields(
+    text: &[u8],
+    shapes: &[u16],
+    shape: Shape,
+    part: &[u8],
+    lead: usize,
+    place: usize,
+    context: Context,
+    out: &mut [u64],
+    n: usize,
+) -> Answer
+    requires { ⌜ Described (now text) (now shapes) shape × (letterAt (now text) (shape .at) ≡ Letter.OpenStructure) × Inside (length (now part)) place context × (lead ≤ length (now part)) ⌝ }
+    ensures { λ r. ⌜ From (fieldsOf context (now (text .entry)) shape place (now (part .entry)) lead) (now (part .entry)) lead n (now (out .entry)) (now (out .exit)) r ⌝ }
+{
+    let mut i = shape.at + 1;
+    let mut end = part.len();
+    let mut u = 0;
+    let mut m = n;
+    loop {
+        let field = shape_in(text, shapes, i);
+        let j = lead + u;
+        if closes_at(text, field.next) {
+            let r = value(text, shapes, field, part, j, end, place, context, out, m);
+            let s = close_fields(shape, part, j, end, place, context.position, r);
+            return behind(u, s);
+        }
+        let ends = field_ends(part, lead, field.fixed, end);
+        let fault = ends.refusal;
+        if fault != 0 {
+            return refused(fault, u, m);
+        }
+        let e = ends.child;
+        let r = value(text, shapes, field, part, j, e, place, context, out, m);
+        let refusal = r.refusal;
+        if refusal != 0 {
+            return behind(u, r);
+        }
+        end = end - ends.width;
+        u = u + r.used;
+        m = r.count;
+        i = field.next;
+    }
+}
+
+// Whether a structure's type ends at a place of the text.
+pub(crate) fn closes_at(text: &[u8], at: usize) -> bool
+    ensures { λ r. ⌜ ClosesAt (now (text .entry)) at r ⌝ }
+{
+    if text.len() <= at {
+        return false;
+    }
+    text[at] == b')'
+}
+
+// Where a field that is not the last ends, in a structure that begins at lead and whose table reaches to an end.
+pub(crate) fn field_ends(part: &[u8], lead: usize, fixed: bool, end: usize) -> Ends
+    requires { ⌜ (lead ≤ length (now part)) × (end ≤ length (now part)) × (length (now part) ≤ largestFrame) ⌝ }
+    ensures { λ r. ⌜ r ≡ fieldEnds lead (encodedWidth (length (now (part .entry)) - lead)) fixed end (now (part .entry)) ⌝ }
+{
+    if fixed {
+        return Ends::at(end, 0);
+    }
+    let size = FramingOffsetSize::for_encoded_container(part.len() - lead);
+    let offset = offset_before(part, lead, size, end);
+    let refusal = offset.refusal;
+    if refusal != 0 {
+        return Ends::missing(refusal);
+    }
+    Ends::at(lead + offset.value, size.width())
+}
+
+// The end of a structure whose last field, from j to an end, was read: padding where it is fixed, else the table.
+pub(crate) fn close_fields(
+    shape: Shape,
+    part: &[u8],
+    j: usize,
+    end: usize,
+    place: usize,
+    position: usize,
+    r: Answer,
+) -> Answer
+    requires { ⌜ (place + length (now part) ≤ largestFrame) × (position ≤ largestFrame) × Aligns (shape .alignment) × (j + r .used ≤ length (now part)) × (end ≤ length (now part)) × (shape .fixed ≡ true → end ≡ length (now part)) ⌝ }
+    ensures { λ s. ⌜ ((read : ℕ → List ℕ → Outcome) (n : ℕ) (l l′ : List ℕ) → Between (child read place (now (part .entry)) j end) (now (part .entry)) j end n l l′ r → From (chain (endPadding position (shape .fixed) (shape .alignment) place (now (part .entry)) j (child read place (now (part .entry)) j end)) (passing (length (now (part .entry)) - end))) (now (part .entry)) j n l l′ s) ⌝ }
+{
+    let whole = shape.fixed;
+    if whole {
+        return end_padding(part, j, place, position, shape.alignment, r);
+    }
+    past(r, part.len() - end)
+}

@@ -1,0 +1,155 @@
+// Variants. Ports ValueDeserializer of gvariant/de.rs.
+use crate::opening::in_variant;
+use crate::value;
+use events::emit;
+use meaning::letters::CONTAINER_END;
+use meaning::letters::SIGNATURE_LETTER;
+use meaning::letters::VARIANT_LETTER;
+use meaning::limits::LONGEST_TYPE;
+use meaning::refusals::NO_SEPARATOR;
+use meaning::refusals::VARIANT_TYPE_REFUSED;
+use reader_basic::Answer;
+use reader_basic::Context;
+use reader_basic::basic::child_key;
+use reader_basic::basic::separator;
+use reader_basic::done;
+use reader_basic::refused;
+use signature::Letter;
+use signature::key_alignment;
+use signature::letter_at;
+use signature::shapes::shape_in;
+use signature::shapes::shapes_of;
+use texts::text;
+use texts::text_refusal;
+ghost use mathlib.Core.Path.{_≡_};
+ghost use mathlib.Core.List.{List, [], _∷_};
+ghost use Prim.Native.Nat.{ℕ, _+_, _-_, _≤_};
+ghost use lib.ListN.{length};
+ghost use Rattle.meaning.specs.Limits.{largestFrame};
+ghost use Rattle.meaning.specs.Letters.{variantLetter, signatureLetter};
+ghost use Rattle.meaning.specs.Events.{opening};
+ghost use Rattle.meaning.specs.Texts.{withoutFinalNul};
+ghost use Rattle.meaning.specs.Outcome.{Outcome, after, chain, closingAt};
+ghost use Rattle.meaning.specs.Reading.{remaining, textAs};
+ghost use Rattle.reader_basic.specs.Answers.{Done, From};
+ghost use Rattle.reader_basic.specs.Parts.{Inside};
+ghost use Rattle.reader_cycle.specs.Places.{insideOf, variantTree};
+ghost use Rattle.reader_cycle.specs.Children.{onlyLetter, HoldsBasic};
+
+// A variant: its type stands at its end, behind a nul.
+pub(crate) fn variant(
+    part: &[u8],
+    lead: usize,
+    place: usize,
+    context: Context,
+    out: &mut [u64],
+    n: usize,
+) -> Answer
+    requires { ⌜ Inside (length (now part)) place context × (lead ≤ length (now part)) ⌝ }
+    ensures { λ r. ⌜ From (insideOf context variantTree place (now (part .entry)) lead) (now (part .entry)) lead n (now (out .entry)) (now (out .exit)) r ⌝ }
+{
+    let s = separator(&part[lead..]);
+    if s == 0 {
+        return refused(NO_SEPARATOR, 0, n);
+    }
+    let from = lead + s;
+    let text = &part[from..];
+    let kind = only_letter(text);
+    if key_alignment(kind) != 0 {
+        return basic_variant(kind, part, lead, from, place, context, out, n);
+    }
+    let head = type_text(text, place + lead, place + from, out, n);
+    let fault = head.refusal;
+    let g = head.count;
+    if fault != 0 {
+        return head;
+    }
+    let mut shapes = [0u16; LONGEST_TYPE];
+    if !shapes_of(text, &mut shapes) {
+        return refused(VARIANT_TYPE_REFUSED, 0, g);
+    }
+    let inner = in_variant(context);
+    let refusal = inner.refusal;
+    if refusal != 0 {
+        return refused(refusal, 0, g);
+    }
+    let deeper = inner.context;
+    let shape = shape_in(text, &shapes, 0);
+    let e = from - 1;
+    let r = value(text, &shapes, shape, part, lead, e, place, deeper, out, g);
+    close_variant(r, part, lead, place, out)
+}
+
+// The letter of a type text that has one alone.
+pub(crate) fn only_letter(text: &[u8]) -> Letter
+    ensures { λ r. ⌜ r ≡ onlyLetter (now (text .entry)) ⌝ }
+{
+    if text.len() != 1 {
+        return Letter::End;
+    }
+    letter_at(text, 0)
+}
+
+// A variant whose type, at `from`, is one basic letter: it holds nothing further, and needs no table of shapes.
+pub(crate) fn basic_variant(
+    kind: Letter,
+    part: &[u8],
+    lead: usize,
+    from: usize,
+    place: usize,
+    context: Context,
+    out: &mut [u64],
+    n: usize,
+) -> Answer
+    requires { ⌜ Inside (length (now part)) place context × HoldsBasic (now part) lead from kind ⌝ }
+    ensures { λ r. ⌜ From (insideOf context variantTree place (now (part .entry)) lead) (now (part .entry)) lead n (now (out .entry)) (now (out .exit)) r ⌝ }
+{
+    let m = emit(out, n, VARIANT_LETTER, place + lead, 0);
+    let g = emit(out, m, SIGNATURE_LETTER, place + from, 1);
+    let inner = in_variant(context);
+    let refusal = inner.refusal;
+    if refusal != 0 {
+        return refused(refusal, 0, g);
+    }
+    let r = child_key(kind, part, lead, from - 1, place, inner.context, out, g);
+    close_variant(r, part, lead, place, out)
+}
+
+// The event of a variant, and that of its type's text, which is judged before its type is.
+pub(crate) fn type_text(
+    signature: &[u8],
+    at: usize,
+    from: usize,
+    out: &mut [u64],
+    n: usize,
+) -> Answer
+    ensures { λ r. ⌜ Done (after 0 (opening variantLetter at ∷ []) (textAs signatureLetter from (withoutFinalNul (now (signature .entry))))) 0 0 n (now (out .entry)) (now (out .exit)) r ⌝ }
+{
+    let m = emit(out, n, VARIANT_LETTER, at, 0);
+    let letters = text(signature);
+    let refusal = text_refusal(letters);
+    if refusal != 0 {
+        return refused(refusal, 0, m);
+    }
+    let g = emit(out, m, SIGNATURE_LETTER, from, letters.len() as u64);
+    done(0, g)
+}
+
+// Closes a variant that is done: all of it is used.
+pub(crate) fn close_variant(
+    r: Answer,
+    part: &[u8],
+    lead: usize,
+    place: usize,
+    out: &mut [u64],
+) -> Answer
+    requires { ⌜ (place + length (now part) ≤ largestFrame) × (lead ≤ length (now part)) ⌝ }
+    ensures { λ s. ⌜ ((o : Outcome) (end n : ℕ) (l : List ℕ) → Done o end (length (now (part .entry)) - lead) n l (now (out .entry)) r → From (chain (chain o (remaining (length (now (part .entry)) - lead))) (closingAt (place + lead))) (now (part .entry)) lead n l (now (out .exit)) s) ⌝ }
+{
+    let refusal = r.refusal;
+    if refusal != 0 {
+        return r;
+    }
+    let m = emit(out, r.count, CONTAINER_END, place + part.len(), 0);
+    done(part.len() - lead, m)
+}

@@ -23,6 +23,7 @@ use Rattle.meaning_writing.specs.Strict.{Test, testShapes, allZero, basicWritte
 use Rattle.meaning.proofs.PaddingLaws.{by1, by2, by4, by8, by-alignment}
 use Rattle.meaning.proofs.OffsetLaws.{encodedWidth-1, encodedWidth-2, encodedWidth-4}
 use Rattle.meaning.proofs.OffsetSteps.{own-width}
+use Rattle.meaning.proofs.NumberSteps.{spelled-byte}
 use Rattle.utils.specs.Checks.{passed, failed, paddingFor}
 use Rattle.utils.specs.declared.Checked.{Checked}
 use Rattle.byte_order.specs.Standing.{numberAt, numberOf}
@@ -167,6 +168,12 @@ offset-is l place w r h a q =
     let u : place + w - place ≡ w = omega arith in
     let e : numberOf w false l place ≡ numberAt w false l place = ap (λ (b : Bool). pick b (numberAt w false l place) (failed noValue)) (a .listed) in
     ap (λ (x : Checked). x .value) (q ∙ e ∙ numberAt-is w false l place) ∙ rw (le-leb (place + w) (length l) h, u)
+
+pub offset-one : (l : List ℕ) (place w r : ℕ) → place + w ≤ length l → w ≡ 1 → r ≡ getD l place 0 → r ≡ value (part place (place + w) l)
+unfolding part
+offset-one l place w r h e q =
+    let u : place + w - place ≡ 1 = omega arith in
+    q ∙ sym (spelled-byte false place l (omega arith)) ∙ rw u
 
 pub element-fixed : (fx : Bool) (l : List ℕ) (w j x r : ℕ) → fx ≡ true → r ≡ x → r ≡ elementEnd fx l w j x
 unfolding elementEnd

@@ -102,11 +102,20 @@ pub fn fixed_end(x: Extent, place: usize) -> usize
     aligned(place, x.alignment) + x.size
 }
 
-// The offset at a place.
+fn wide(byte: u8) -> usize
+    ensures { λ r. ⌜ r ≡ byte ⌝ }
+{
+    byte as usize
+}
+
+// The offset at a place; in small containers it is one byte.
 pub fn offset_at(part: &[u8], place: usize, width: usize) -> usize
     requires { ⌜ (place + width ≤ length (now part)) × Aligns width ⌝ }
     ensures { λ r. ⌜ r ≡ value (partOf place (place + width) (now (part .entry))) ⌝ }
 {
+    if width == 1 {
+        return wide(part[place]);
+    }
     let found = number_at(part, place, width, false);
     found.value
 }

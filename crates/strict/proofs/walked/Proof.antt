@@ -51,18 +51,26 @@ slice-aggregate-value c = search needs
 
 -- src/lib.rt:47:9
 value-requires : tie.Need-value-requires
-value-requires c κs =
-    (front-placed _ _ (c .before .before .before .before .before .before .before .tables-of .ensures .filled (granted (c .before .before .before .before .before .if1 .left))) (front _ (sym (c .before .before .before .before .before .before .before .tables-of .ensures .judged) ∙ granted (c .before .before .before .before .before .if1 .left))) _ (c .before .shape-in .ensures), inside-frame (c .before .before .before .before .if2 .left) (c .before .before .before .new .ensures))
+value-requires c κs = (
+  front-placed _ _ (c .before .before .before .before .before .before .before .tables-of .ensures .filled (granted (c .before .before .before .before .before .if1 .left)))
+      (front _ (sym (c .before .before .before .before .before .before .before .tables-of .ensures .judged) ∙ granted (c .before .before .before .before .before .if1 .left))) _
+      (c .before .shape-in .ensures),
+  inside-frame (c .before .before .before .before .if2 .left) (c .before .before .before .new .ensures),
+)
 
 -- src/lib.rt:49:9
 returns-3 : tie.Need-returns-3
 returns-3 c =
-    walk-written _ _ (front _ (sym (c .before .before .before .before .before .before .before .before .before .tables-of .ensures .judged) ∙ granted (c .before .before .before .before .before .before .before .if1 .left))) (c .before .before .before .before .before .before .if2 .left) _ (c .before .before .before .before .before .new .ensures) _ (ap (λ (s : Shape). s .at) (c .before .before .before .shape-in .ensures)) _ (c .before .value .ensures) (c .if3 .taken)
+    walk-written _ _ (front _ (sym (c .before .before .before .before .before .before .before .before .before .tables-of .ensures .judged) ∙ granted (c .before .before .before .before .before .before .before .if1 .left)))
+    (c .before .before .before .before .before .before .if2 .left) _ (c .before .before .before .before .before .new .ensures) _ (ap (λ (s : Shape). s .at) (c .before .before .before .shape-in .ensures)) _
+    (c .before .value .ensures) (c .if3 .taken)
 
 -- src/lib.rt:35:1
 returns-4 : tie.Need-returns-4
 returns-4 c =
-    walk-not _ _ (front _ (sym (c .before .before .before .before .before .before .before .before .before .tables-of .ensures .judged) ∙ granted (c .before .before .before .before .before .before .before .if1 .left))) (c .before .before .before .before .before .before .if2 .left) _ (c .before .before .before .before .before .new .ensures) _ (ap (λ (s : Shape). s .at) (c .before .before .before .shape-in .ensures)) _ (c .before .value .ensures) (c .if3 .left)
+    walk-not _ _ (front _ (sym (c .before .before .before .before .before .before .before .before .before .tables-of .ensures .judged) ∙ granted (c .before .before .before .before .before .before .before .if1 .left)))
+    (c .before .before .before .before .before .before .if2 .left) _ (c .before .before .before .before .before .new .ensures) _ (ap (λ (s : Shape). s .at) (c .before .before .before .shape-in .ensures)) _
+    (c .before .value .ensures) (c .if3 .left)
 
 pub walked-spec : {M : Type 1} → statement M
 walked-spec =

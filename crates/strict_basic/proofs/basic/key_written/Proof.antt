@@ -47,7 +47,8 @@ letter-written-requires c κs = search needs
 -- src/basic.rt:75:1
 returns-2 : tie.Need-returns-2
 returns-2 c =
-    key-on (c .before .before .before .before .before .before .args .key) _ _ _ _ (c .before .before .before .before .extent-of .ensures) _ (c .before .before .before .start-of .ensures) _ (granted (c .before .before .if1 .left)) (c .letter-written .ensures)
+    key-on (c .before .before .before .before .before .before .args .key) _ _ _ _ (c .before .before .before .before .extent-of .ensures) _ (c .before .before .before .start-of .ensures) _
+    (granted (c .before .before .if1 .left)) (c .letter-written .ensures)
 
 pub key-written-spec : {M : Type 1} → statement M
 key-written-spec =

@@ -54,17 +54,26 @@ lone-if-requires-5 c κs = search needs
 -- src/basic.rt:130:1
 returns-2 : tie.Need-returns-2
 returns-2 c =
-    record { lone = λ z. lone-bool _ (c .before .before .before .if1 .left) _ (c .lone-if2 .ensures .1 ∙ c .before .before .before .before .letter-at .ensures) (sym (c .before .before .before .before .letter-at .ensures) ∙ c .before .enum-told .given .1) }
+    record {
+      lone = λ z. lone-bool _ (c .before .before .before .if1 .left) _ (c .lone-if2 .ensures .1 ∙ c .before .before .before .before .letter-at .ensures) (sym (c .before .before .before .before .letter-at .ensures)
+          ∙ c .before .enum-told .given .1);
+    }
 
 -- src/basic.rt:130:1
 returns-3 : tie.Need-returns-3
 returns-3 c =
-    record { lone = λ z. lone-number _ (c .before .before .before .if1 .left) _ _ _ (c .lone-if3 .ensures .1 ∙ c .before .before .before .before .letter-at .ensures) (sym (c .before .before .before .before .letter-at .ensures) ∙ c .before .enum-told2 .given .1) }
+    record {
+      lone = λ z. lone-number _ (c .before .before .before .if1 .left) _ _ _ (c .lone-if3 .ensures .1 ∙ c .before .before .before .before .letter-at .ensures) (sym (c .before .before .before .before .letter-at .ensures)
+          ∙ c .before .enum-told2 .given .1);
+    }
 
 -- src/basic.rt:130:1
 returns-4 : tie.Need-returns-4
 returns-4 c =
-    record { lone = λ z. lone-text _ (c .before .before .before .if1 .left) _ _ (c .lone-if4 .ensures .1 ∙ c .before .before .before .before .letter-at .ensures) (sym (c .before .before .before .before .letter-at .ensures) ∙ c .before .enum-told3 .given .1) }
+    record {
+      lone = λ z. lone-text _ (c .before .before .before .if1 .left) _ _ (c .lone-if4 .ensures .1 ∙ c .before .before .before .before .letter-at .ensures) (sym (c .before .before .before .before .letter-at .ensures)
+          ∙ c .before .enum-told3 .given .1);
+    }
 
 -- src/basic.rt:130:1
 returns-5 : tie.Need-returns-5

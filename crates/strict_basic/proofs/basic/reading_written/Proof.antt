@@ -17,12 +17,14 @@ returns c =
 -- src/basic.rt:138:9
 returns-2 : tie.Need-returns-2
 returns-2 c =
-    sym (ap (λ (b : Bool). pick b true (c .before .before .args .room && eqb (c .before .before .args .len) (c .before .before .args .width))) (ne-eqb (c .before .before .args .len) 0 (c .before .if1 .left)) ∙ ap (λ (b : Bool). b && eqb (c .before .before .args .len) (c .before .before .args .width)) (c .if2 .taken))
+    sym (ap (λ (b : Bool). pick b true (c .before .before .args .room && eqb (c .before .before .args .len) (c .before .before .args .width))) (ne-eqb (c .before .before .args .len) 0
+    (c .before .if1 .left)) ∙ ap (λ (b : Bool). b && eqb (c .before .before .args .len) (c .before .before .args .width)) (c .if2 .taken))
 
 -- src/basic.rt:131:1
 returns-3 : tie.Need-returns-3
 returns-3 c =
-    sym (ap (λ (b : Bool). pick b true (c .before .before .args .room && eqb (c .before .before .args .len) (c .before .before .args .width))) (ne-eqb (c .before .before .args .len) 0 (c .before .if1 .left)) ∙ ap (λ (b : Bool). b && eqb (c .before .before .args .len) (c .before .before .args .width)) (c .if2 .left))
+    sym (ap (λ (b : Bool). pick b true (c .before .before .args .room && eqb (c .before .before .args .len) (c .before .before .args .width))) (ne-eqb (c .before .before .args .len) 0
+    (c .before .if1 .left)) ∙ ap (λ (b : Bool). b && eqb (c .before .before .args .len) (c .before .before .args .width)) (c .if2 .left))
 
 pub reading-written-spec : {M : Type 1} → statement M
 reading-written-spec = tie.close (tie.spec returns returns-2 returns-3)

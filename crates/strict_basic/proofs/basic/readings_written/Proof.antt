@@ -40,7 +40,8 @@ start-of-requires c κs =
 -- src/basic.rt:159:13
 returns : tie.Need-returns Inv-loop μ-loop
 returns c =
-    readings-stop _ _ _ _ _ _ _ (c .before .before .before .before .loop .inv) (c .before .before .before .loop-test .taken) _ (element-other _ _ _ _ _ _ refl (c .before .before .offset-at .ensures)) _ (reading-absent _ _ _ _ _ _ (c .before .start-of .ensures) (denied (c .if1 .taken)) _) refl
+    readings-stop _ _ _ _ _ _ _ (c .before .before .before .before .loop .inv) (c .before .before .before .loop-test .taken) _ (element-other _ _ _ _ _ _ refl (c .before .before .offset-at .ensures)) _
+    (reading-absent _ _ _ _ _ _ (c .before .start-of .ensures) (denied (c .if1 .taken)) _) refl
 
 -- src/basic.rt:161:29
 sub-reading-written : tie.Need-sub-reading-written Inv-loop μ-loop
@@ -55,12 +56,19 @@ reading-written-requires c κs =
 -- src/basic.rt:162:13
 returns-2 : tie.Need-returns-2 Inv-loop μ-loop
 returns-2 c =
-    readings-stop _ _ _ _ _ _ _ (c .before .before .before .before .before .before .before .loop .inv) (c .before .before .before .before .before .before .loop-test .taken) _ (element-other _ _ _ _ _ _ refl (c .before .before .before .before .before .offset-at .ensures)) _ (reading-there _ _ _ _ _ _ (c .before .before .before .before .start-of .ensures) _ _ (granted (c .before .before .before .if1 .left)) (c .before .before .before .before .before .before .before .before .before .pre .1) (c .before .reading-written .ensures)) (denied (c .if2 .taken))
+    readings-stop _ _ _ _ _ _ _ (c .before .before .before .before .before .before .before .loop .inv) (c .before .before .before .before .before .before .loop-test .taken) _
+    (element-other _ _ _ _ _ _ refl (c .before .before .before .before .before .offset-at .ensures)) _ (reading-there _ _ _ _ _ _ (c .before .before .before .before .start-of .ensures) _ _
+    (granted (c .before .before .before .if1 .left)) (c .before .before .before .before .before .before .before .before .before .pre .1) (c .before .reading-written .ensures))
+    (denied (c .if2 .taken))
 
 -- src/basic.rt:165:16
 add-from : tie.Need-add-from Inv-loop μ-loop
 add-from c =
-    omega (arith, readings-room _ _ _ _ _ _ _ (c .before .before .before .before .before .before .before .loop .inv) (c .before .before .before .before .before .before .loop-test .taken), c .before .before .before .before .before .before .before .before .before .pre .0)
+    omega (
+      arith,
+      readings-room _ _ _ _ _ _ _ (c .before .before .before .before .before .before .before .loop .inv) (c .before .before .before .before .before .before .loop-test .taken),
+      c .before .before .before .before .before .before .before .before .before .pre .0,
+    )
 
 -- src/basic.rt:166:13
 add-i : tie.Need-add-i Inv-loop μ-loop
@@ -75,7 +83,10 @@ loop-less c =
 -- src/basic.rt:154:5
 loop-again : tie.Need-loop-again Inv-loop μ-loop
 loop-again c =
-    readings-next _ _ _ _ _ _ _ (c .before .before .before .before .before .before .before .loop .inv) (c .before .before .before .before .before .before .loop-test .taken) _ (element-other _ _ _ _ _ _ refl (c .before .before .before .before .before .offset-at .ensures)) _ (reading-there _ _ _ _ _ _ (c .before .before .before .before .start-of .ensures) _ _ (granted (c .before .before .before .if1 .left)) (c .before .before .before .before .before .before .before .before .before .pre .1) (c .before .reading-written .ensures)) (granted (c .if2 .left)) (c .before .before .before .before .start-of .ensures .within (granted (c .before .before .before .if1 .left)))
+    readings-next _ _ _ _ _ _ _ (c .before .before .before .before .before .before .before .loop .inv) (c .before .before .before .before .before .before .loop-test .taken) _
+    (element-other _ _ _ _ _ _ refl (c .before .before .before .before .before .offset-at .ensures)) _ (reading-there _ _ _ _ _ _ (c .before .before .before .before .start-of .ensures) _ _
+    (granted (c .before .before .before .if1 .left)) (c .before .before .before .before .before .before .before .before .before .pre .1) (c .before .reading-written .ensures))
+    (granted (c .if2 .left)) (c .before .before .before .before .start-of .ensures .within (granted (c .before .before .before .if1 .left)))
 
 -- src/basic.rt:144:1
 returns-3 : tie.Need-returns-3 Inv-loop μ-loop

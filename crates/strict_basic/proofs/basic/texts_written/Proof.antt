@@ -40,7 +40,8 @@ returns c =
 -- src/basic.rt:106:13
 returns-2 : tie.Need-returns-2 Inv-loop μ-loop
 returns-2 c =
-    texts-stop _ _ _ _ _ (c .before .before .before .before .loop .inv) (c .before .before .before .loop-test .taken) _ (element-other _ _ _ _ _ _ refl (c .before .before .offset-at .ensures)) _ (text-past _ _ _ _ (c .before .if1 .left) (c .if2 .taken)) refl
+    texts-stop _ _ _ _ _ (c .before .before .before .before .loop .inv) (c .before .before .before .loop-test .taken) _ (element-other _ _ _ _ _ _ refl (c .before .before .offset-at .ensures)) _
+    (text-past _ _ _ _ (c .before .if1 .left) (c .if2 .taken)) refl
 
 -- src/basic.rt:108:26
 part-text-written-start : tie.Need-part-text-written-start Inv-loop μ-loop
@@ -60,12 +61,18 @@ text-written-requires c κs =
 -- src/basic.rt:109:13
 returns-3 : tie.Need-returns-3 Inv-loop μ-loop
 returns-3 c =
-    texts-stop _ _ _ _ _ (c .before .before .before .before .before .before .before .loop .inv) (c .before .before .before .before .before .before .loop-test .taken) _ (element-other _ _ _ _ _ _ refl (c .before .before .before .before .before .offset-at .ensures)) _ (text-here _ _ _ _ _ (c .before .before .before .before .if1 .left) (c .before .before .before .if2 .left) (c .before .text-written .ensures)) (denied (c .if3 .taken))
+    texts-stop _ _ _ _ _ (c .before .before .before .before .before .before .before .loop .inv) (c .before .before .before .before .before .before .loop-test .taken) _
+    (element-other _ _ _ _ _ _ refl (c .before .before .before .before .before .offset-at .ensures)) _ (text-here _ _ _ _ _ (c .before .before .before .before .if1 .left) (c .before .before .before .if2 .left)
+    (c .before .text-written .ensures)) (denied (c .if3 .taken))
 
 -- src/basic.rt:112:16
 add-from : tie.Need-add-from Inv-loop μ-loop
 add-from c =
-    omega (arith, texts-room _ _ _ _ _ (c .before .before .before .before .before .before .before .loop .inv) (c .before .before .before .before .before .before .loop-test .taken), c .before .before .before .before .before .before .before .before .before .pre .0)
+    omega (
+      arith,
+      texts-room _ _ _ _ _ (c .before .before .before .before .before .before .before .loop .inv) (c .before .before .before .before .before .before .loop-test .taken),
+      c .before .before .before .before .before .before .before .before .before .pre .0,
+    )
 
 -- src/basic.rt:113:13
 add-i : tie.Need-add-i Inv-loop μ-loop
@@ -80,7 +87,9 @@ loop-less c =
 -- src/basic.rt:100:5
 loop-again : tie.Need-loop-again Inv-loop μ-loop
 loop-again c =
-    texts-next _ _ _ _ _ (c .before .before .before .before .before .before .before .loop .inv) (c .before .before .before .before .before .before .loop-test .taken) _ (element-other _ _ _ _ _ _ refl (c .before .before .before .before .before .offset-at .ensures)) _ (text-here _ _ _ _ _ (c .before .before .before .before .if1 .left) (c .before .before .before .if2 .left) (c .before .text-written .ensures)) (granted (c .if3 .left))
+    texts-next _ _ _ _ _ (c .before .before .before .before .before .before .before .loop .inv) (c .before .before .before .before .before .before .loop-test .taken) _
+    (element-other _ _ _ _ _ _ refl (c .before .before .before .before .before .offset-at .ensures)) _ (text-here _ _ _ _ _ (c .before .before .before .before .if1 .left) (c .before .before .before .if2 .left)
+    (c .before .text-written .ensures)) (granted (c .if3 .left))
 
 -- src/basic.rt:90:1
 returns-4 : tie.Need-returns-4 Inv-loop μ-loop

@@ -35,7 +35,8 @@ rows-if-requires c κs = search needs
 -- src/ends.rt:216:9
 returns : tie.Need-returns
 returns c =
-    rows-by (c .rows-if .ensures) (table-past _ _ _ (c .before .before .before .width .ensures ∙ c .before .before .before .before .for-encoded-container .ensures) (last-offset-is _ _ _ (c .before .before .before .before .for-encoded-container .ensures) (c .before .before .read-last-offset-from-buffer .ensures)) (c .before .if1 .taken))
+    rows-by (c .rows-if .ensures) (table-past _ _ _ (c .before .before .before .width .ensures ∙ c .before .before .before .before .for-encoded-container .ensures)
+    (last-offset-is _ _ _ (c .before .before .before .before .for-encoded-container .ensures) (c .before .before .read-last-offset-from-buffer .ensures)) (c .before .if1 .taken))
 
 -- src/ends.rt:218:9
 count-in-requires : tie.Need-count-in-requires
@@ -44,12 +45,18 @@ count-in-requires c κs = search needs
 -- src/ends.rt:219:15
 mul-if2 : tie.Need-mul-if2
 mul-if2 c =
-    let h = count-small (c .before .before .before .before .before .before .args .part .now) _ _ (c .before .before .before .width .ensures ∙ c .before .before .before .before .for-encoded-container .ensures) (last-offset-is _ _ _ (c .before .before .before .before .for-encoded-container .ensures) (c .before .before .read-last-offset-from-buffer .ensures)) _ (c .count-in .ensures ∙ ap (λ (w : ℕ). (length (c .before .before .before .before .before .before .args .part .now) - c .before .before .read-last-offset-from-buffer .result .value) / w) (sym (c .before .before .before .width .ensures))) (c .before .if1 .left) in omega (arith, h .0, h .1, c .before .before .before .before .before .before .pre)
+    let h = count-small (c .before .before .before .before .before .before .args .part .now) _ _ (c .before .before .before .width .ensures ∙ c .before .before .before .before .for-encoded-container .ensures)
+    (last-offset-is _ _ _ (c .before .before .before .before .for-encoded-container .ensures) (c .before .before .read-last-offset-from-buffer .ensures)) _ (c .count-in .ensures
+    ∙ ap (λ (w : ℕ). (length (c .before .before .before .before .before .before .args .part .now) - c .before .before .read-last-offset-from-buffer .result .value) / w) (sym
+    (c .before .before .before .width .ensures))) (c .before .if1 .left) in omega (arith, h .0, h .1, c .before .before .before .before .before .before .pre)
 
 -- src/ends.rt:219:8
 add-if2 : tie.Need-add-if2
 add-if2 c =
-    let h = count-small (c .before .before .before .before .before .before .args .part .now) _ _ (c .before .before .before .width .ensures ∙ c .before .before .before .before .for-encoded-container .ensures) (last-offset-is _ _ _ (c .before .before .before .before .for-encoded-container .ensures) (c .before .before .read-last-offset-from-buffer .ensures)) _ (c .count-in .ensures ∙ ap (λ (w : ℕ). (length (c .before .before .before .before .before .before .args .part .now) - c .before .before .read-last-offset-from-buffer .result .value) / w) (sym (c .before .before .before .width .ensures))) (c .before .if1 .left) in omega (arith, h .0, h .1, c .before .before .before .before .before .before .pre)
+    let h = count-small (c .before .before .before .before .before .before .args .part .now) _ _ (c .before .before .before .width .ensures ∙ c .before .before .before .before .for-encoded-container .ensures)
+    (last-offset-is _ _ _ (c .before .before .before .before .for-encoded-container .ensures) (c .before .before .read-last-offset-from-buffer .ensures)) _ (c .count-in .ensures
+    ∙ ap (λ (w : ℕ). (length (c .before .before .before .before .before .before .args .part .now) - c .before .before .read-last-offset-from-buffer .result .value) / w) (sym
+    (c .before .before .before .width .ensures))) (c .before .if1 .left) in omega (arith, h .0, h .1, c .before .before .before .before .before .before .pre)
 
 -- src/ends.rt:220:9
 rows-if-requires-2 : tie.Need-rows-if-requires-2
@@ -58,12 +65,18 @@ rows-if-requires-2 c κs = search needs
 -- src/ends.rt:220:9
 returns-2 : tie.Need-returns-2
 returns-2 c =
-    rows-by (c .rows-if2 .ensures) (table-odd _ _ _ (c .before .before .before .before .before .width .ensures ∙ c .before .before .before .before .before .before .for-encoded-container .ensures) (last-offset-is _ _ _ (c .before .before .before .before .before .before .for-encoded-container .ensures) (c .before .before .before .before .read-last-offset-from-buffer .ensures)) _ (c .before .before .count-in .ensures ∙ ap (λ (w : ℕ). (length (c .before .before .before .before .before .before .before .before .args .part .now) - c .before .before .before .before .read-last-offset-from-buffer .result .value) / w) (sym (c .before .before .before .before .before .width .ensures))) (c .before .if2 .taken))
+    rows-by (c .rows-if2 .ensures) (table-odd _ _ _ (c .before .before .before .before .before .width .ensures ∙ c .before .before .before .before .before .before .for-encoded-container .ensures)
+    (last-offset-is _ _ _ (c .before .before .before .before .before .before .for-encoded-container .ensures) (c .before .before .before .before .read-last-offset-from-buffer .ensures)) _
+    (c .before .before .count-in .ensures ∙ ap (λ (w : ℕ). (length (c .before .before .before .before .before .before .before .before .args .part .now) - c .before .before .before .before .read-last-offset-from-buffer .result .value) / w)
+    (sym (c .before .before .before .before .before .width .ensures))) (c .before .if2 .taken))
 
 -- src/ends.rt:222:9
 smallest-requires : tie.Need-smallest-requires
-smallest-requires c κs =
-    (omega (arith, c .if2 .left, c .before .before .before .before .before .before .before .pre), table-own _ _ _ _ (c .before .before .before .before .width .ensures ∙ c .before .before .before .before .before .for-encoded-container .ensures) (c .if2 .left))
+smallest-requires c κs = (
+  omega (arith, c .if2 .left, c .before .before .before .before .before .before .before .pre),
+  table-own _ _ _ _ (c .before .before .before .before .width .ensures ∙ c .before .before .before .before .before .for-encoded-container .ensures)
+      (c .if2 .left),
+)
 
 -- src/ends.rt:223:5
 rows-if-requires-3 : tie.Need-rows-if-requires-3
@@ -72,7 +85,10 @@ rows-if-requires-3 c κs = search needs
 -- src/ends.rt:206:1
 returns-3 : tie.Need-returns-3
 returns-3 c =
-    rows-by (c .rows-if3 .ensures) (table-stands _ _ _ (c .before .before .before .before .before .before .width .ensures ∙ c .before .before .before .before .before .before .before .for-encoded-container .ensures) (last-offset-is _ _ _ (c .before .before .before .before .before .before .before .for-encoded-container .ensures) (c .before .before .before .before .before .read-last-offset-from-buffer .ensures)) _ (c .before .before .before .count-in .ensures ∙ ap (λ (w : ℕ). (length (c .before .before .before .before .before .before .before .before .before .args .part .now) - c .before .before .before .before .before .read-last-offset-from-buffer .result .value) / w) (sym (c .before .before .before .before .before .before .width .ensures))) _ (c .before .before .if2 .left) (c .before .smallest .ensures))
+    rows-by (c .rows-if3 .ensures) (table-stands _ _ _ (c .before .before .before .before .before .before .width .ensures ∙ c .before .before .before .before .before .before .before .for-encoded-container .ensures)
+    (last-offset-is _ _ _ (c .before .before .before .before .before .before .before .for-encoded-container .ensures) (c .before .before .before .before .before .read-last-offset-from-buffer .ensures)) _
+    (c .before .before .before .count-in .ensures ∙ ap (λ (w : ℕ). (length (c .before .before .before .before .before .before .before .before .before .args .part .now) - c .before .before .before .before .before .read-last-offset-from-buffer .result .value) / w)
+    (sym (c .before .before .before .before .before .before .width .ensures))) _ (c .before .before .if2 .left) (c .before .smallest .ensures))
 
 pub table-of-spec : {M : Type 1} → statement M
 table-of-spec =

@@ -31,13 +31,26 @@ fixed-end-requires-2 c κs =
 
 -- src/items.rt:47:5
 aligned-requires : tie.Need-aligned-requires
-aligned-requires c κs =
-    (omega (arith, c .before .fixed-end .ensures, end-most _ (laid-as (c .before .before .extent-of .ensures) (c .before .before .before .pre .0)) 0, ap (λ (x : Extent). x .size) (c .before .before .extent-of .ensures), c .before .before .before .pre .1, c .fixed-end2 .ensures, end-most _ (c .before .before .before .pre .2) (c .before .fixed-end .result), c .before .before .before .pre .3), c .before .before .before .pre .4)
+aligned-requires c κs = (
+  omega (
+    arith,
+    c .before .fixed-end .ensures,
+    end-most _ (laid-as (c .before .before .extent-of .ensures) (c .before .before .before .pre .0)) 0,
+    ap (λ (x : Extent). x .size)
+        (c .before .before .extent-of .ensures),
+    c .before .before .before .pre .1,
+    c .fixed-end2 .ensures,
+    end-most _ (c .before .before .before .pre .2) (c .before .fixed-end .result),
+    c .before .before .before .pre .3,
+  ),
+  c .before .before .before .pre .4,
+)
 
 -- src/items.rt:41:1
 returns : tie.Need-returns
 returns c =
-    c .aligned .ensures ∙ ap (λ (m : ℕ). m + padding m (c .before .before .before .before .args .alignment)) (c .before .fixed-end2 .ensures ∙ ap (λ (m : ℕ). endOf (c .before .before .before .before .args .value) m) (c .before .before .fixed-end .ensures ∙ ap (λ (x : Extent). endOf x 0) (c .before .before .before .extent-of .ensures)))
+    c .aligned .ensures ∙ ap (λ (m : ℕ). m + padding m (c .before .before .before .before .args .alignment)) (c .before .fixed-end2 .ensures ∙ ap (λ (m : ℕ). endOf (c .before .before .before .before .args .value) m)
+    (c .before .before .fixed-end .ensures ∙ ap (λ (x : Extent). endOf x 0) (c .before .before .before .extent-of .ensures)))
 
 pub entry-size-spec : {M : Type 1} → statement M
 entry-size-spec =

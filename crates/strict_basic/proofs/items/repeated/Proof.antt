@@ -24,13 +24,24 @@ item-of-requires c κs = search needs
 
 -- src/items.rt:101:9
 extent-in-requires : tie.Need-extent-in-requires
-extent-in-requires c κs =
-    (c .before .before .before .before .pre .0 .table .room, placed-at (found-placed (c .before .before .before .before .args .text .now) (c .before .before .before .before .args .tables .now) (c .before .before .before .before .args .array) (c .before .before .before .before .pre .0) (c .before .before .before .before .pre .1) _ (c .before .item-of .ensures)))
+extent-in-requires c κs = (
+  c .before .before .before .before .pre .0 .table .room,
+  placed-at (found-placed (c .before .before .before .before .args .text .now) (c .before .before .before .before .args .tables .now)
+      (c .before .before .before .before .args .array) (c .before .before .before .before .pre .0) (c .before .before .before .before .pre .1) _ (c .before .item-of .ensures)),
+)
 
 -- src/items.rt:105:13
 entry-size-requires : tie.Need-entry-size-requires
 entry-size-requires c κs =
-    let k = (entry-keyed _ (c .before .before .before .before .before .before .pre .0 .table) (found-entry (c .before .before .before .before .before .before .args .text .now) (c .before .before .before .before .before .before .args .tables .now) (c .before .before .before .before .before .before .args .array) (c .before .before .before .before .before .before .pre .0) (c .before .before .before .before .before .before .pre .1) _ (c .before .before .before .item-of .ensures) (c .if1 .taken)) _ (c .before .extent-in .ensures)) in (k .key, k .key-most, k .value, omega (arith, k .value-most), k .aligned)
+    let k = (entry-keyed _ (c .before .before .before .before .before .before .pre .0 .table) (found-entry (c .before .before .before .before .before .before .args .text .now)
+    (c .before .before .before .before .before .before .args .tables .now) (c .before .before .before .before .before .before .args .array) (c .before .before .before .before .before .before .pre .0)
+    (c .before .before .before .before .before .before .pre .1) _ (c .before .before .before .item-of .ensures) (c .if1 .taken)) _ (c .before .extent-in .ensures)) in (
+      k .key,
+      k .key-most,
+      k .value,
+      omega (arith, k .value-most),
+      k .aligned,
+    )
 
 -- src/items.rt:106:39
 extent-requires : tie.Need-extent-requires
@@ -43,12 +54,20 @@ entry-item-requires c κs = search needs
 -- src/items.rt:106:9
 returns : tie.Need-returns
 returns c =
-    entry-is _ (c .before .before .before .before .before .before .before .before .before .pre .0 .table) (found-entry (c .before .before .before .before .before .before .before .before .before .args .text .now) (c .before .before .before .before .before .before .before .before .before .args .tables .now) (c .before .before .before .before .before .before .before .before .before .args .array) (c .before .before .before .before .before .before .before .before .before .pre .0) (c .before .before .before .before .before .before .before .before .before .pre .1) _ (c .before .before .before .before .before .before .item-of .ensures) (c .before .before .before .if1 .taken)) _ (c .before .before .before .before .extent-in .ensures) _ (c .before .before .entry-size .ensures) _ (c .entry-item .ensures ∙ ap (entryItem _ _) (c .before .extent .ensures))
+    entry-is _ (c .before .before .before .before .before .before .before .before .before .pre .0 .table) (found-entry (c .before .before .before .before .before .before .before .before .before .args .text .now)
+    (c .before .before .before .before .before .before .before .before .before .args .tables .now) (c .before .before .before .before .before .before .before .before .before .args .array)
+    (c .before .before .before .before .before .before .before .before .before .pre .0) (c .before .before .before .before .before .before .before .before .before .pre .1) _
+    (c .before .before .before .before .before .before .item-of .ensures) (c .before .before .before .if1 .taken)) _ (c .before .before .before .before .extent-in .ensures) _
+    (c .before .before .entry-size .ensures) _ (c .entry-item .ensures ∙ ap (entryItem _ _) (c .before .extent .ensures))
 
 -- src/items.rt:108:9
 any-in-requires : tie.Need-any-in-requires
-any-in-requires c κs =
-    (c .before .before .before .before .before .before .pre .0 .table .room, placed-at (found-placed (c .before .before .before .before .before .before .args .text .now) (c .before .before .before .before .before .before .args .tables .now) (c .before .before .before .before .before .before .args .array) (c .before .before .before .before .before .before .pre .0) (c .before .before .before .before .before .before .pre .1) _ (c .before .before .before .item-of .ensures)))
+any-in-requires c κs = (
+  c .before .before .before .before .before .before .pre .0 .table .room,
+  placed-at (found-placed (c .before .before .before .before .before .before .args .text .now) (c .before .before .before .before .before .before .args .tables .now)
+      (c .before .before .before .before .before .before .args .array) (c .before .before .before .before .before .before .pre .0) (c .before .before .before .before .before .before .pre .1) _
+      (c .before .before .before .item-of .ensures)),
+)
 
 -- src/items.rt:110:9
 held-width-requires : tie.Need-held-width-requires
@@ -61,7 +80,11 @@ element-item-requires c κs = search needs
 -- src/items.rt:95:1
 returns-2 : tie.Need-returns-2
 returns-2 c =
-    element-is _ (c .before .before .before .before .before .before .before .before .before .pre .0 .table) (found-element (c .before .before .before .before .before .before .before .before .before .args .text .now) (c .before .before .before .before .before .before .before .before .before .args .tables .now) (c .before .before .before .before .before .before .before .before .before .args .array) (c .before .before .before .before .before .before .before .before .before .pre .0) (c .before .before .before .before .before .before .before .before .before .pre .1) _ (c .before .before .before .before .before .before .item-of .ensures) (c .before .before .before .if1 .left)) _ (c .before .before .before .before .extent-in .ensures) _ (c .before .before .any-in .ensures) _ (c .before .held-width .ensures) _ (c .element-item .ensures)
+    element-is _ (c .before .before .before .before .before .before .before .before .before .pre .0 .table) (found-element (c .before .before .before .before .before .before .before .before .before .args .text .now)
+    (c .before .before .before .before .before .before .before .before .before .args .tables .now) (c .before .before .before .before .before .before .before .before .before .args .array)
+    (c .before .before .before .before .before .before .before .before .before .pre .0) (c .before .before .before .before .before .before .before .before .before .pre .1) _
+    (c .before .before .before .before .before .before .item-of .ensures) (c .before .before .before .if1 .left)) _ (c .before .before .before .before .extent-in .ensures) _
+    (c .before .before .any-in .ensures) _ (c .before .held-width .ensures) _ (c .element-item .ensures)
 
 pub repeated-spec : {M : Type 1} → statement M
 repeated-spec =

@@ -48,8 +48,10 @@ measure-at-requires c κs =
 
 -- src/sizes.rt:73:13
 aligned-requires : tie.Need-aligned-requires Inv-loop μ-loop
-aligned-requires c κs =
-    (omega (arith, c .before .before .loop .inv .small, field-place _ _ _ (c .before .before .loop .inv .rowed) (c .before .before .before .before .before .pre .1 .shapes)), described-aligned (field-described _ _ _ (c .before .before .loop .inv .rowed) (c .before .before .before .before .before .pre .1 .shapes) _ (c .before .shape-in .ensures)))
+aligned-requires c κs = (
+  omega (arith, c .before .before .loop .inv .small, field-place _ _ _ (c .before .before .loop .inv .rowed) (c .before .before .before .before .before .pre .1 .shapes)),
+  described-aligned (field-described _ _ _ (c .before .before .loop .inv .rowed) (c .before .before .before .before .before .pre .1 .shapes) _ (c .before .shape-in .ensures)),
+)
 
 -- src/sizes.rt:76:25
 both-requires : tie.Need-both-requires Inv-loop μ-loop
@@ -64,7 +66,11 @@ both-requires-2 c κs =
 -- src/sizes.rt:77:15
 add-end : tie.Need-add-end Inv-loop μ-loop
 add-end c =
-    omega (arith, field-small (c .before .before .before .before .before .before .before .before .pre .1) (c .before .before .before .before .before .loop .inv) _ (c .before .before .before .before .shape-in .ensures) _ (c .before .before .before .measure-at .ensures) _ (c .before .before .aligned .ensures))
+    omega (
+      arith,
+      field-small (c .before .before .before .before .before .before .before .before .pre .1) (c .before .before .before .before .before .loop .inv) _ (c .before .before .before .before .shape-in .ensures) _
+          (c .before .before .before .measure-at .ensures) _ (c .before .before .aligned .ensures),
+    )
 
 -- src/sizes.rt:78:13
 letter-at-requires : tie.Need-letter-at-requires Inv-loop μ-loop
@@ -78,8 +84,14 @@ enum-told c =
 
 -- src/sizes.rt:80:17
 aligned-requires-2 : tie.Need-aligned-requires-2 Inv-loop μ-loop
-aligned-requires-2 c κs =
-    (omega (arith, field-small (c .before .before .before .before .before .before .before .before .before .before .before .pre .1) (c .before .before .before .before .before .before .before .before .loop .inv) _ (c .before .before .before .before .before .before .before .shape-in .ensures) _ (c .before .before .before .before .before .before .measure-at .ensures) _ (c .before .before .before .before .before .aligned .ensures)), aligned-by _ (c .before .before .before .before .before .before .before .before .before .before .before .pre .3))
+aligned-requires-2 c κs = (
+  omega (
+    arith,
+    field-small (c .before .before .before .before .before .before .before .before .before .before .before .pre .1) (c .before .before .before .before .before .before .before .before .loop .inv) _
+        (c .before .before .before .before .before .before .before .shape-in .ensures) _ (c .before .before .before .before .before .before .measure-at .ensures) _ (c .before .before .before .before .before .aligned .ensures),
+  ),
+  aligned-by _ (c .before .before .before .before .before .before .before .before .before .before .before .pre .3),
+)
 
 -- src/sizes.rt:82:31
 both-requires-3 : tie.Need-both-requires-3 Inv-loop μ-loop
@@ -89,22 +101,43 @@ both-requires-3 c κs =
 -- src/sizes.rt:82:13
 pack-requires : tie.Need-pack-requires Inv-loop μ-loop
 pack-requires c κs =
-    let a = aligned-by _ (c .before .before .before .before .before .before .before .before .before .before .before .before .before .pre .3) in omega (arith, field-small (c .before .before .before .before .before .before .before .before .before .before .before .before .before .pre .1) (c .before .before .before .before .before .before .before .before .before .before .loop .inv) _ (c .before .before .before .before .before .before .before .before .before .shape-in .ensures) _ (c .before .before .before .before .before .before .before .before .measure-at .ensures) _ (c .before .before .before .before .before .before .before .aligned .ensures), c .before .aligned2 .ensures, padding-below a (c .before .before .before .before .before .before .before .aligned .result + c .before .before .before .before .before .before .before .before .measure-at .result / 2), aligns-most a)
+    let a = aligned-by _ (c .before .before .before .before .before .before .before .before .before .before .before .before .before .pre .3) in omega (
+      arith,
+      field-small (c .before .before .before .before .before .before .before .before .before .before .before .before .before .pre .1)
+          (c .before .before .before .before .before .before .before .before .before .before .loop .inv) _ (c .before .before .before .before .before .before .before .before .before .shape-in .ensures) _
+          (c .before .before .before .before .before .before .before .before .measure-at .ensures) _ (c .before .before .before .before .before .before .before .aligned .ensures),
+      c .before .aligned2 .ensures,
+      padding-below a (c .before .before .before .before .before .before .before .aligned .result + c .before .before .before .before .before .before .before .before .measure-at .result / 2),
+      aligns-most a,
+    )
 
 -- src/sizes.rt:82:13
 returns : tie.Need-returns Inv-loop μ-loop
 returns c =
-    size-last (c .before .before .before .before .before .before .before .before .before .before .before .before .before .before .pre .1) (c .before .before .before .before .before .before .before .before .before .before .before .loop .inv) _ (c .before .before .before .before .before .before .before .before .before .before .shape-in .ensures) _ (c .before .before .before .before .before .before .before .before .before .measure-at .ensures) _ (c .before .before .before .before .before .before .before .before .aligned .ensures) _ _ (c .before .before .before .before .before .before .before .both .ensures) (c .before .before .before .before .before .before .both2 .ensures) (last-field-of _ _ _ (c .before .before .before .before .before .before .before .before .before .before .before .loop .inv .rowed) (c .before .before .before .before .before .before .before .before .before .before .before .before .before .before .pre .1 .shapes) _ (c .before .before .before .before .before .before .before .before .before .before .shape-in .ensures) _ (c .before .before .before .before .before .letter-at .ensures) (c .before .before .before .enum-told .given .1)) (c .before .before .before .before .before .before .before .before .before .before .before .before .before .before .pre .2) _ _ _ _ (c .before .before .before .before .before .before .before .before .before .before .before .before .before .before .pre .3) (c .before .before .aligned2 .ensures) (c .before .both3 .ensures) (c .pack .ensures)
+    size-last (c .before .before .before .before .before .before .before .before .before .before .before .before .before .before .pre .1) (c .before .before .before .before .before .before .before .before .before .before .before .loop .inv) _
+    (c .before .before .before .before .before .before .before .before .before .before .shape-in .ensures) _ (c .before .before .before .before .before .before .before .before .before .measure-at .ensures) _
+    (c .before .before .before .before .before .before .before .before .aligned .ensures) _ _ (c .before .before .before .before .before .before .before .both .ensures) (c .before .before .before .before .before .before .both2 .ensures)
+    (last-field-of _ _ _ (c .before .before .before .before .before .before .before .before .before .before .before .loop .inv .rowed) (c .before .before .before .before .before .before .before .before .before .before .before .before .before .before .pre .1 .shapes) _
+    (c .before .before .before .before .before .before .before .before .before .before .shape-in .ensures) _ (c .before .before .before .before .before .letter-at .ensures)
+    (c .before .before .before .enum-told .given .1)) (c .before .before .before .before .before .before .before .before .before .before .before .before .before .before .pre .2) _ _ _ _
+    (c .before .before .before .before .before .before .before .before .before .before .before .before .before .before .pre .3) (c .before .before .aligned2 .ensures) (c .before .both3 .ensures)
+    (c .pack .ensures)
 
 -- src/sizes.rt:70:5
 loop-less : tie.Need-loop-less Inv-loop μ-loop
 loop-less c =
-    let g = (next-field-of _ _ _ (c .before .before .before .before .before .before .before .loop .inv .rowed) (c .before .before .before .before .before .before .before .before .before .before .pre .1 .shapes) _ (c .before .before .before .before .before .before .shape-in .ensures) _ (c .before .letter-at .ensures) (λ q. apart-from CloseStructure (c .before .letter-at .result) (c .match .keys2) q)) in omega (arith, g .onward, g .within)
+    let g = (next-field-of _ _ _ (c .before .before .before .before .before .before .before .loop .inv .rowed) (c .before .before .before .before .before .before .before .before .before .before .pre .1 .shapes) _
+    (c .before .before .before .before .before .before .shape-in .ensures) _ (c .before .letter-at .ensures) (λ q. apart-from CloseStructure (c .before .letter-at .result) (c .match .keys2) q)) in omega
+    (arith, g .onward, g .within)
 
 -- src/sizes.rt:70:5
 loop-again : tie.Need-loop-again Inv-loop μ-loop
 loop-again c =
-    size-next (c .before .before .before .before .before .before .before .before .before .before .pre .1) (c .before .before .before .before .before .before .before .loop .inv) _ (c .before .before .before .before .before .before .shape-in .ensures) _ (c .before .before .before .before .before .measure-at .ensures) _ (c .before .before .before .before .aligned .ensures) _ _ (c .before .before .before .both .ensures) (c .before .before .both2 .ensures) (next-field-of _ _ _ (c .before .before .before .before .before .before .before .loop .inv .rowed) (c .before .before .before .before .before .before .before .before .before .before .pre .1 .shapes) _ (c .before .before .before .before .before .before .shape-in .ensures) _ (c .before .letter-at .ensures) (λ q. apart-from CloseStructure (c .before .letter-at .result) (c .match .keys2) q))
+    size-next (c .before .before .before .before .before .before .before .before .before .before .pre .1) (c .before .before .before .before .before .before .before .loop .inv) _
+    (c .before .before .before .before .before .before .shape-in .ensures) _ (c .before .before .before .before .before .measure-at .ensures) _ (c .before .before .before .before .aligned .ensures) _ _
+    (c .before .before .before .both .ensures) (c .before .before .both2 .ensures) (next-field-of _ _ _ (c .before .before .before .before .before .before .before .loop .inv .rowed)
+    (c .before .before .before .before .before .before .before .before .before .before .pre .1 .shapes) _ (c .before .before .before .before .before .before .shape-in .ensures) _
+    (c .before .letter-at .ensures) (λ q. apart-from CloseStructure (c .before .letter-at .result) (c .match .keys2) q))
 
 pub fixed-measure-spec : {M : Type 1} → statement M
 fixed-measure-spec =

@@ -31,7 +31,11 @@ enum-known-kind c = search needs
 -- src/sizes.rt:130:46
 pack-requires-2 : tie.Need-pack-requires-2
 pack-requires-2 c κs =
-    omega (arith, number-most (c .before .before .before .before .before .before .args .text .now) (c .before .before .before .before .before .before .args .at) _ _ (c .before .before .before .before .before .before .pre .0 .shapes .few) (sym (c .before .before .before .letter-at .ensures) ∙ c .before .kind .given .1))
+    omega (
+      arith,
+      number-most (c .before .before .before .before .before .before .args .text .now) (c .before .before .before .before .before .before .args .at) _ _ (c .before .before .before .before .before .before .pre .0 .shapes .few)
+          (sym (c .before .before .before .letter-at .ensures) ∙ c .before .kind .given .1),
+    )
 
 -- src/sizes.rt:131:34
 enum-told-2 : tie.Need-enum-told-2
@@ -50,7 +54,9 @@ returns c =
 -- src/sizes.rt:123:1
 returns-2 : tie.Need-returns-2
 returns-2 c =
-    measure-number _ _ _ _ _ (sym (c .before .before .before .before .letter-at .ensures) ∙ c .before .before .kind .given .1) (number-most (c .before .before .before .before .before .before .before .args .text .now) (c .before .before .before .before .before .before .before .args .at) _ _ (c .before .before .before .before .before .before .before .pre .0 .shapes .few) (sym (c .before .before .before .before .letter-at .ensures) ∙ c .before .before .kind .given .1)) (c .pack2 .ensures)
+    measure-number _ _ _ _ _ (sym (c .before .before .before .before .letter-at .ensures) ∙ c .before .before .kind .given .1) (number-most (c .before .before .before .before .before .before .before .args .text .now)
+    (c .before .before .before .before .before .before .before .args .at) _ _ (c .before .before .before .before .before .before .before .pre .0 .shapes .few) (sym (c .before .before .before .before .letter-at .ensures)
+    ∙ c .before .before .kind .given .1)) (c .pack2 .ensures)
 
 -- src/sizes.rt:123:1
 returns-3 : tie.Need-returns-3

@@ -46,8 +46,15 @@ enum-told c =
 
 -- src/sizes.rt:92:13
 returns : tie.Need-returns Inv-loop μ-loop
-returns c =
-    (count-last (c .before .before .before .before .loop .inv) _ (last-field-of _ _ _ (c .before .before .before .before .loop .inv .rowed) (c .before .before .before .before .before .before .before .pre .1 .shapes) _ (c .before .before .before .shape-in .ensures) _ (c .before .before .letter-at .ensures) (c .enum-told .given .1)), omega (arith, c .before .before .before .before .loop .inv .most, c .before .before .before .before .loop .inv .rowed .short))
+returns c = (
+  count-last (c .before .before .before .before .loop .inv) _ (last-field-of _ _ _ (c .before .before .before .before .loop .inv .rowed) (c .before .before .before .before .before .before .before .pre .1 .shapes) _
+      (c .before .before .before .shape-in .ensures) _ (c .before .before .letter-at .ensures) (c .enum-told .given .1)),
+  omega (
+    arith,
+    c .before .before .before .before .loop .inv .most,
+    c .before .before .before .before .loop .inv .rowed .short,
+  ),
+)
 
 -- src/sizes.rt:94:9
 one-more-requires : tie.Need-one-more-requires Inv-loop μ-loop
@@ -57,12 +64,15 @@ one-more-requires c κs =
 -- src/sizes.rt:88:5
 loop-less : tie.Need-loop-less Inv-loop μ-loop
 loop-less c =
-    let g = (next-field-of _ _ _ (c .before .before .before .before .loop .inv .rowed) (c .before .before .before .before .before .before .before .pre .1 .shapes) _ (c .before .before .before .shape-in .ensures) _ (c .before .before .letter-at .ensures) (λ q. apart-from CloseStructure (c .before .before .letter-at .result) (c .before .match .keys2) q)) in omega (arith, g .onward, g .within)
+    let g = (next-field-of _ _ _ (c .before .before .before .before .loop .inv .rowed) (c .before .before .before .before .before .before .before .pre .1 .shapes) _ (c .before .before .before .shape-in .ensures) _
+    (c .before .before .letter-at .ensures) (λ q. apart-from CloseStructure (c .before .before .letter-at .result) (c .before .match .keys2) q)) in omega (arith, g .onward, g .within)
 
 -- src/sizes.rt:88:5
 loop-again : tie.Need-loop-again Inv-loop μ-loop
 loop-again c =
-    count-next (c .before .before .before .before .loop .inv) _ (next-field-of _ _ _ (c .before .before .before .before .loop .inv .rowed) (c .before .before .before .before .before .before .before .pre .1 .shapes) _ (c .before .before .before .shape-in .ensures) _ (c .before .before .letter-at .ensures) (λ q. apart-from CloseStructure (c .before .before .letter-at .result) (c .before .match .keys2) q)) _ (c .one-more .ensures)
+    count-next (c .before .before .before .before .loop .inv) _ (next-field-of _ _ _ (c .before .before .before .before .loop .inv .rowed) (c .before .before .before .before .before .before .before .pre .1 .shapes) _
+    (c .before .before .before .shape-in .ensures) _ (c .before .before .letter-at .ensures) (λ q. apart-from CloseStructure (c .before .before .letter-at .result) (c .before .match .keys2) q)) _
+    (c .one-more .ensures)
 
 pub offsets-of-spec : {M : Type 1} → statement M
 offsets-of-spec =

@@ -27,12 +27,17 @@ add-fixed-measure c = search needs
 -- src/sizes.rt:117:9
 fixed-measure-requires : tie.Need-fixed-measure-requires
 fixed-measure-requires c κs =
-    let d = (structure-there _ _ _ (c .before .before .before .before .before .pre .0 .shapes) (c .before .before .before .before .before .pre .1) (c .before .before .before .before .before .pre .2) _ (c .before .before .shape-in .ensures) (c .before .if1 .left)) in (d .rowed, c .before .before .before .before .before .pre .0, d .all (c .if2 .taken), d .aligned)
+    let d = (structure-there _ _ _ (c .before .before .before .before .before .pre .0 .shapes) (c .before .before .before .before .before .pre .1) (c .before .before .before .before .before .pre .2) _
+    (c .before .before .shape-in .ensures) (c .before .if1 .left)) in (d .rowed, c .before .before .before .before .before .pre .0, d .all (c .if2 .taken), d .aligned)
 
 -- src/sizes.rt:117:9
 returns-2 : tie.Need-returns-2
 returns-2 c =
-    let d = (structure-there _ _ _ (c .before .before .before .before .before .before .pre .0 .shapes) (c .before .before .before .before .before .before .pre .1) (c .before .before .before .before .before .before .pre .2) _ (c .before .before .before .shape-in .ensures) (c .before .before .if1 .left)) in let m = d .whole _ (c .before .if2 .taken) (c .fixed-measure .ensures) in ((λ t. m .0), m .1)
+    let d = (structure-there _ _ _ (c .before .before .before .before .before .before .pre .0 .shapes) (c .before .before .before .before .before .before .pre .1) (c .before .before .before .before .before .before .pre .2) _
+    (c .before .before .before .shape-in .ensures) (c .before .before .if1 .left)) in let m = d .whole _ (c .before .if2 .taken) (c .fixed-measure .ensures) in (
+      (λ t. m .0),
+      m .1,
+    )
 
 -- src/sizes.rt:119:30
 add-offsets-of : tie.Need-add-offsets-of
@@ -41,12 +46,15 @@ add-offsets-of c = search needs
 -- src/sizes.rt:119:5
 offsets-of-requires : tie.Need-offsets-of-requires
 offsets-of-requires c κs =
-    let d = (structure-there _ _ _ (c .before .before .before .before .before .pre .0 .shapes) (c .before .before .before .before .before .pre .1) (c .before .before .before .before .before .pre .2) _ (c .before .before .shape-in .ensures) (c .before .if1 .left)) in (d .rowed, c .before .before .before .before .before .pre .0)
+    let d = (structure-there _ _ _ (c .before .before .before .before .before .pre .0 .shapes) (c .before .before .before .before .before .pre .1) (c .before .before .before .before .before .pre .2) _
+    (c .before .before .shape-in .ensures) (c .before .if1 .left)) in (d .rowed, c .before .before .before .before .before .pre .0)
 
 -- src/sizes.rt:106:1
 returns-3 : tie.Need-returns-3
 returns-3 c =
-    let d = (structure-there _ _ _ (c .before .before .before .before .before .before .pre .0 .shapes) (c .before .before .before .before .before .before .pre .1) (c .before .before .before .before .before .before .pre .2) _ (c .before .before .before .shape-in .ensures) (c .before .before .if1 .left)) in let m = d .offsets _ (c .before .if2 .left) (c .offsets-of .ensures .0) (c .offsets-of .ensures .1) in ((λ t. m .0), m .1)
+    let d = (structure-there _ _ _ (c .before .before .before .before .before .before .pre .0 .shapes) (c .before .before .before .before .before .before .pre .1) (c .before .before .before .before .before .before .pre .2) _
+    (c .before .before .before .shape-in .ensures) (c .before .before .if1 .left)) in let m = d .offsets _ (c .before .if2 .left) (c .offsets-of .ensures .0) (c .offsets-of .ensures .1) in
+    ((λ t. m .0), m .1)
 
 pub structure-measure-spec : {M : Type 1} → statement M
 structure-measure-spec =

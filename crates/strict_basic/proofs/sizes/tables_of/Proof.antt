@@ -83,8 +83,11 @@ loop-less c =
 
 -- src/sizes.rt:138:5
 loop-again : tie.Need-loop-again Inv-loop μ-loop
-loop-again c =
-    (omega (arith, c .before .before .before .loop .inv .0), table-next _ _ _ _ (table-turn (c .before .before .loop-test .taken) (c .before .before .before .loop .inv .1)) (omega (arith, c .before .before .before .loop .inv .0, c .before .before .loop-test .taken)) (c .measure .ensures .0))
+loop-again c = (
+  omega (arith, c .before .before .before .loop .inv .0),
+  table-next _ _ _ _ (table-turn (c .before .before .loop-test .taken) (c .before .before .before .loop .inv .1))
+      (omega (arith, c .before .before .before .loop .inv .0, c .before .before .loop-test .taken)) (c .measure .ensures .0),
+)
 
 -- src/sizes.rt:130:1
 same-length-2 : tie.Need-same-length-2 Inv-loop μ-loop
@@ -94,7 +97,11 @@ same-length-2 c =
 -- src/sizes.rt:130:1
 returns-2 : tie.Need-returns-2 Inv-loop μ-loop
 returns-2 c =
-    record { judged = sym (granted (c .before .before .if1 .left)) ∙ table-judges _ _ _ _ (c .before .before .before .before .before .before .before .before .before .pre) (c .before .before .before .before .before .shapes-of .ensures); filled = λ z. table-end (c .loop-test .left) (c .before .loop .inv .1) }
+    record {
+      judged = sym (granted (c .before .before .if1 .left)) ∙ table-judges _ _ _ _ (c .before .before .before .before .before .before .before .before .before .pre) (c .before .before .before .before .before .shapes-of .ensures);
+      filled = λ z. table-end
+          (c .loop-test .left) (c .before .loop .inv .1);
+    }
 
 pub tables-of-spec : {M : Type 1} → statement M
 tables-of-spec =

@@ -61,8 +61,15 @@ array-first-requires t c κs =
     let at-if1 = c .before in
     let at-repeated = at-if1 .before in
     let at-inc-array = at-repeated .before .before in
-    let start = at-inc-array .before .before .before .before in
-    (omega (arith, level-falls Depth.array (start .args .d) (at-inc-array .inc-array .result) (at-inc-array .inc-array .ensures) (at-if1 .if1 .left), start .pre .0), (at-repeated .repeated .ensures .repeated, c .if2 .taken, inside-deeper Depth.array (start .args .d) (at-inc-array .inc-array .result) (start .pre .1 .2) (at-inc-array .inc-array .ensures) (at-if1 .if1 .left)))
+    let start = at-inc-array .before .before .before .before in (
+      omega (arith, level-falls Depth.array (start .args .d) (at-inc-array .inc-array .result) (at-inc-array .inc-array .ensures) (at-if1 .if1 .left), start .pre .0),
+      (
+        at-repeated .repeated .ensures .repeated,
+        c .if2 .taken,
+        inside-deeper Depth.array (start .args .d) (at-inc-array .inc-array .result) (start .pre .1 .2) (at-inc-array .inc-array .ensures)
+            (at-if1 .if1 .left),
+      ),
+    )
 
 array-returns-2 : (t : ℕ) → array-lts.Need-returns-2 (array-callees t) (array-at t) array.Post
 array-returns-2 t c =
@@ -85,7 +92,8 @@ array-returns-3 t c =
     let at-repeated = at-if1 .before in
     let at-inc-array = at-repeated .before .before in
     let start = at-inc-array .before .before .before .before in
-    array-not (at-repeated .repeated .result) (at-repeated .repeated .ensures) (start .args .d) (start .args .part .now) (at-inc-array .inc-array .result) (at-inc-array .inc-array .ensures) (at-if1 .if1 .left) _ (at-rows-of .rows-of .ensures) (denied (c .if3 .taken))
+    array-not (at-repeated .repeated .result) (at-repeated .repeated .ensures) (start .args .d) (start .args .part .now) (at-inc-array .inc-array .result) (at-inc-array .inc-array .ensures)
+    (at-if1 .if1 .left) _ (at-rows-of .rows-of .ensures) (denied (c .if3 .taken))
 
 array-texts-written-requires : (t : ℕ) → array-lts.Need-texts-written-requires (array-callees t) (array-at t) array.Post
 array-texts-written-requires t c κs =
@@ -94,8 +102,13 @@ array-texts-written-requires t c κs =
     let at-if1 = at-rows-of .before .before .before in
     let at-repeated = at-if1 .before in
     let at-inc-array = at-repeated .before .before in
-    let start = at-inc-array .before .before .before .before in
-    (start .pre .1 .2 .in-frame, at-rows-of .rows-of .ensures .within (granted (at-if3 .if3 .left)), at-rows-of .rows-of .ensures .room (granted (at-if3 .if3 .left)), array-wide (at-repeated .repeated .result) (at-repeated .repeated .ensures) (start .args .d) (start .args .part .now) (at-inc-array .inc-array .result) (at-inc-array .inc-array .ensures) (at-if1 .if1 .left) _ (at-rows-of .rows-of .ensures) (c .if4 .taken))
+    let start = at-inc-array .before .before .before .before in (
+      start .pre .1 .2 .in-frame,
+      at-rows-of .rows-of .ensures .within (granted (at-if3 .if3 .left)),
+      at-rows-of .rows-of .ensures .room (granted (at-if3 .if3 .left)),
+      array-wide (at-repeated .repeated .result) (at-repeated .repeated .ensures) (start .args .d) (start .args .part .now) (at-inc-array .inc-array .result) (at-inc-array .inc-array .ensures)
+          (at-if1 .if1 .left) _ (at-rows-of .rows-of .ensures) (c .if4 .taken),
+    )
 
 array-returns-4 : (t : ℕ) → array-lts.Need-returns-4 (array-callees t) (array-at t) array.Post
 array-returns-4 t c =
@@ -106,7 +119,8 @@ array-returns-4 t c =
     let at-repeated = at-if1 .before in
     let at-inc-array = at-repeated .before .before in
     let start = at-inc-array .before .before .before .before in
-    array-texts (at-repeated .repeated .result) (at-repeated .repeated .ensures) (start .args .d) (start .args .part .now) (at-inc-array .inc-array .result) (at-inc-array .inc-array .ensures) (at-if1 .if1 .left) _ (at-rows-of .rows-of .ensures) _ (granted (at-if3 .if3 .left)) (at-if4 .if4 .taken) (c .texts-written .ensures)
+    array-texts (at-repeated .repeated .result) (at-repeated .repeated .ensures) (start .args .d) (start .args .part .now) (at-inc-array .inc-array .result) (at-inc-array .inc-array .ensures)
+    (at-if1 .if1 .left) _ (at-rows-of .rows-of .ensures) _ (granted (at-if3 .if3 .left)) (at-if4 .if4 .taken) (c .texts-written .ensures)
 
 array-inc-maybe-requires : (t : ℕ) → array-lts.Need-inc-maybe-requires (array-callees t) (array-at t) array.Post
 array-inc-maybe-requires t c κs = search needs
@@ -119,8 +133,15 @@ array-readings-written-requires t c κs =
     let at-if1 = at-rows-of .before .before .before in
     let at-repeated = at-if1 .before in
     let at-inc-array = at-repeated .before .before in
-    let start = at-inc-array .before .before .before .before in
-    (start .pre .1 .2 .in-frame, at-rows-of .rows-of .ensures .within (granted (at-if3 .if3 .left)), at-rows-of .rows-of .ensures .room (granted (at-if3 .if3 .left)), reads-wide (at-repeated .repeated .result) (at-repeated .repeated .ensures) (start .args .d) (start .args .part .now) (at-inc-array .inc-array .result) (at-inc-array .inc-array .ensures) (at-if1 .if1 .left) _ (at-rows-of .rows-of .ensures) (at-if5 .if5 .taken), reads-aligned (at-repeated .repeated .result) (at-repeated .repeated .ensures) (start .args .d) (start .args .part .now) (at-inc-array .inc-array .result) (at-inc-array .inc-array .ensures) (at-if1 .if1 .left) _ (at-rows-of .rows-of .ensures) (at-if5 .if5 .taken))
+    let start = at-inc-array .before .before .before .before in (
+      start .pre .1 .2 .in-frame,
+      at-rows-of .rows-of .ensures .within (granted (at-if3 .if3 .left)),
+      at-rows-of .rows-of .ensures .room (granted (at-if3 .if3 .left)),
+      reads-wide (at-repeated .repeated .result) (at-repeated .repeated .ensures) (start .args .d) (start .args .part .now) (at-inc-array .inc-array .result) (at-inc-array .inc-array .ensures)
+          (at-if1 .if1 .left) _ (at-rows-of .rows-of .ensures) (at-if5 .if5 .taken),
+      reads-aligned (at-repeated .repeated .result) (at-repeated .repeated .ensures) (start .args .d)
+          (start .args .part .now) (at-inc-array .inc-array .result) (at-inc-array .inc-array .ensures) (at-if1 .if1 .left) _ (at-rows-of .rows-of .ensures) (at-if5 .if5 .taken),
+    )
 
 array-returns-5 : (t : ℕ) → array-lts.Need-returns-5 (array-callees t) (array-at t) array.Post
 array-returns-5 t c =
@@ -132,7 +153,8 @@ array-returns-5 t c =
     let at-repeated = at-if1 .before in
     let at-inc-array = at-repeated .before .before in
     let start = at-inc-array .before .before .before .before in
-    array-readings (at-repeated .repeated .result) (at-repeated .repeated .ensures) (start .args .d) (start .args .part .now) (at-inc-array .inc-array .result) (at-inc-array .inc-array .ensures) (at-if1 .if1 .left) _ (at-rows-of .rows-of .ensures) (at-if5 .if5 .taken) _ (granted (at-if3 .if3 .left)) _ (at-inc-maybe .inc-maybe .ensures) (c .readings-written .ensures)
+    array-readings (at-repeated .repeated .result) (at-repeated .repeated .ensures) (start .args .d) (start .args .part .now) (at-inc-array .inc-array .result) (at-inc-array .inc-array .ensures)
+    (at-if1 .if1 .left) _ (at-rows-of .rows-of .ensures) (at-if5 .if5 .taken) _ (granted (at-if3 .if3 .left)) _ (at-inc-maybe .inc-maybe .ensures) (c .readings-written .ensures)
 
 array-elements-requires : (t : ℕ) → array-lts.Need-elements-requires (array-callees t) (array-at t) array.Post
 array-elements-requires t c κs =
@@ -141,8 +163,17 @@ array-elements-requires t c κs =
     let at-if1 = at-rows-of .before .before .before in
     let at-repeated = at-if1 .before in
     let at-inc-array = at-repeated .before .before in
-    let start = at-inc-array .before .before .before .before in
-    (omega (arith, level-falls Depth.array (start .args .d) (at-inc-array .inc-array .result) (at-inc-array .inc-array .ensures) (at-if1 .if1 .left), start .pre .0), (at-repeated .repeated .ensures .repeated, inside-deeper Depth.array (start .args .d) (at-inc-array .inc-array .result) (start .pre .1 .2) (at-inc-array .inc-array .ensures) (at-if1 .if1 .left), at-rows-of .rows-of .ensures .within (granted (at-if3 .if3 .left)), at-rows-of .rows-of .ensures .room (granted (at-if3 .if3 .left)), at-rows-of .rows-of .ensures .wide))
+    let start = at-inc-array .before .before .before .before in (
+      omega (arith, level-falls Depth.array (start .args .d) (at-inc-array .inc-array .result) (at-inc-array .inc-array .ensures) (at-if1 .if1 .left), start .pre .0),
+      (
+        at-repeated .repeated .ensures .repeated,
+        inside-deeper Depth.array (start .args .d) (at-inc-array .inc-array .result) (start .pre .1 .2) (at-inc-array .inc-array .ensures)
+            (at-if1 .if1 .left),
+        at-rows-of .rows-of .ensures .within (granted (at-if3 .if3 .left)),
+        at-rows-of .rows-of .ensures .room (granted (at-if3 .if3 .left)),
+        at-rows-of .rows-of .ensures .wide,
+      ),
+    )
 
 array-returns-6 : (t : ℕ) → array-lts.Need-returns-6 (array-callees t) (array-at t) array.Post
 array-returns-6 t c =
@@ -152,7 +183,8 @@ array-returns-6 t c =
     let at-repeated = at-if1 .before in
     let at-inc-array = at-repeated .before .before in
     let start = at-inc-array .before .before .before .before in
-    array-on (at-repeated .repeated .result) (at-repeated .repeated .ensures) (start .args .d) (start .args .part .now) (at-inc-array .inc-array .result) (at-inc-array .inc-array .ensures) (at-if1 .if1 .left) _ (at-rows-of .rows-of .ensures) _ (granted (at-if3 .if3 .left)) (c .elements .ensures)
+    array-on (at-repeated .repeated .result) (at-repeated .repeated .ensures) (start .args .d) (start .args .part .now) (at-inc-array .inc-array .result) (at-inc-array .inc-array .ensures)
+    (at-if1 .if1 .left) _ (at-rows-of .rows-of .ensures) _ (granted (at-if3 .if3 .left)) (c .elements .ensures)
 
 pub array-spec : {M : Type 1} (t : ℕ) → array-lts.Closed (array-callees t) (array-at t) array.Post M
 array-spec t =

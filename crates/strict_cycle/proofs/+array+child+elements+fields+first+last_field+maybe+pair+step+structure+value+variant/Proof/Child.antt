@@ -40,7 +40,8 @@ child-returns : (t : ℕ) → child-lts.Need-returns (child-callees t) (child-at
 child-returns t c =
     let at-start-of = c .before in
     let start = at-start-of .before .before .before .before in
-    child-not (treeTest (start .args .d .variant) (start .args .text .now) (start .args .shape .at)) (depthsOf (start .args .d)) (start .args .part .now) _ _ _ _ (placed-known (start .pre .1 .0) .same-alignment (start .args .d .variant)) _ (at-start-of .start-of .ensures) (denied (c .if1 .taken))
+    child-not (treeTest (start .args .d .variant) (start .args .text .now) (start .args .shape .at)) (depthsOf (start .args .d)) (start .args .part .now) _ _ _ _
+    (placed-known (start .pre .1 .0) .same-alignment (start .args .d .variant)) _ (at-start-of .start-of .ensures) (denied (c .if1 .taken))
 
 child-is-basic-requires : (t : ℕ) → child-lts.Need-is-basic-requires (child-callees t) (child-at t) child.Post
 child-is-basic-requires t c κs = search needs
@@ -76,7 +77,10 @@ child-returns-2 t c =
     let at-if1 = at-is-basic .before in
     let at-start-of = at-if1 .before in
     let start = at-start-of .before .before .before .before in
-    child-on (treeTest (start .args .d .variant) (start .args .text .now) (start .args .shape .at)) (depthsOf (start .args .d)) (start .args .part .now) _ _ _ _ (placed-known (start .pre .1 .0) .same-alignment (start .args .d .variant)) _ (at-start-of .start-of .ensures) _ (granted (at-if1 .if1 .left)) (basic-is (start .args .text .now) (start .args .shape .at) (start .args .shape .kind) (start .args .d .variant) (depthsOf (start .args .d)) _ _ (start .pre .1 .0 .shape .typed) (described-kind (start .pre .1 .0 .shape)) (sym (at-is-basic .is-basic .ensures) ∙ at-if2 .if2 .taken) (c .letter-written .ensures))
+    child-on (treeTest (start .args .d .variant) (start .args .text .now) (start .args .shape .at)) (depthsOf (start .args .d)) (start .args .part .now) _ _ _ _ (placed-known
+    (start .pre .1 .0) .same-alignment (start .args .d .variant)) _ (at-start-of .start-of .ensures) _ (granted (at-if1 .if1 .left)) (basic-is (start .args .text .now) (start .args .shape .at)
+    (start .args .shape .kind) (start .args .d .variant) (depthsOf (start .args .d)) _ _ (start .pre .1 .0 .shape .typed) (described-kind (start .pre .1 .0 .shape)) (sym
+    (at-is-basic .is-basic .ensures) ∙ at-if2 .if2 .taken) (c .letter-written .ensures))
 
 child-sub-value : (t : ℕ) → child-lts.Need-sub-value (child-callees t) (child-at t) child.Post
 child-sub-value t c =
@@ -110,7 +114,8 @@ child-returns-3 t c =
     let at-if1 = c .before .before .before .before in
     let at-start-of = at-if1 .before in
     let start = at-start-of .before .before .before .before in
-    child-on (treeTest (start .args .d .variant) (start .args .text .now) (start .args .shape .at)) (depthsOf (start .args .d)) (start .args .part .now) _ _ _ _ (placed-known (start .pre .1 .0) .same-alignment (start .args .d .variant)) _ (at-start-of .start-of .ensures) _ (granted (at-if1 .if1 .left)) (c .value .ensures)
+    child-on (treeTest (start .args .d .variant) (start .args .text .now) (start .args .shape .at)) (depthsOf (start .args .d)) (start .args .part .now) _ _ _ _ (placed-known
+    (start .pre .1 .0) .same-alignment (start .args .d .variant)) _ (at-start-of .start-of .ensures) _ (granted (at-if1 .if1 .left)) (c .value .ensures)
 
 pub child-spec : {M : Type 1} (t : ℕ) → child-lts.Closed (child-callees t) (child-at t) child.Post M
 child-spec t =

@@ -38,8 +38,14 @@ elements-loop-holds t c =
 elements-element-end-requires : (t : ℕ) → elements-lts.Need-element-end-requires (elements-callees t) (elements-at t) elements.Post elements-Inv-loop elements-μ-loop
 elements-element-end-requires t c κs =
     let at-loop = c .before in
-    let start = at-loop .before .before .before .before .before in
-    (omega (arith, at-loop .loop .inv .place, start .pre .1 .2, start .pre .1 .1 .in-frame), start .pre .1 .0 .known .laid, (λ f. (omega (arith, elements-room _ (itemTest (start .args .d .variant) (start .args .text .now) (start .args .item)) _ _ _ _ _ _ (at-loop .loop .inv) (c .loop-test .taken)), start .pre .1 .4 f)))
+    let start = at-loop .before .before .before .before .before in (
+      omega (arith, at-loop .loop .inv .place, start .pre .1 .2, start .pre .1 .1 .in-frame),
+      start .pre .1 .0 .known .laid,
+      (λ f. (
+        omega (arith, elements-room _ (itemTest (start .args .d .variant) (start .args .text .now) (start .args .item)) _ _ _ _ _ _ (at-loop .loop .inv) (c .loop-test .taken)),
+        start .pre .1 .4 f,
+      )),
+    )
 
 elements-step-requires : (t : ℕ) → elements-lts.Need-step-requires (elements-callees t) (elements-at t) elements.Post elements-Inv-loop elements-μ-loop
 elements-step-requires t c κs =
@@ -54,7 +60,9 @@ elements-returns t c =
     let at-loop-test = at-element-end .before in
     let at-loop = at-loop-test .before in
     let start = at-loop .before .before .before .before .before in
-    elements-stop _ (itemTest (start .args .d .variant) (start .args .text .now) (start .args .item)) _ _ _ _ _ _ (start .args .item .extent) refl (start .pre .1 .0 .known .same-alignment (start .args .d .variant)) (start .pre .1 .0 .known .same-size (start .args .d .variant)) (at-loop .loop .inv) (at-loop-test .loop-test .taken) _ (at-element-end .element-end .ensures) _ (at-step .step .ensures) (denied (c .if1 .taken))
+    elements-stop _ (itemTest (start .args .d .variant) (start .args .text .now) (start .args .item)) _ _ _ _ _ _ (start .args .item .extent) refl (start .pre .1 .0 .known .same-alignment
+    (start .args .d .variant)) (start .pre .1 .0 .known .same-size (start .args .d .variant)) (at-loop .loop .inv) (at-loop-test .loop-test .taken) _ (at-element-end .element-end .ensures) _
+    (at-step .step .ensures) (denied (c .if1 .taken))
 
 elements-add-from : (t : ℕ) → elements-lts.Need-add-from (elements-callees t) (elements-at t) elements.Post elements-Inv-loop elements-μ-loop
 elements-add-from t c =
@@ -76,7 +84,9 @@ elements-loop-again t c =
     let at-loop-test = at-element-end .before in
     let at-loop = at-loop-test .before in
     let start = at-loop .before .before .before .before .before in
-    elements-next _ (itemTest (start .args .d .variant) (start .args .text .now) (start .args .item)) _ _ _ _ _ _ (start .args .item .extent) refl (start .pre .1 .0 .known .same-alignment (start .args .d .variant)) (start .pre .1 .0 .known .same-size (start .args .d .variant)) (at-loop .loop .inv) (at-loop-test .loop-test .taken) _ (at-element-end .element-end .ensures) _ (at-step .step .ensures) (granted (c .if1 .left))
+    elements-next _ (itemTest (start .args .d .variant) (start .args .text .now) (start .args .item)) _ _ _ _ _ _ (start .args .item .extent) refl (start .pre .1 .0 .known .same-alignment
+    (start .args .d .variant)) (start .pre .1 .0 .known .same-size (start .args .d .variant)) (at-loop .loop .inv) (at-loop-test .loop-test .taken) _ (at-element-end .element-end .ensures) _
+    (at-step .step .ensures) (granted (c .if1 .left))
 
 elements-returns-2 : (t : ℕ) → elements-lts.Need-returns-2 (elements-callees t) (elements-at t) elements.Post elements-Inv-loop elements-μ-loop
 elements-returns-2 t c =

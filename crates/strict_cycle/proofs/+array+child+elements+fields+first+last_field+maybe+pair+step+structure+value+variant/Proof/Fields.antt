@@ -69,8 +69,17 @@ fields-last-field-requires t c κs =
     let at-letter-at = c .before .before in
     let at-shape-in = at-letter-at .before in
     let at-loop = at-shape-in .before in
-    let start = at-loop .before .before .before .before in
-    (omega (arith, start .pre .0), (last-placed (start .pre .1 .1) (last-field-of _ _ _ (at-loop .loop .inv .rowed) (start .pre .1 .1 .shapes) _ (at-shape-in .shape-in .ensures) _ (at-letter-at .letter-at .ensures) (c .enum-told .given .1)), start .pre .1 .2, at-loop .loop .inv .place, start .pre .1 .3, start .pre .1 .4))
+    let start = at-loop .before .before .before .before in (
+      omega (arith, start .pre .0),
+      (
+        last-placed (start .pre .1 .1) (last-field-of _ _ _ (at-loop .loop .inv .rowed) (start .pre .1 .1 .shapes) _ (at-shape-in .shape-in .ensures) _
+            (at-letter-at .letter-at .ensures) (c .enum-told .given .1)),
+        start .pre .1 .2,
+        at-loop .loop .inv .place,
+        start .pre .1 .3,
+        start .pre .1 .4,
+      ),
+    )
 
 fields-returns : (t : ℕ) → fields-lts.Need-returns (fields-callees t) (fields-at t) fields.Post fields-Inv-loop fields-μ-loop
 fields-returns t c =
@@ -79,15 +88,19 @@ fields-returns t c =
     let at-shape-in = at-letter-at .before in
     let at-loop = at-shape-in .before in
     let start = at-loop .before .before .before .before in
-    fields-last (start .pre .1 .1) (at-loop .loop .inv) _ (last-field-of _ _ _ (at-loop .loop .inv .rowed) (start .pre .1 .1 .shapes) _ (at-shape-in .shape-in .ensures) _ (at-letter-at .letter-at .ensures) (at-enum-told .enum-told .given .1)) _ (c .last-field .ensures)
+    fields-last (start .pre .1 .1) (at-loop .loop .inv) _ (last-field-of _ _ _ (at-loop .loop .inv .rowed) (start .pre .1 .1 .shapes) _ (at-shape-in .shape-in .ensures) _
+    (at-letter-at .letter-at .ensures) (at-enum-told .enum-told .given .1)) _ (c .last-field .ensures)
 
 fields-extent-in-requires : (t : ℕ) → fields-lts.Need-extent-in-requires (fields-callees t) (fields-at t) fields.Post fields-Inv-loop fields-μ-loop
 fields-extent-in-requires t c κs =
     let at-letter-at = c .before in
     let at-shape-in = at-letter-at .before in
     let at-loop = at-shape-in .before in
-    let start = at-loop .before .before .before .before in
-    (start .pre .1 .1 .room, placed-at (next-placed (start .pre .1 .1) (next-field-of _ _ _ (at-loop .loop .inv .rowed) (start .pre .1 .1 .shapes) _ (at-shape-in .shape-in .ensures) _ (at-letter-at .letter-at .ensures) (λ q. apart-from CloseStructure (at-letter-at .letter-at .result) (c .match .keys2) q))))
+    let start = at-loop .before .before .before .before in (
+      start .pre .1 .1 .room,
+      placed-at (next-placed (start .pre .1 .1) (next-field-of _ _ _ (at-loop .loop .inv .rowed) (start .pre .1 .1 .shapes) _ (at-shape-in .shape-in .ensures) _
+          (at-letter-at .letter-at .ensures) (λ q. apart-from CloseStructure (at-letter-at .letter-at .result) (c .match .keys2) q))),
+    )
 
 fields-field-end-requires : (t : ℕ) → fields-lts.Need-field-end-requires (fields-callees t) (fields-at t) fields.Post fields-Inv-loop fields-μ-loop
 fields-field-end-requires t c κs =
@@ -95,8 +108,15 @@ fields-field-end-requires t c κs =
     let at-letter-at = at-match .before in
     let at-shape-in = at-letter-at .before in
     let at-loop = at-shape-in .before in
-    let start = at-loop .before .before .before .before in
-    (omega (arith, at-loop .loop .inv .place, start .pre .1 .3, start .pre .1 .2 .in-frame), laid-as (c .extent-in .ensures) (placed-known (next-placed (start .pre .1 .1) (next-field-of _ _ _ (at-loop .loop .inv .rowed) (start .pre .1 .1 .shapes) _ (at-shape-in .shape-in .ensures) _ (at-letter-at .letter-at .ensures) (λ q. apart-from CloseStructure (at-letter-at .letter-at .result) (at-match .match .keys2) q))) .laid), at-loop .loop .inv .inside, start .pre .1 .5, fields-room (start .pre .1 .1) (at-loop .loop .inv) _ (next-field-of _ _ _ (at-loop .loop .inv .rowed) (start .pre .1 .1 .shapes) _ (at-shape-in .shape-in .ensures) _ (at-letter-at .letter-at .ensures) (λ q. apart-from CloseStructure (at-letter-at .letter-at .result) (at-match .match .keys2) q)) _ (c .extent-in .ensures))
+    let start = at-loop .before .before .before .before in (
+      omega (arith, at-loop .loop .inv .place, start .pre .1 .3, start .pre .1 .2 .in-frame),
+      laid-as (c .extent-in .ensures) (placed-known (next-placed (start .pre .1 .1)
+          (next-field-of _ _ _ (at-loop .loop .inv .rowed) (start .pre .1 .1 .shapes) _ (at-shape-in .shape-in .ensures) _ (at-letter-at .letter-at .ensures) (λ q. apart-from CloseStructure (at-letter-at .letter-at .result) (at-match .match .keys2) q))) .laid),
+      at-loop .loop .inv .inside,
+      start .pre .1 .5,
+      fields-room (start .pre .1 .1) (at-loop .loop .inv) _ (next-field-of _ _ _ (at-loop .loop .inv .rowed) (start .pre .1 .1 .shapes) _
+          (at-shape-in .shape-in .ensures) _ (at-letter-at .letter-at .ensures) (λ q. apart-from CloseStructure (at-letter-at .letter-at .result) (at-match .match .keys2) q)) _ (c .extent-in .ensures),
+    )
 
 fields-child-requires : (t : ℕ) → fields-lts.Need-child-requires (fields-callees t) (fields-at t) fields.Post fields-Inv-loop fields-μ-loop
 fields-child-requires t c κs =
@@ -104,8 +124,16 @@ fields-child-requires t c κs =
     let at-letter-at = at-match .before in
     let at-shape-in = at-letter-at .before in
     let at-loop = at-shape-in .before in
-    let start = at-loop .before .before .before .before in
-    (omega (arith, start .pre .0), (next-placed (start .pre .1 .1) (next-field-of _ _ _ (at-loop .loop .inv .rowed) (start .pre .1 .1 .shapes) _ (at-shape-in .shape-in .ensures) _ (at-letter-at .letter-at .ensures) (λ q. apart-from CloseStructure (at-letter-at .letter-at .result) (at-match .match .keys2) q)), start .pre .1 .2, at-loop .loop .inv .place, start .pre .1 .3))
+    let start = at-loop .before .before .before .before in (
+      omega (arith, start .pre .0),
+      (
+        next-placed (start .pre .1 .1) (next-field-of _ _ _ (at-loop .loop .inv .rowed) (start .pre .1 .1 .shapes) _ (at-shape-in .shape-in .ensures) _
+            (at-letter-at .letter-at .ensures) (λ q. apart-from CloseStructure (at-letter-at .letter-at .result) (at-match .match .keys2) q)),
+        start .pre .1 .2,
+        at-loop .loop .inv .place,
+        start .pre .1 .3,
+      ),
+    )
 
 fields-returns-2 : (t : ℕ) → fields-lts.Need-returns-2 (fields-callees t) (fields-at t) fields.Post fields-Inv-loop fields-μ-loop
 fields-returns-2 t c =
@@ -117,7 +145,9 @@ fields-returns-2 t c =
     let at-shape-in = at-letter-at .before in
     let at-loop = at-shape-in .before in
     let start = at-loop .before .before .before .before in
-    fields-stop (start .pre .1 .1) (at-loop .loop .inv) _ (next-field-of _ _ _ (at-loop .loop .inv .rowed) (start .pre .1 .1 .shapes) _ (at-shape-in .shape-in .ensures) _ (at-letter-at .letter-at .ensures) (λ q. apart-from CloseStructure (at-letter-at .letter-at .result) (at-match .match .keys2) q)) _ (at-extent-in .extent-in .ensures) _ (at-field-end .field-end .ensures) _ (at-child .child .ensures) (denied (c .if1 .taken))
+    fields-stop (start .pre .1 .1) (at-loop .loop .inv) _ (next-field-of _ _ _ (at-loop .loop .inv .rowed) (start .pre .1 .1 .shapes) _ (at-shape-in .shape-in .ensures) _
+    (at-letter-at .letter-at .ensures) (λ q. apart-from CloseStructure (at-letter-at .letter-at .result) (at-match .match .keys2) q)) _ (at-extent-in .extent-in .ensures) _
+    (at-field-end .field-end .ensures) _ (at-child .child .ensures) (denied (c .if1 .taken))
 
 fields-offsets-left-requires : (t : ℕ) → fields-lts.Need-offsets-left-requires (fields-callees t) (fields-at t) fields.Post fields-Inv-loop fields-μ-loop
 fields-offsets-left-requires t c κs =
@@ -127,7 +157,8 @@ fields-offsets-left-requires t c κs =
     let at-shape-in = at-letter-at .before in
     let at-loop = at-shape-in .before in
     let start = at-loop .before .before .before .before in
-    fields-room (start .pre .1 .1) (at-loop .loop .inv) _ (next-field-of _ _ _ (at-loop .loop .inv .rowed) (start .pre .1 .1 .shapes) _ (at-shape-in .shape-in .ensures) _ (at-letter-at .letter-at .ensures) (λ q. apart-from CloseStructure (at-letter-at .letter-at .result) (at-match .match .keys2) q)) _ (at-extent-in .extent-in .ensures)
+    fields-room (start .pre .1 .1) (at-loop .loop .inv) _ (next-field-of _ _ _ (at-loop .loop .inv .rowed) (start .pre .1 .1 .shapes) _ (at-shape-in .shape-in .ensures) _
+    (at-letter-at .letter-at .ensures) (λ q. apart-from CloseStructure (at-letter-at .letter-at .result) (at-match .match .keys2) q)) _ (at-extent-in .extent-in .ensures)
 
 fields-loop-less : (t : ℕ) → fields-lts.Need-loop-less (fields-callees t) (fields-at t) fields.Post fields-Inv-loop fields-μ-loop
 fields-loop-less t c =
@@ -136,7 +167,8 @@ fields-loop-less t c =
     let at-shape-in = at-letter-at .before in
     let at-loop = at-shape-in .before in
     let start = at-loop .before .before .before .before in
-    let g = (next-field-of _ _ _ (at-loop .loop .inv .rowed) (start .pre .1 .1 .shapes) _ (at-shape-in .shape-in .ensures) _ (at-letter-at .letter-at .ensures) (λ q. apart-from CloseStructure (at-letter-at .letter-at .result) (at-match .match .keys2) q)) in omega (arith, g .onward, g .within)
+    let g = (next-field-of _ _ _ (at-loop .loop .inv .rowed) (start .pre .1 .1 .shapes) _ (at-shape-in .shape-in .ensures) _ (at-letter-at .letter-at .ensures) (λ q. apart-from CloseStructure
+    (at-letter-at .letter-at .result) (at-match .match .keys2) q)) in omega (arith, g .onward, g .within)
 
 fields-loop-again : (t : ℕ) → fields-lts.Need-loop-again (fields-callees t) (fields-at t) fields.Post fields-Inv-loop fields-μ-loop
 fields-loop-again t c =
@@ -149,7 +181,9 @@ fields-loop-again t c =
     let at-shape-in = at-letter-at .before in
     let at-loop = at-shape-in .before in
     let start = at-loop .before .before .before .before in
-    fields-next (start .pre .1 .1) (at-loop .loop .inv) _ (next-field-of _ _ _ (at-loop .loop .inv .rowed) (start .pre .1 .1 .shapes) _ (at-shape-in .shape-in .ensures) _ (at-letter-at .letter-at .ensures) (λ q. apart-from CloseStructure (at-letter-at .letter-at .result) (at-match .match .keys2) q)) _ (at-extent-in .extent-in .ensures) _ (at-field-end .field-end .ensures) _ (at-child .child .ensures) _ (granted (at-if1 .if1 .left)) (c .offsets-left .ensures)
+    fields-next (start .pre .1 .1) (at-loop .loop .inv) _ (next-field-of _ _ _ (at-loop .loop .inv .rowed) (start .pre .1 .1 .shapes) _ (at-shape-in .shape-in .ensures) _
+    (at-letter-at .letter-at .ensures) (λ q. apart-from CloseStructure (at-letter-at .letter-at .result) (at-match .match .keys2) q)) _ (at-extent-in .extent-in .ensures) _
+    (at-field-end .field-end .ensures) _ (at-child .child .ensures) _ (granted (at-if1 .if1 .left)) (c .offsets-left .ensures)
 
 pub fields-spec : {M : Type 1} (t : ℕ) → fields-lts.Closed (fields-callees t) (fields-at t) fields.Post M
 fields-spec t =

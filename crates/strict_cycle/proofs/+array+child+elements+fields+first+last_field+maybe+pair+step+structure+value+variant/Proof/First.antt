@@ -33,13 +33,15 @@ first-mul-if1 t c =
 first-returns : (t : ℕ) → first-lts.Need-returns (first-callees t) (first-at t) first.Post
 first-returns t c =
     let start = c .before .before .before .before .before in
-    any-odd (start .args .item .extent) (λ n. itemTest n (start .args .text .now) (start .args .item)) (start .pre .1 .0 .known) (start .pre .1 .0 .any (start .pre .1 .1)) (start .args .d .variant) (depthsOf (start .args .d)) (start .args .part .now) _ refl (c .if1 .taken)
+    any-odd (start .args .item .extent) (λ n. itemTest n (start .args .text .now) (start .args .item)) (start .pre .1 .0 .known) (start .pre .1 .0 .any (start .pre .1 .1))
+    (start .args .d .variant) (depthsOf (start .args .d)) (start .args .part .now) _ refl (c .if1 .taken)
 
 first-returns-2 : (t : ℕ) → first-lts.Need-returns-2 (first-callees t) (first-at t) first.Post
 first-returns-2 t c =
     let at-if1 = c .before in
     let start = at-if1 .before .before .before .before .before in
-    any-none (start .args .item .extent) (λ n. itemTest n (start .args .text .now) (start .args .item)) (start .pre .1 .0 .known) (start .pre .1 .0 .any (start .pre .1 .1)) (start .args .d .variant) (depthsOf (start .args .d)) (start .args .part .now) _ refl (at-if1 .if1 .left) (c .if2 .taken)
+    any-none (start .args .item .extent) (λ n. itemTest n (start .args .text .now) (start .args .item)) (start .pre .1 .0 .known) (start .pre .1 .0 .any (start .pre .1 .1))
+    (start .args .d .variant) (depthsOf (start .args .d)) (start .args .part .now) _ refl (at-if1 .if1 .left) (c .if2 .taken)
 
 first-step-requires : (t : ℕ) → first-lts.Need-step-requires (first-callees t) (first-at t) first.Post
 first-step-requires t c κs =
@@ -51,7 +53,8 @@ first-returns-3 t c =
     let at-if2 = c .before in
     let at-if1 = at-if2 .before in
     let start = at-if1 .before .before .before .before .before in
-    any-first (start .args .item .extent) (λ n. itemTest n (start .args .text .now) (start .args .item)) (start .pre .1 .0 .known) (start .pre .1 .0 .any (start .pre .1 .1)) (start .args .d .variant) (depthsOf (start .args .d)) (start .args .part .now) _ refl (at-if1 .if1 .left) (at-if2 .if2 .left) _ (c .step .ensures)
+    any-first (start .args .item .extent) (λ n. itemTest n (start .args .text .now) (start .args .item)) (start .pre .1 .0 .known) (start .pre .1 .0 .any (start .pre .1 .1))
+    (start .args .d .variant) (depthsOf (start .args .d)) (start .args .part .now) _ refl (at-if1 .if1 .left) (at-if2 .if2 .left) _ (c .step .ensures)
 
 pub first-spec : {M : Type 1} (t : ℕ) → first-lts.Closed (first-callees t) (first-at t) first.Post M
 first-spec t =

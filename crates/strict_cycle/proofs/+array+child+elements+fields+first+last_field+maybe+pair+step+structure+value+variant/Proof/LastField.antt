@@ -53,13 +53,24 @@ last-field-returns t c =
     let at-last-end = at-child .before in
     let at-extent-in = at-last-end .before in
     let start = at-extent-in .before .before .before .before in
-    last-stop (start .args .whole .fixed) (start .args .whole .alignment) (at-extent-in .extent-in .result) (λ n. treeTest n (start .args .text .now) (start .args .shape .at)) (known-as (at-extent-in .extent-in .ensures) (placed-known (start .pre .1 .0))) (start .args .d .variant) (depthsOf (start .args .d)) (start .args .part .now) _ _ _ (at-last-end .last-end .ensures) _ (at-child .child .ensures) (denied (c .if1 .taken))
+    last-stop (start .args .whole .fixed) (start .args .whole .alignment) (at-extent-in .extent-in .result) (λ n. treeTest n (start .args .text .now) (start .args .shape .at))
+    (known-as (at-extent-in .extent-in .ensures) (placed-known (start .pre .1 .0))) (start .args .d .variant) (depthsOf (start .args .d)) (start .args .part .now) _ _ _
+    (at-last-end .last-end .ensures) _ (at-child .child .ensures) (denied (c .if1 .taken))
 
 last-field-finished-requires : (t : ℕ) → last-field-lts.Need-finished-requires (last-field-callees t) (last-field-at t) last-field.Post
 last-field-finished-requires t c κs =
     let at-child = c .before in
-    let start = at-child .before .before .before .before .before .before in
-    (omega (arith, child-within (treeTest (start .args .d .variant) (start .args .text .now) (start .args .shape .at)) (depthsOf (start .args .d)) (start .args .part .now) _ _ _ (sym (at-child .child .ensures) ∙ granted (c .if1 .left)), start .pre .1 .3, start .pre .1 .1 .in-frame), start .pre .1 .3, start .pre .1 .4)
+    let start = at-child .before .before .before .before .before .before in (
+      omega (
+        arith,
+        child-within (treeTest (start .args .d .variant) (start .args .text .now) (start .args .shape .at)) (depthsOf (start .args .d)) (start .args .part .now) _ _ _
+            (sym (at-child .child .ensures) ∙ granted (c .if1 .left)),
+        start .pre .1 .3,
+        start .pre .1 .1 .in-frame,
+      ),
+      start .pre .1 .3,
+      start .pre .1 .4,
+    )
 
 last-field-returns-2 : (t : ℕ) → last-field-lts.Need-returns-2 (last-field-callees t) (last-field-at t) last-field.Post
 last-field-returns-2 t c =
@@ -68,7 +79,9 @@ last-field-returns-2 t c =
     let at-last-end = at-child .before in
     let at-extent-in = at-last-end .before in
     let start = at-extent-in .before .before .before .before in
-    last-done (start .args .whole .fixed) (start .args .whole .alignment) (at-extent-in .extent-in .result) (λ n. treeTest n (start .args .text .now) (start .args .shape .at)) (known-as (at-extent-in .extent-in .ensures) (placed-known (start .pre .1 .0))) (start .args .d .variant) (depthsOf (start .args .d)) (start .args .part .now) _ _ _ (at-last-end .last-end .ensures) _ (at-child .child .ensures) _ (granted (at-if1 .if1 .left)) (c .finished .ensures)
+    last-done (start .args .whole .fixed) (start .args .whole .alignment) (at-extent-in .extent-in .result) (λ n. treeTest n (start .args .text .now) (start .args .shape .at))
+    (known-as (at-extent-in .extent-in .ensures) (placed-known (start .pre .1 .0))) (start .args .d .variant) (depthsOf (start .args .d)) (start .args .part .now) _ _ _
+    (at-last-end .last-end .ensures) _ (at-child .child .ensures) _ (granted (at-if1 .if1 .left)) (c .finished .ensures)
 
 pub last-field-spec : {M : Type 1} (t : ℕ) → last-field-lts.Closed (last-field-callees t) (last-field-at t) last-field.Post M
 last-field-spec t =

@@ -74,15 +74,25 @@ maybe-returns-3 t c =
     let at-inc-maybe = at-if2 .before .before in
     let at-if1 = at-inc-maybe .before in
     let start = at-if1 .before .before .before .before in
-    maybe-fixed (start .pre .1 .0) (start .pre .1 .1) (start .args .d) (start .args .part .now) (at-if1 .if1 .left) (at-inc-maybe .inc-maybe .result) (at-inc-maybe .inc-maybe .ensures) (at-if2 .if2 .left) _ (at-shape-in .shape-in .ensures) _ (at-if3 .if3 .taken) (basic-is (start .args .text .now) (at-shape-in .shape-in .result .at) (at-shape-in .shape-in .result .kind) (at-inc-maybe .inc-maybe .result .depths .variant) (depthsOf (at-inc-maybe .inc-maybe .result .depths)) _ _ (held-placed (start .pre .1 .0) (start .pre .1 .1) _ (at-shape-in .shape-in .ensures) .shape .typed) (described-kind (held-placed (start .pre .1 .0) (start .pre .1 .1) _ (at-shape-in .shape-in .ensures) .shape)) (sym (at-is-basic .is-basic .ensures) ∙ at-if4 .if4 .taken) (c .letter-written .ensures))
+    maybe-fixed (start .pre .1 .0) (start .pre .1 .1) (start .args .d) (start .args .part .now) (at-if1 .if1 .left) (at-inc-maybe .inc-maybe .result) (at-inc-maybe .inc-maybe .ensures)
+    (at-if2 .if2 .left) _ (at-shape-in .shape-in .ensures) _ (at-if3 .if3 .taken) (basic-is (start .args .text .now) (at-shape-in .shape-in .result .at) (at-shape-in .shape-in .result .kind)
+    (at-inc-maybe .inc-maybe .result .depths .variant) (depthsOf (at-inc-maybe .inc-maybe .result .depths)) _ _ (held-placed (start .pre .1 .0) (start .pre .1 .1) _
+    (at-shape-in .shape-in .ensures) .shape .typed) (described-kind (held-placed (start .pre .1 .0) (start .pre .1 .1) _ (at-shape-in .shape-in .ensures) .shape)) (sym
+    (at-is-basic .is-basic .ensures) ∙ at-if4 .if4 .taken) (c .letter-written .ensures))
 
 maybe-value-requires : (t : ℕ) → maybe-lts.Need-value-requires (maybe-callees t) (maybe-at t) maybe.Post
 maybe-value-requires t c κs =
     let at-shape-in = c .before .before .before in
     let at-if2 = at-shape-in .before .before in
     let at-inc-maybe = at-if2 .before .before in
-    let start = at-inc-maybe .before .before .before .before .before in
-    (omega (arith, level-falls Depth.maybe (start .args .d) (at-inc-maybe .inc-maybe .result) (at-inc-maybe .inc-maybe .ensures) (at-if2 .if2 .left), start .pre .0), (held-placed (start .pre .1 .0) (start .pre .1 .1) _ (at-shape-in .shape-in .ensures), inside-deeper Depth.maybe (start .args .d) (at-inc-maybe .inc-maybe .result) (start .pre .1 .2) (at-inc-maybe .inc-maybe .ensures) (at-if2 .if2 .left)))
+    let start = at-inc-maybe .before .before .before .before .before in (
+      omega (arith, level-falls Depth.maybe (start .args .d) (at-inc-maybe .inc-maybe .result) (at-inc-maybe .inc-maybe .ensures) (at-if2 .if2 .left), start .pre .0),
+      (
+        held-placed (start .pre .1 .0) (start .pre .1 .1) _ (at-shape-in .shape-in .ensures),
+        inside-deeper Depth.maybe (start .args .d) (at-inc-maybe .inc-maybe .result) (start .pre .1 .2)
+            (at-inc-maybe .inc-maybe .ensures) (at-if2 .if2 .left),
+      ),
+    )
 
 maybe-returns-4 : (t : ℕ) → maybe-lts.Need-returns-4 (maybe-callees t) (maybe-at t) maybe.Post
 maybe-returns-4 t c =
@@ -92,7 +102,8 @@ maybe-returns-4 t c =
     let at-inc-maybe = at-if2 .before .before in
     let at-if1 = at-inc-maybe .before in
     let start = at-if1 .before .before .before .before in
-    maybe-fixed (start .pre .1 .0) (start .pre .1 .1) (start .args .d) (start .args .part .now) (at-if1 .if1 .left) (at-inc-maybe .inc-maybe .result) (at-inc-maybe .inc-maybe .ensures) (at-if2 .if2 .left) _ (at-shape-in .shape-in .ensures) _ (at-if3 .if3 .taken) (c .value .ensures)
+    maybe-fixed (start .pre .1 .0) (start .pre .1 .1) (start .args .d) (start .args .part .now) (at-if1 .if1 .left) (at-inc-maybe .inc-maybe .result) (at-inc-maybe .inc-maybe .ensures)
+    (at-if2 .if2 .left) _ (at-shape-in .shape-in .ensures) _ (at-if3 .if3 .taken) (c .value .ensures)
 
 maybe-sub-end : (t : ℕ) → maybe-lts.Need-sub-end (maybe-callees t) (maybe-at t) maybe.Post
 maybe-sub-end t c = omega arith
@@ -108,7 +119,8 @@ maybe-returns-5 t c =
     let at-inc-maybe = at-if2 .before .before in
     let at-if1 = at-inc-maybe .before in
     let start = at-if1 .before .before .before .before in
-    maybe-open (start .pre .1 .0) (start .pre .1 .1) (start .args .d) (start .args .part .now) (at-if1 .if1 .left) (at-inc-maybe .inc-maybe .result) (at-inc-maybe .inc-maybe .ensures) (at-if2 .if2 .left) _ (at-shape-in .shape-in .ensures) (at-if3 .if3 .left) (c .if5 .taken)
+    maybe-open (start .pre .1 .0) (start .pre .1 .1) (start .args .d) (start .args .part .now) (at-if1 .if1 .left) (at-inc-maybe .inc-maybe .result) (at-inc-maybe .inc-maybe .ensures)
+    (at-if2 .if2 .left) _ (at-shape-in .shape-in .ensures) (at-if3 .if3 .left) (c .if5 .taken)
 
 maybe-slice-aggregate-value : (t : ℕ) → maybe-lts.Need-slice-aggregate-value (maybe-callees t) (maybe-at t) maybe.Post
 maybe-slice-aggregate-value t c = simp length-take (omega arith)
@@ -118,8 +130,14 @@ maybe-value-requires-2 t c κs =
     let at-shape-in = c .before .before .before .before in
     let at-if2 = at-shape-in .before .before in
     let at-inc-maybe = at-if2 .before .before in
-    let start = at-inc-maybe .before .before .before .before .before in
-    (omega (arith, level-falls Depth.maybe (start .args .d) (at-inc-maybe .inc-maybe .result) (at-inc-maybe .inc-maybe .ensures) (at-if2 .if2 .left), start .pre .0), (held-placed (start .pre .1 .0) (start .pre .1 .1) _ (at-shape-in .shape-in .ensures), inside-take (length (start .args .part .now) - 1) (start .args .part .now) (inside-deeper Depth.maybe (start .args .d) (at-inc-maybe .inc-maybe .result) (start .pre .1 .2) (at-inc-maybe .inc-maybe .ensures) (at-if2 .if2 .left))))
+    let start = at-inc-maybe .before .before .before .before .before in (
+      omega (arith, level-falls Depth.maybe (start .args .d) (at-inc-maybe .inc-maybe .result) (at-inc-maybe .inc-maybe .ensures) (at-if2 .if2 .left), start .pre .0),
+      (
+        held-placed (start .pre .1 .0) (start .pre .1 .1) _ (at-shape-in .shape-in .ensures),
+        inside-take (length (start .args .part .now) - 1) (start .args .part .now)
+            (inside-deeper Depth.maybe (start .args .d) (at-inc-maybe .inc-maybe .result) (start .pre .1 .2) (at-inc-maybe .inc-maybe .ensures) (at-if2 .if2 .left)),
+      ),
+    )
 
 maybe-returns-6 : (t : ℕ) → maybe-lts.Need-returns-6 (maybe-callees t) (maybe-at t) maybe.Post
 maybe-returns-6 t c =
@@ -130,7 +148,8 @@ maybe-returns-6 t c =
     let at-inc-maybe = at-if2 .before .before in
     let at-if1 = at-inc-maybe .before in
     let start = at-if1 .before .before .before .before in
-    maybe-other (start .pre .1 .0) (start .pre .1 .1) (start .args .d) (start .args .part .now) (at-if1 .if1 .left) (at-inc-maybe .inc-maybe .result) (at-inc-maybe .inc-maybe .ensures) (at-if2 .if2 .left) _ (at-shape-in .shape-in .ensures) _ (at-if3 .if3 .left) (at-if5 .if5 .left) (c .value2 .ensures)
+    maybe-other (start .pre .1 .0) (start .pre .1 .1) (start .args .d) (start .args .part .now) (at-if1 .if1 .left) (at-inc-maybe .inc-maybe .result) (at-inc-maybe .inc-maybe .ensures)
+    (at-if2 .if2 .left) _ (at-shape-in .shape-in .ensures) _ (at-if3 .if3 .left) (at-if5 .if5 .left) (c .value2 .ensures)
 
 pub maybe-spec : {M : Type 1} (t : ℕ) → maybe-lts.Closed (maybe-callees t) (maybe-at t) maybe.Post M
 maybe-spec t =

@@ -52,15 +52,23 @@ pair-returns t c =
     let at-one-more = at-rows-behind .before in
     let at-extent-of = at-one-more .before in
     let start = at-extent-of .before .before .before .before in
-    entry-not (start .args .d .variant) (start .args .text .now) (start .args .item) (start .pre .1 .1) (depthsOf (start .args .d)) (start .args .part .now) _ (at-extent-of .extent-of .ensures) _ (at-one-more .one-more .ensures) _ (at-rows-behind .rows-behind .ensures) (denied (c .if1 .taken))
+    entry-not (start .args .d .variant) (start .args .text .now) (start .args .item) (start .pre .1 .1) (depthsOf (start .args .d)) (start .args .part .now) _ (at-extent-of .extent-of .ensures) _
+    (at-one-more .one-more .ensures) _ (at-rows-behind .rows-behind .ensures) (denied (c .if1 .taken))
 
 pair-field-end-requires : (t : ℕ) → pair-lts.Need-field-end-requires (pair-callees t) (pair-at t) pair.Post
 pair-field-end-requires t c κs =
     let at-rows-behind = c .before in
     let at-one-more = at-rows-behind .before in
     let at-extent-of = at-one-more .before in
-    let start = at-extent-of .before .before .before .before in
-    (omega arith, laid-as (at-extent-of .extent-of .ensures) (start .pre .1 .0 .key), omega arith, at-rows-behind .rows-behind .ensures .wide, entry-room (start .args .d .variant) (start .args .text .now) (start .args .item) (start .pre .1 .1) (depthsOf (start .args .d)) (start .args .part .now) _ (at-extent-of .extent-of .ensures) _ (at-one-more .one-more .ensures) _ (at-rows-behind .rows-behind .ensures) (granted (c .if1 .left)))
+    let start = at-extent-of .before .before .before .before in (
+      omega arith,
+      laid-as (at-extent-of .extent-of .ensures) (start .pre .1 .0 .key),
+      omega arith,
+      at-rows-behind .rows-behind .ensures .wide,
+      entry-room (start .args .d .variant)
+          (start .args .text .now) (start .args .item) (start .pre .1 .1) (depthsOf (start .args .d)) (start .args .part .now) _ (at-extent-of .extent-of .ensures) _ (at-one-more .one-more .ensures) _
+          (at-rows-behind .rows-behind .ensures) (granted (c .if1 .left)),
+    )
 
 pair-key-written-requires : (t : ℕ) → pair-lts.Need-key-written-requires (pair-callees t) (pair-at t) pair.Post
 pair-key-written-requires t c κs =
@@ -77,7 +85,9 @@ pair-returns-2 t c =
     let at-one-more = at-rows-behind .before in
     let at-extent-of = at-one-more .before in
     let start = at-extent-of .before .before .before .before in
-    entry-stop (start .args .d .variant) (start .args .text .now) (start .args .item) (start .pre .1 .1) (depthsOf (start .args .d)) (start .args .part .now) _ (at-extent-of .extent-of .ensures) _ (at-one-more .one-more .ensures) _ (at-rows-behind .rows-behind .ensures) (granted (at-if1 .if1 .left)) _ (at-field-end .field-end .ensures) _ (at-key-written .key-written .ensures) (denied (c .if2 .taken))
+    entry-stop (start .args .d .variant) (start .args .text .now) (start .args .item) (start .pre .1 .1) (depthsOf (start .args .d)) (start .args .part .now) _ (at-extent-of .extent-of .ensures) _
+    (at-one-more .one-more .ensures) _ (at-rows-behind .rows-behind .ensures) (granted (at-if1 .if1 .left)) _ (at-field-end .field-end .ensures) _ (at-key-written .key-written .ensures)
+    (denied (c .if2 .taken))
 
 pair-last-field-requires : (t : ℕ) → pair-lts.Need-last-field-requires (pair-callees t) (pair-at t) pair.Post
 pair-last-field-requires t c κs =
@@ -88,8 +98,18 @@ pair-last-field-requires t c κs =
     let at-rows-behind = at-if1 .before in
     let at-one-more = at-rows-behind .before in
     let at-extent-of = at-one-more .before in
-    let start = at-extent-of .before .before .before .before in
-    (omega (arith, start .pre .0), (start .pre .1 .0 .child, start .pre .1 .2, entry-within (start .args .d .variant) (start .args .text .now) (start .args .item) (start .pre .1 .1) (depthsOf (start .args .d)) (start .args .part .now) _ (at-extent-of .extent-of .ensures) _ (at-one-more .one-more .ensures) _ (at-rows-behind .rows-behind .ensures) (granted (at-if1 .if1 .left)) _ (at-field-end .field-end .ensures) _ (at-key-written .key-written .ensures) (granted (at-if2 .if2 .left)), at-rows-behind .rows-behind .ensures .within, start .pre .1 .0 .known .laid .aligned))
+    let start = at-extent-of .before .before .before .before in (
+      omega (arith, start .pre .0),
+      (
+        start .pre .1 .0 .child,
+        start .pre .1 .2,
+        entry-within (start .args .d .variant) (start .args .text .now) (start .args .item) (start .pre .1 .1)
+            (depthsOf (start .args .d)) (start .args .part .now) _ (at-extent-of .extent-of .ensures) _ (at-one-more .one-more .ensures) _ (at-rows-behind .rows-behind .ensures)
+            (granted (at-if1 .if1 .left)) _ (at-field-end .field-end .ensures) _ (at-key-written .key-written .ensures) (granted (at-if2 .if2 .left)),
+        at-rows-behind .rows-behind .ensures .within,
+        start .pre .1 .0 .known .laid .aligned,
+      ),
+    )
 
 pair-returns-3 : (t : ℕ) → pair-lts.Need-returns-3 (pair-callees t) (pair-at t) pair.Post
 pair-returns-3 t c =
@@ -101,7 +121,9 @@ pair-returns-3 t c =
     let at-one-more = at-rows-behind .before in
     let at-extent-of = at-one-more .before in
     let start = at-extent-of .before .before .before .before in
-    entry-last (start .args .d .variant) (start .args .text .now) (start .args .item) (start .pre .1 .1) (depthsOf (start .args .d)) (start .args .part .now) _ (at-extent-of .extent-of .ensures) _ (at-one-more .one-more .ensures) _ (at-rows-behind .rows-behind .ensures) (granted (at-if1 .if1 .left)) _ (at-field-end .field-end .ensures) _ (at-key-written .key-written .ensures) _ (granted (at-if2 .if2 .left)) (c .last-field .ensures)
+    entry-last (start .args .d .variant) (start .args .text .now) (start .args .item) (start .pre .1 .1) (depthsOf (start .args .d)) (start .args .part .now) _ (at-extent-of .extent-of .ensures) _
+    (at-one-more .one-more .ensures) _ (at-rows-behind .rows-behind .ensures) (granted (at-if1 .if1 .left)) _ (at-field-end .field-end .ensures) _ (at-key-written .key-written .ensures) _
+    (granted (at-if2 .if2 .left)) (c .last-field .ensures)
 
 pub pair-spec : {M : Type 1} (t : ℕ) → pair-lts.Closed (pair-callees t) (pair-at t) pair.Post M
 pair-spec t =

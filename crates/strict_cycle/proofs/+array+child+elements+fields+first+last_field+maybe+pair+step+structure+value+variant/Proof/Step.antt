@@ -45,7 +45,8 @@ step-returns-2 : (t : ℕ) → step-lts.Need-returns-2 (step-callees t) (step-at
 step-returns-2 t c =
     let at-start-of = c .before in
     let start = at-start-of .before .before .before .before .before .before .before in
-    child-not (itemTest (start .args .d .variant) (start .args .text .now) (start .args .item)) (depthsOf (start .args .d)) (start .args .part .now) _ _ _ _ (start .pre .1 .0 .known .same-alignment (start .args .d .variant)) _ (at-start-of .start-of .ensures) (denied (c .if2 .taken))
+    child-not (itemTest (start .args .d .variant) (start .args .text .now) (start .args .item)) (depthsOf (start .args .d)) (start .args .part .now) _ _ _ _ (start .pre .1 .0 .known .same-alignment
+    (start .args .d .variant)) _ (at-start-of .start-of .ensures) (denied (c .if2 .taken))
 
 step-sub-pair : (t : ℕ) → step-lts.Need-sub-pair (step-callees t) (step-at t) step.Post
 step-sub-pair t c =
@@ -77,7 +78,8 @@ step-returns-3 t c =
     let at-if2 = c .before .before in
     let at-start-of = at-if2 .before in
     let start = at-start-of .before .before .before .before .before .before .before in
-    child-on (itemTest (start .args .d .variant) (start .args .text .now) (start .args .item)) (depthsOf (start .args .d)) (start .args .part .now) _ _ _ _ (start .pre .1 .0 .known .same-alignment (start .args .d .variant)) _ (at-start-of .start-of .ensures) _ (granted (at-if2 .if2 .left)) (c .pair .ensures)
+    child-on (itemTest (start .args .d .variant) (start .args .text .now) (start .args .item)) (depthsOf (start .args .d)) (start .args .part .now) _ _ _ _ (start .pre .1 .0 .known .same-alignment
+    (start .args .d .variant)) _ (at-start-of .start-of .ensures) _ (granted (at-if2 .if2 .left)) (c .pair .ensures)
 
 pub step-spec : {M : Type 1} (t : ℕ) → step-lts.Closed (step-callees t) (step-at t) step.Post M
 step-spec t =

@@ -67,7 +67,8 @@ structure-returns-2 t c =
     let at-if1 = at-extent-in .before in
     let at-inc-structure = at-if1 .before .before in
     let start = at-inc-structure .before .before .before .before in
-    structure-not (start .pre .1 .0) (start .pre .1 .1) (start .args .d) (start .args .part .now) (at-inc-structure .inc-structure .result) (at-inc-structure .inc-structure .ensures) (at-if1 .if1 .left) _ (at-extent-in .extent-in .ensures) _ (at-offsets-in .offsets-in .ensures) _ (at-rows-behind .rows-behind .ensures) (denied (c .if2 .taken))
+    structure-not (start .pre .1 .0) (start .pre .1 .1) (start .args .d) (start .args .part .now) (at-inc-structure .inc-structure .result) (at-inc-structure .inc-structure .ensures)
+    (at-if1 .if1 .left) _ (at-extent-in .extent-in .ensures) _ (at-offsets-in .offsets-in .ensures) _ (at-rows-behind .rows-behind .ensures) (denied (c .if2 .taken))
 
 structure-add-fields : (t : ℕ) → structure-lts.Need-add-fields (structure-callees t) (structure-at t) structure.Post
 structure-add-fields t c =
@@ -82,8 +83,26 @@ structure-fields-requires t c κs =
     let at-extent-in = at-offsets-in .before in
     let at-if1 = at-extent-in .before in
     let at-inc-structure = at-if1 .before .before in
-    let start = at-inc-structure .before .before .before .before in
-    (omega (arith, level-falls Depth.structure (start .args .d) (at-inc-structure .inc-structure .result) (at-inc-structure .inc-structure .ensures) (at-if1 .if1 .left), start .pre .0), (structure-rowed (start .pre .1 .0 .shape) (start .pre .1 .1), start .pre .1 .0 .table, inside-deeper Depth.structure (start .args .d) (at-inc-structure .inc-structure .result) (start .pre .1 .2) (at-inc-structure .inc-structure .ensures) (at-if1 .if1 .left), at-rows-behind .rows-behind .ensures .within, laid-as (at-extent-in .extent-in .ensures) (placed-known (start .pre .1 .0) .laid) .aligned, at-rows-behind .rows-behind .ensures .wide, structure-room (start .pre .1 .0) (start .pre .1 .1) (start .args .d) (start .args .part .now) (at-inc-structure .inc-structure .result) (at-inc-structure .inc-structure .ensures) (at-if1 .if1 .left) _ (at-extent-in .extent-in .ensures) _ (at-offsets-in .offsets-in .ensures) _ (at-rows-behind .rows-behind .ensures) (granted (at-if2 .if2 .left)) _))
+    let start = at-inc-structure .before .before .before .before in (
+      omega (
+        arith,
+        level-falls Depth.structure (start .args .d) (at-inc-structure .inc-structure .result) (at-inc-structure .inc-structure .ensures) (at-if1 .if1 .left),
+        start .pre .0,
+      ),
+      (
+        structure-rowed (start .pre .1 .0 .shape) (start .pre .1 .1),
+        start .pre .1 .0 .table,
+        inside-deeper Depth.structure (start .args .d) (at-inc-structure .inc-structure .result)
+            (start .pre .1 .2) (at-inc-structure .inc-structure .ensures) (at-if1 .if1 .left),
+        at-rows-behind .rows-behind .ensures .within,
+        laid-as (at-extent-in .extent-in .ensures)
+            (placed-known (start .pre .1 .0) .laid) .aligned,
+        at-rows-behind .rows-behind .ensures .wide,
+        structure-room (start .pre .1 .0) (start .pre .1 .1) (start .args .d) (start .args .part .now)
+            (at-inc-structure .inc-structure .result) (at-inc-structure .inc-structure .ensures) (at-if1 .if1 .left) _ (at-extent-in .extent-in .ensures) _ (at-offsets-in .offsets-in .ensures) _
+            (at-rows-behind .rows-behind .ensures) (granted (at-if2 .if2 .left)) _,
+      ),
+    )
 
 structure-returns-3 : (t : ℕ) → structure-lts.Need-returns-3 (structure-callees t) (structure-at t) structure.Post
 structure-returns-3 t c =
@@ -94,7 +113,9 @@ structure-returns-3 t c =
     let at-if1 = at-extent-in .before in
     let at-inc-structure = at-if1 .before .before in
     let start = at-inc-structure .before .before .before .before in
-    structure-on (start .pre .1 .0) (start .pre .1 .1) (start .args .d) (start .args .part .now) (at-inc-structure .inc-structure .result) (at-inc-structure .inc-structure .ensures) (at-if1 .if1 .left) _ (at-extent-in .extent-in .ensures) _ (at-offsets-in .offsets-in .ensures) _ (at-rows-behind .rows-behind .ensures) _ (granted (at-if2 .if2 .left)) (c .fields .ensures)
+    structure-on (start .pre .1 .0) (start .pre .1 .1) (start .args .d) (start .args .part .now) (at-inc-structure .inc-structure .result) (at-inc-structure .inc-structure .ensures)
+    (at-if1 .if1 .left) _ (at-extent-in .extent-in .ensures) _ (at-offsets-in .offsets-in .ensures) _ (at-rows-behind .rows-behind .ensures) _ (granted (at-if2 .if2 .left))
+    (c .fields .ensures)
 
 pub structure-spec : {M : Type 1} (t : ℕ) → structure-lts.Closed (structure-callees t) (structure-at t) structure.Post M
 structure-spec t =

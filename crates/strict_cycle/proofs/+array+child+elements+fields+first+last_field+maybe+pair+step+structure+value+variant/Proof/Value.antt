@@ -79,13 +79,15 @@ value-returns-4 : (t : ℕ) → value-lts.Need-returns-4 (value-callees t) (valu
 value-returns-4 t c =
     let at-enum-told4 = c .before in
     let start = at-enum-told4 .before .before .before .before .before in
-    value-variant (start .args .text .now) (start .args .shape .at) (start .args .d) (start .args .part .now) _ (start .pre .1 .0 .shape .typed) (sym (described-kind (start .pre .1 .0 .shape)) ∙ at-enum-told4 .enum-told4 .given .1) (c .variant .ensures)
+    value-variant (start .args .text .now) (start .args .shape .at) (start .args .d) (start .args .part .now) _ (start .pre .1 .0 .shape .typed) (sym (described-kind (start .pre .1 .0 .shape))
+    ∙ at-enum-told4 .enum-told4 .given .1) (c .variant .ensures)
 
 value-returns-5 : (t : ℕ) → value-lts.Need-returns-5 (value-callees t) (value-at t) value.Post
 value-returns-5 t c =
     let at-match = c .before in
     let start = at-match .before .before .before .before in
-    basic-by (start .args .text .now) (start .args .shape .at) (start .args .shape .kind) (start .args .d .variant) (depthsOf (start .args .d)) _ _ (start .pre .1 .0 .shape .typed) (described-kind (start .pre .1 .0 .shape)) (at-match .match .keys5) (c .letter-written .ensures)
+    basic-by (start .args .text .now) (start .args .shape .at) (start .args .shape .kind) (start .args .d .variant) (depthsOf (start .args .d)) _ _ (start .pre .1 .0 .shape .typed)
+    (described-kind (start .pre .1 .0 .shape)) (at-match .match .keys5) (c .letter-written .ensures)
 
 pub value-spec : {M : Type 1} (t : ℕ) → value-lts.Closed (value-callees t) (value-at t) value.Post M
 value-spec t =

@@ -61,7 +61,8 @@ variant-returns-2 t c =
     let at-if1 = at-inc-variant .before in
     let at-separator = at-if1 .before in
     let start = at-separator .before .before in
-    variant-deep (start .args .d) (start .args .part .now) (start .pre .1) (at-separator .separator .result) (at-separator .separator .ensures .0) (at-if1 .if1 .left) (at-inc-variant .inc-variant .result) (at-inc-variant .inc-variant .ensures) (c .if2 .taken)
+    variant-deep (start .args .d) (start .args .part .now) (start .pre .1) (at-separator .separator .result) (at-separator .separator .ensures .0) (at-if1 .if1 .left)
+    (at-inc-variant .inc-variant .result) (at-inc-variant .inc-variant .ensures) (c .if2 .taken)
 
 variant-sub-end : (t : ℕ) → variant-lts.Need-sub-end (variant-callees t) (variant-at t) variant.Post
 variant-sub-end t c = omega arith
@@ -101,7 +102,9 @@ variant-returns-3 t c =
     let at-if1 = at-inc-variant .before in
     let at-separator = at-if1 .before in
     let start = at-separator .before .before in
-    variant-lone (start .args .d) (start .args .part .now) (start .pre .1) (at-separator .separator .result) (at-separator .separator .ensures .0) (at-if1 .if1 .left) (at-inc-variant .inc-variant .result) (at-inc-variant .inc-variant .ensures) (at-if2 .if2 .left) _ (tail (at-separator .separator .result) (start .args .part .now)) _ refl _ (at-lone-basic .lone-basic .ensures .lone (at-if3 .if3 .taken)) _ (c .letter-written .ensures)
+    variant-lone (start .args .d) (start .args .part .now) (start .pre .1) (at-separator .separator .result) (at-separator .separator .ensures .0) (at-if1 .if1 .left)
+    (at-inc-variant .inc-variant .result) (at-inc-variant .inc-variant .ensures) (at-if2 .if2 .left) _ (tail (at-separator .separator .result) (start .args .part .now)) _ refl _
+    (at-lone-basic .lone-basic .ensures .lone (at-if3 .if3 .taken)) _ (c .letter-written .ensures)
 
 variant-slice-aggregate-tables-of : (t : ℕ) → variant-lts.Need-slice-aggregate-tables-of (variant-callees t) (variant-at t) variant.Post
 variant-slice-aggregate-tables-of t c = search needs
@@ -117,7 +120,9 @@ variant-returns-4 t c =
     let at-if1 = at-inc-variant .before in
     let at-separator = at-if1 .before in
     let start = at-separator .before .before in
-    variant-untyped (start .args .d) (start .args .part .now) (start .pre .1) (at-separator .separator .result) (at-separator .separator .ensures .0) (at-if1 .if1 .left) (at-inc-variant .inc-variant .result) (at-inc-variant .inc-variant .ensures) (at-if2 .if2 .left) _ (tail (at-separator .separator .result) (start .args .part .now)) _ refl (sym (at-tables-of .tables-of .ensures .judged) ∙ denied (c .if4 .taken))
+    variant-untyped (start .args .d) (start .args .part .now) (start .pre .1) (at-separator .separator .result) (at-separator .separator .ensures .0) (at-if1 .if1 .left)
+    (at-inc-variant .inc-variant .result) (at-inc-variant .inc-variant .ensures) (at-if2 .if2 .left) _ (tail (at-separator .separator .result) (start .args .part .now)) _ refl
+    (sym (at-tables-of .tables-of .ensures .judged) ∙ denied (c .if4 .taken))
 
 variant-slice-aggregate-shape-in : (t : ℕ) → variant-lts.Need-slice-aggregate-shape-in (variant-callees t) (variant-at t) variant.Post
 variant-slice-aggregate-shape-in t c = search needs
@@ -141,8 +146,15 @@ variant-value-requires t c κs =
     let at-if2 = at-tables-of .before .before .before .before .before in
     let at-inc-variant = at-if2 .before .before in
     let at-separator = at-inc-variant .before .before in
-    let start = at-separator .before .before in
-    (omega (arith, level-falls Depth.variant (start .args .d) (at-inc-variant .inc-variant .result) (at-inc-variant .inc-variant .ensures) (at-if2 .if2 .left), start .pre .0), (front-placed _ _ (at-tables-of .tables-of .ensures .filled (granted (at-if4 .if4 .left))) (front _ (sym (at-tables-of .tables-of .ensures .judged) ∙ granted (at-if4 .if4 .left))) _ (at-shape-in .shape-in .ensures), inside-take (at-separator .separator .result - 1) (start .args .part .now) (inside-deeper Depth.variant (start .args .d) (at-inc-variant .inc-variant .result) (start .pre .1) (at-inc-variant .inc-variant .ensures) (at-if2 .if2 .left))))
+    let start = at-separator .before .before in (
+      omega (arith, level-falls Depth.variant (start .args .d) (at-inc-variant .inc-variant .result) (at-inc-variant .inc-variant .ensures) (at-if2 .if2 .left), start .pre .0),
+      (
+        front-placed _ _ (at-tables-of .tables-of .ensures .filled (granted (at-if4 .if4 .left))) (front _ (sym (at-tables-of .tables-of .ensures .judged) ∙ granted (at-if4 .if4 .left))) _
+            (at-shape-in .shape-in .ensures),
+        inside-take (at-separator .separator .result - 1) (start .args .part .now) (inside-deeper Depth.variant (start .args .d) (at-inc-variant .inc-variant .result)
+            (start .pre .1) (at-inc-variant .inc-variant .ensures) (at-if2 .if2 .left)),
+      ),
+    )
 
 variant-returns-5 : (t : ℕ) → variant-lts.Need-returns-5 (variant-callees t) (variant-at t) variant.Post
 variant-returns-5 t c =
@@ -154,7 +166,9 @@ variant-returns-5 t c =
     let at-if1 = at-inc-variant .before in
     let at-separator = at-if1 .before in
     let start = at-separator .before .before in
-    variant-on (start .args .d) (start .args .part .now) (start .pre .1) (at-separator .separator .result) (at-separator .separator .ensures .0) (at-if1 .if1 .left) (at-inc-variant .inc-variant .result) (at-inc-variant .inc-variant .ensures) (at-if2 .if2 .left) _ (tail (at-separator .separator .result) (start .args .part .now)) _ refl (front _ (sym (at-tables-of .tables-of .ensures .judged) ∙ granted (at-if4 .if4 .left))) _ (ap (λ (x : Shape). x .at) (at-shape-in .shape-in .ensures)) _ (c .value .ensures)
+    variant-on (start .args .d) (start .args .part .now) (start .pre .1) (at-separator .separator .result) (at-separator .separator .ensures .0) (at-if1 .if1 .left)
+    (at-inc-variant .inc-variant .result) (at-inc-variant .inc-variant .ensures) (at-if2 .if2 .left) _ (tail (at-separator .separator .result) (start .args .part .now)) _ refl
+    (front _ (sym (at-tables-of .tables-of .ensures .judged) ∙ granted (at-if4 .if4 .left))) _ (ap (λ (x : Shape). x .at) (at-shape-in .shape-in .ensures)) _ (c .value .ensures)
 
 pub variant-spec : {M : Type 1} (t : ℕ) → variant-lts.Closed (variant-callees t) (variant-at t) variant.Post M
 variant-spec t =

@@ -16,7 +16,7 @@ use Rattle.meaning_writing.specs.Strict.{Test, testShapes, childWritten, elemen
 use Rattle.container_depths.specs.Opening.{depthsOf, Raises}
 use Rattle.container_depths.specs.declared.ContainerDepths.{ContainerDepths}
 use Rattle.container_depths.specs.declared.Raised.{Raised}
-use Rattle.reader_cycle.proofs.Readers.{raised-to}
+use Rattle.container_depths.proofs.Levels.{raised-to}
 use Rattle.strict_basic.specs.Ends.{letterExtent, letterTest, textTest, mayOpen, readingTest, endOf, RowsOf, TableOf}
 use Rattle.strict_basic.specs.Items.{treeTest, itemTest, Repeated, ItemAt}
 use Rattle.strict_basic.specs.declared.ends.Extent.{Extent}

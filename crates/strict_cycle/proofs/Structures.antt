@@ -22,7 +22,7 @@ use Rattle.signature.specs.Trees.{treeAt, fieldsAt, Rowed}
 use Rattle.signature.specs.declared.Letter.the-variants.{OpenStructure}
 use Rattle.signature.specs.declared.shapes.Shape.{Shape}
 use Rattle.signature.proofs.TreeLaws.{structure-tree, structure-fixed, structure-alignment, LastField, NextField}
-use Rattle.reader_cycle.proofs.Readers.{raised-to}
+use Rattle.container_depths.proofs.Levels.{raised-to}
 use Rattle.strict_basic.specs.Ends.{endOf, TableOf}
 use Rattle.strict_basic.specs.Sizes.{Tabled, extentIn, offsetsBy}
 use Rattle.strict_basic.specs.Items.{Placed, treeTest, Known}

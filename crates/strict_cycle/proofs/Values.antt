@@ -31,7 +31,7 @@ use Rattle.signature.proofs.Letter.{the-type}
 use Rattle.signature.proofs.Dispatch.{Shown, shown, is-variant}
 use Rattle.signature.proofs.TreeLaws.{described-as, described-fixed, maybe-tree, maybe-described}
 use Rattle.reader_basic.proofs.Answers.{within-default}
-use Rattle.reader_cycle.proofs.Readers.{raised-to, raised-shallow}
+use Rattle.container_depths.proofs.Levels.{raised-to, raised-shallow}
 use Rattle.strict_basic.specs.Ends.{letterWritten, isBasic, StartAt}
 use Rattle.strict_basic.specs.Items.{Placed, treeTest, Known}
 use Rattle.strict_basic.specs.declared.ends.Extent.{Extent}

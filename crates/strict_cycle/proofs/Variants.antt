@@ -27,7 +27,7 @@ use Rattle.signature.specs.declared.Letter.{Letter}
 use Rattle.signature.specs.declared.shapes.Shape.{Shape}
 use Rattle.signature.proofs.Answers.{judged-none}
 use Rattle.signature.proofs.TreeLaws.{Front, front, front-described, described-as}
-use Rattle.reader_cycle.proofs.Readers.{raised-to, total-most}
+use Rattle.container_depths.proofs.Levels.{raised-to, total-most}
 use Rattle.strict_basic.specs.Ends.{letterWritten, letterTest, LoneType}
 use Rattle.strict_basic.specs.Sizes.{Tabled}
 use Rattle.strict_basic.specs.Items.{Placed, treeTest}

@@ -1,7 +1,7 @@
 -- The needs of `array`, and what answers each.
 use Prim.Native.Nat.{ℕ}
 use Rattle.reader_basic.proofs.Answers.{denied, granted}
-use Rattle.reader_cycle.proofs.Readers.{level-falls}
+use Rattle.container_depths.proofs.Levels.{level-falls}
 use Rattle.strict_cycle.proofs.Arrays.{array-any, array-deep, array-not, array-on, array-readings, array-texts, array-wide, reads-aligned, reads-wide}
 use Rattle.strict_cycle.proofs.Values.{inside-deeper}
 use borrow.Author.Needs.{needs}

@@ -1,7 +1,7 @@
 -- The needs of `maybe`, and what answers each.
 use Prim.Native.Nat.{_-_, ℕ}
 use Rattle.container_depths.specs.Opening.{depthsOf}
-use Rattle.reader_cycle.proofs.Readers.{level-falls}
+use Rattle.container_depths.proofs.Levels.{level-falls}
 use Rattle.signature.proofs.TreeLaws.{described-kind}
 use Rattle.strict_basic.proofs.TableLaws.{placed-at}
 use Rattle.strict_cycle.proofs.Values.{basic-is, held-placed, inside-deeper, inside-take, maybe-deep, maybe-fixed, maybe-none, maybe-open, maybe-other}

@@ -1,7 +1,7 @@
 -- The needs of `structure`, and what answers each.
 use Prim.Native.Nat.{ℕ}
 use Rattle.reader_basic.proofs.Answers.{denied, granted}
-use Rattle.reader_cycle.proofs.Readers.{level-falls}
+use Rattle.container_depths.proofs.Levels.{level-falls}
 use Rattle.signature.proofs.TreeLaws.{structure-rowed}
 use Rattle.strict_basic.proofs.ItemLaws.{laid-as}
 use Rattle.strict_basic.proofs.TableLaws.{offsets-most, placed-at, placed-known}

@@ -2,7 +2,7 @@
 use Prim.Native.Nat.{_-_, ℕ}
 use Rattle.reader_basic.proofs.Answers.{denied, granted}
 use Rattle.reader_basic.proofs.Loops.{tail}
-use Rattle.reader_cycle.proofs.Readers.{level-falls}
+use Rattle.container_depths.proofs.Levels.{level-falls}
 use Rattle.signature.proofs.TreeLaws.{front}
 use Rattle.signature.specs.declared.shapes.Shape.{Shape}
 use Rattle.strict_cycle.proofs.Values.{inside-deeper, inside-take}

@@ -1,3 +1,5 @@
+-- The readers, which call each other as containers nest, meet their contracts. What falls: the containers that may still be opened,
+-- and then the readers in order. Assumes nothing.
 mod Measures
 mod Array·array
 mod Array·elements

@@ -3,7 +3,7 @@ use mathlib.Core.Path.{_≡_, refl, ap, sym, subst, subst⁻¹, _∙_}
 use types.Run.{OneOf, miss}
 use denote.Enum.Declared.{tagOf}
 use mathlib.Core.List.{List, [], _∷_}
-use mathlib.Core.Bool.{Bool, true, false}
+use mathlib.Core.Bool.{Bool, true, false, false≢true}
 use native.Mathlib.Omega.{arith}
 use Prim.Native.Nat.{ℕ, _+_, _-_, _≤_}
 use lib.ListN.{length, take, drop}
@@ -25,7 +25,7 @@ use Rattle.container_depths.specs.declared.Raised.{Raised}
 use Rattle.signature.specs.Places.{isType, basicKind, letterAt}
 use Rattle.signature.specs.Trees.{treeAt, behindBy, Typed, fieldsAt, Described}
 use Rattle.signature.specs.declared.Letter.{Letter}
-use Rattle.signature.specs.declared.Letter.the-variants.{Boolean, Number, Text, Variant, Maybe, Array, OpenStructure}
+use Rattle.signature.specs.declared.Letter.the-variants.{End, Bad, Boolean, Number, Text, Variant, Maybe, Array, OpenStructure, CloseStructure, OpenEntry, CloseEntry}
 use Rattle.signature.specs.declared.shapes.Shape.{Shape}
 use Rattle.signature.specs.declared.items.Item.{Item}
 use Rattle.signature.proofs.Letter.{the-type}
@@ -42,8 +42,43 @@ use Rattle.writer_basic.proofs.Openings.{raised-to, maybe-empty, maybe-neither,
 
 -- ---- value, by the letter
 
+-- the letters that a type may begin with
+abbrev begins : Letter → Bool
+begins End = false
+begins Bad = false
+begins Boolean = true
+begins (Number c w) = true
+begins (Text c) = true
+begins Variant = true
+begins Maybe = true
+begins Array = true
+begins OpenStructure = true
+begins CloseStructure = false
+begins OpenEntry = false
+begins CloseEntry = false
+
+-- it begins with no other
+pub begins-not : {A : Type 0} (signature : List ℕ) (at : ℕ) → Typed signature at → (k : Letter) → letterAt signature at ≡ k → begins k ≡ false → A
+begins-not {A} signature at t k e h = go (treeAt signature at) (shown signature at _ _ (t .found))
+  where
+    other : (j : Letter) → letterAt signature at ≡ j → begins j ≡ true → A
+    other j q y = absurd (false≢true (sym h ∙ ap begins (sym e ∙ q) ∙ y))
+
+    by-basic : (b : Basic) → begins (basicKind b) ≡ true
+    by-basic bool = refl
+    by-basic (number c) = refl
+    by-basic (text c) = refl
+
+    go : (u : Tree) → Shown signature at u (behindBy (firstType (drop at signature))) → A
+    go (basic b) w = other (basicKind b) (w .letter) (by-basic b)
+    go variant w = other Variant (w .letter) refl
+    go (maybe u) w = other Maybe (w .letter) refl
+    go (array u) w = other Array (w .letter) refl
+    go (dictionary b u) w = other Array (w .letter) refl
+    go (structure us) w = other OpenStructure (w .letter) refl
+
 abbrev notNamed : List ℕ
-notNamed = 0 ∷ 1 ∷ 9 ∷ 10 ∷ 11 ∷ []
+notNamed = 0 ∷ 1 ∷ 11 ∷ []
 
 module _ (signature : List ℕ) (at : ℕ) (t : Typed signature at) (texts : List ℕ) (big : Bool) (d : ContainerDepths) (ns : List ℕ) (i start top : ℕ) (l l′ s s′ : List ℕ) (r : Answer) where
   abbrev Here : Type 0

@@ -52,7 +52,8 @@ ghost use Rattle.signature.specs.Trees.{treeAt, fieldsAt, Rowed, Described};
 ghost use Rattle.writer_basic.specs.Wrote.{marksOf, Shallow, Placed};
 ghost use Rattle.writer_cycle.specs.Places.{WroteAt, RowAt, valueIn, fieldsIn, itemIn, itemsIn, Repeated, variantTree};
 
-// The value of a type. `variant` is called twice, so that it keeps its own stack frame.
+// The value of a type. `array`, `structure` and `variant` are called twice, so that each keeps its own stack frame; no type begins with the
+// letters of the second calls.
 pub fn value(
     text: &[u8],
     shapes: &[u16],
@@ -83,6 +84,18 @@ pub fn value(
         Letter::Maybe => maybe(text, shapes, shape, events, texts, context, spot, out, ends),
         Letter::Array => array(text, shapes, shape, events, texts, context, spot, out, ends),
         Letter::OpenStructure => structure(
+            text,
+            shapes,
+            shape,
+            events,
+            texts,
+            context,
+            spot,
+            out,
+            ends,
+        ),
+        Letter::OpenEntry => array(text, shapes, shape, events, texts, context, spot, out, ends),
+        Letter::CloseStructure => structure(
             text,
             shapes,
             shape,

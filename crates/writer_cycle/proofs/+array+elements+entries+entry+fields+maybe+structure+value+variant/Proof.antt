@@ -25,7 +25,7 @@ use Rattle.writer_basic.proofs.Openings.{level, level-falls, raised-shallow, fe
 use Rattle.writer_cycle.proofs.ItemLaws.{item-at}
 use Rattle.writer_cycle.proofs.FieldRows.{FieldsLeft, field-here, fields-begin, fields-stop, fields-last, fields-next, sealed-no-ends}
 use Rattle.writer_cycle.proofs.EntryRows.{item-shorter, item-alignment, item-as-value, item-as-entry, item-key-stop, item-value-stop, entry-structured, entry-no-ends, entry-row, entry-key, row-as, kept-few, items-basic, items-reading, alone-basic, alone-reading, held-number, held-text}
-use Rattle.writer_cycle.proofs.Values.{number-aligned-at, value-boolean, value-number, value-text, value-variant, value-none, value-nothing, value-neither, value-maybe-deep, value-present, value-array-not, value-array-deep, value-array, value-structure-not, value-structure-deep, value-structure, value-variant-not, value-variant-text, value-variant-type, value-variant-deep, value-variant-on, structure-structured, front-short, front-spells}
+use Rattle.writer_cycle.proofs.Values.{begins-not, number-aligned-at, value-boolean, value-number, value-text, value-variant, value-none, value-nothing, value-neither, value-maybe-deep, value-present, value-array-not, value-array-deep, value-array, value-structure-not, value-structure-deep, value-structure, value-variant-not, value-variant-text, value-variant-type, value-variant-deep, value-variant-on, structure-structured, front-short, front-spells}
 use Prim.Native.Nat.{ℕ, _<_}
 use borrow.Fn.Kinds.{In}
 use borrow.Fn.PlainCycle.{Measures, is, falls, and}
@@ -175,7 +175,7 @@ variant-at t = and 4 variant-kinds.ps (is 4 variant-kinds.ps μ-variant t) varia
 abbrev variant-below : ℕ → In 4 variant-kinds.ps
 variant-below t = and 4 variant-kinds.ps (falls 4 variant-kinds.ps _<_ μ-variant t) variant.Pre
 
--- src/lib.rt:163:9
+-- src/lib.rt:176:9
 array-item-of-requires : (t : ℕ) → array-lts.Need-item-of-requires (
   item-of-reads.Asked,
   item-of-reads.Learnt,
@@ -198,7 +198,7 @@ array-item-of-requires : (t : ℕ) → array-lts.Need-item-of-requires (
 ) (array-at t) array.Post
 array-item-of-requires t c κs = search needs
 
--- src/lib.rt:164:29
+-- src/lib.rt:177:29
 array-item-kind-requires : (t : ℕ) → array-lts.Need-item-kind-requires (
   item-of-reads.Asked,
   item-of-reads.Learnt,
@@ -221,7 +221,7 @@ array-item-kind-requires : (t : ℕ) → array-lts.Need-item-kind-requires (
 ) (array-at t) array.Post
 array-item-kind-requires t c κs = search needs
 
--- src/lib.rt:164:9
+-- src/lib.rt:177:9
 array-plain-at-requires : (t : ℕ) → array-lts.Need-plain-at-requires (
   item-of-reads.Asked,
   item-of-reads.Learnt,
@@ -244,7 +244,7 @@ array-plain-at-requires : (t : ℕ) → array-lts.Need-plain-at-requires (
 ) (array-at t) array.Post
 array-plain-at-requires t c κs = c .before .before .before .before .before .before .before .before .pre .1 .3 .within
 
--- src/lib.rt:165:9
+-- src/lib.rt:178:9
 array-refused-requires : (t : ℕ) → array-lts.Need-refused-requires (
   item-of-reads.Asked,
   item-of-reads.Learnt,
@@ -267,7 +267,7 @@ array-refused-requires : (t : ℕ) → array-lts.Need-refused-requires (
 ) (array-at t) array.Post
 array-refused-requires t c κs = search needs
 
--- src/lib.rt:165:9
+-- src/lib.rt:178:9
 array-returns : (t : ℕ) → array-lts.Need-returns (
   item-of-reads.Asked,
   item-of-reads.Learnt,
@@ -290,7 +290,7 @@ array-returns : (t : ℕ) → array-lts.Need-returns (
 ) (array-at t) array.Post
 array-returns t c = rw (c .refused .ensures) (value-array-not _ _ _ _ (item-at _ _ _ (c .before .before .before .before .before .before .before .before .before .before .before .pre .1 .0) (c .before .before .before .before .before .before .before .before .before .before .before .pre .1 .1) _ (c .before .before .before .before .item-of .ensures)) _ _ _ (few-variants (c .before .before .before .before .before .before .before .before .before .before .before .pre .1 .2)) _ _ _ _ _ _ _ (c .before .before .before .item-kind .ensures) (c .before .before .plain-at .ensures .not (not-true _ (c .before .if1 .taken))))
 
--- src/lib.rt:167:9
+-- src/lib.rt:180:9
 array-inc-array-requires : (t : ℕ) → array-lts.Need-inc-array-requires (
   item-of-reads.Asked,
   item-of-reads.Learnt,
@@ -313,7 +313,7 @@ array-inc-array-requires : (t : ℕ) → array-lts.Need-inc-array-requires (
 ) (array-at t) array.Post
 array-inc-array-requires t c κs = search needs
 
--- src/lib.rt:170:9
+-- src/lib.rt:183:9
 array-refused-requires-2 : (t : ℕ) → array-lts.Need-refused-requires-2 (
   item-of-reads.Asked,
   item-of-reads.Learnt,
@@ -336,7 +336,7 @@ array-refused-requires-2 : (t : ℕ) → array-lts.Need-refused-requires-2 (
 ) (array-at t) array.Post
 array-refused-requires-2 t c κs = search needs
 
--- src/lib.rt:170:9
+-- src/lib.rt:183:9
 array-returns-2 : (t : ℕ) → array-lts.Need-returns-2 (
   item-of-reads.Asked,
   item-of-reads.Learnt,
@@ -359,7 +359,7 @@ array-returns-2 : (t : ℕ) → array-lts.Need-returns-2 (
 ) (array-at t) array.Post
 array-returns-2 t c = rw (c .refused2 .ensures) (value-array-deep _ _ _ _ (item-at _ _ _ (c .before .before .before .before .before .before .before .before .before .before .before .before .before .pre .1 .0) (c .before .before .before .before .before .before .before .before .before .before .before .before .before .pre .1 .1) _ (c .before .before .before .before .before .before .item-of .ensures)) _ _ _ (few-variants (c .before .before .before .before .before .before .before .before .before .before .before .before .before .pre .1 .2)) _ _ _ _ _ _ _ (c .before .before .before .before .before .item-kind .ensures) (c .before .before .before .before .plain-at .ensures .here (not-false _ (c .before .before .before .if1 .left))) _ (c .before .before .inc-array .ensures) (c .before .if2 .taken))
 
--- src/lib.rt:178:15
+-- src/lib.rt:191:15
 array-add-t25 : (t : ℕ) → array-lts.Need-add-t25 (
   item-of-reads.Asked,
   item-of-reads.Learnt,
@@ -382,7 +382,7 @@ array-add-t25 : (t : ℕ) → array-lts.Need-add-t25 (
 ) (array-at t) array.Post
 array-add-t25 t c = omega (arith, c .before .before .before .before .plain-at .ensures .here (not-false _ (c .before .before .before .if1 .left)) .whole, c .before .before .before .before)
 
--- src/lib.rt:184:13
+-- src/lib.rt:197:13
 array-entries-requires : (t : ℕ) → array-lts.Need-entries-requires (
   item-of-reads.Asked,
   item-of-reads.Learnt,
@@ -405,7 +405,7 @@ array-entries-requires : (t : ℕ) → array-lts.Need-entries-requires (
 ) (array-at t) array.Post
 array-entries-requires t c κs = (omega (arith, level-falls Depth.array (c .before .before .before .before .before .before .before .before .before .before .before .before .before .before .before .before .args .context .depths) (c .before .before .before .before .before .inc-array .result) (c .before .before .before .before .before .inc-array .ensures) (c .before .before .before .before .if2 .left), c .before .before .before .before .before .before .before .before .before .before .before .before .before .before .before .before .pre .0), ((item-at _ _ _ (c .before .before .before .before .before .before .before .before .before .before .before .before .before .before .before .before .pre .1 .0) (c .before .before .before .before .before .before .before .before .before .before .before .before .before .before .before .before .pre .1 .1) _ (c .before .before .before .before .before .before .before .before .before .item-of .ensures)) .repeated, c .before .before .if3 .taken, raised-shallow Depth.array _ _ (c .before .before .before .before .before .inc-array .ensures) _ (c .before .before .before .before .if2 .left), record { within = c .before .before .before .before .before .before .before .plain-at .ensures .here (not-false _ (c .before .before .before .before .before .before .if1 .left)) .whole; near = c .before .before .before .before .before .before .before .before .before .before .before .before .before .before .before .before .pre .1 .3 .near; few = c .before .before .before .before .before .before .before .before .before .before .before .before .before .before .before .before .pre .1 .3 .few }))
 
--- src/lib.rt:185:13
+-- src/lib.rt:198:13
 array-ended-requires : (t : ℕ) → array-lts.Need-ended-requires (
   item-of-reads.Asked,
   item-of-reads.Learnt,
@@ -428,7 +428,7 @@ array-ended-requires : (t : ℕ) → array-lts.Need-ended-requires (
 ) (array-at t) array.Post
 array-ended-requires t c κs = λ z. row-bounds z (c .before .before .before .before .entries .ensures) .within
 
--- src/lib.rt:186:9
+-- src/lib.rt:199:9
 array-array-end-requires : (t : ℕ) → array-lts.Need-array-end-requires (
   item-of-reads.Asked,
   item-of-reads.Learnt,
@@ -451,7 +451,7 @@ array-array-end-requires : (t : ℕ) → array-lts.Need-array-end-requires (
 ) (array-at t) array.Post
 array-array-end-requires t c κs = (c .before .before .before .before .before .before .before .before .before .before .before .before .before .before .before .before .before .before .before .before .before .before .before .before .pre .1 .3 .near, c .before .before .before .before .before .before .before .before .before .before .before .before .before .before .before .before .before .before .before .before .before .before .before .before .pre .1 .3 .few, λ z. row-bounds z (c .before .before .ended .ensures _ _ _ _ _ _ _ _ _ _ _ (c .before .before .before .before .before .before .before .entries .ensures)) .small, λ z. row-bounds z (c .before .before .ended .ensures _ _ _ _ _ _ _ _ _ _ _ (c .before .before .before .before .before .before .before .entries .ensures)) .few)
 
--- src/lib.rt:186:9
+-- src/lib.rt:199:9
 array-same-length : (t : ℕ) → array-lts.Need-same-length (
   item-of-reads.Asked,
   item-of-reads.Learnt,
@@ -474,7 +474,7 @@ array-same-length : (t : ℕ) → array-lts.Need-same-length (
 ) (array-at t) array.Post
 array-same-length t c = search needs
 
--- src/lib.rt:186:9
+-- src/lib.rt:199:9
 array-same-length-2 : (t : ℕ) → array-lts.Need-same-length-2 (
   item-of-reads.Asked,
   item-of-reads.Learnt,
@@ -497,7 +497,7 @@ array-same-length-2 : (t : ℕ) → array-lts.Need-same-length-2 (
 ) (array-at t) array.Post
 array-same-length-2 t c = search needs
 
--- src/lib.rt:186:9
+-- src/lib.rt:199:9
 array-returns-3 : (t : ℕ) → array-lts.Need-returns-3 (
   item-of-reads.Asked,
   item-of-reads.Learnt,
@@ -520,7 +520,7 @@ array-returns-3 : (t : ℕ) → array-lts.Need-returns-3 (
 ) (array-at t) array.Post
 array-returns-3 t c = value-array _ _ _ _ (item-at _ _ _ (c .before .before .before .before .before .before .before .before .before .before .before .before .before .before .before .before .before .before .before .before .before .before .before .before .before .before .before .before .before .pre .1 .0) (c .before .before .before .before .before .before .before .before .before .before .before .before .before .before .before .before .before .before .before .before .before .before .before .before .before .before .before .before .before .pre .1 .1) _ (c .before .before .before .before .before .before .before .before .before .before .before .before .before .before .before .before .before .before .before .before .before .before .item-of .ensures)) _ _ _ (few-variants (c .before .before .before .before .before .before .before .before .before .before .before .before .before .before .before .before .before .before .before .before .before .before .before .before .before .before .before .before .before .pre .1 .2)) _ _ _ _ _ _ _ (c .before .before .before .before .before .before .before .before .before .before .before .before .before .before .before .before .before .before .before .before .before .item-kind .ensures) (c .before .before .before .before .before .before .before .before .before .before .before .before .before .before .before .before .before .before .before .before .plain-at .ensures .here (not-false _ (c .before .before .before .before .before .before .before .before .before .before .before .before .before .before .before .before .before .before .before .if1 .left))) _ (c .before .before .before .before .before .before .before .before .before .before .before .before .before .before .before .before .before .before .inc-array .ensures) _ _ _ (c .before .before .before .before .before .before .before .before .before .before .before .before .before .before .before .before .before .if2 .left) (item-shorter _ _ _ _ _ _) (c .before .before .before .before .array-end .ensures _ _ _ _ _ _ _ (omega arith) (omega arith) (c .before .before .before .before .before .before .before .ended .ensures _ _ _ _ _ _ _ _ _ _ _ (c .before .before .before .before .before .before .before .before .before .before .before .before .entries .ensures)))
 
--- src/lib.rt:188:9
+-- src/lib.rt:201:9
 array-elements-requires : (t : ℕ) → array-lts.Need-elements-requires (
   item-of-reads.Asked,
   item-of-reads.Learnt,
@@ -543,7 +543,7 @@ array-elements-requires : (t : ℕ) → array-lts.Need-elements-requires (
 ) (array-at t) array.Post
 array-elements-requires t c κs = (omega (arith, level-falls Depth.array (c .before .before .before .before .before .before .before .before .before .before .before .before .before .before .before .before .args .context .depths) (c .before .before .before .before .before .inc-array .result) (c .before .before .before .before .before .inc-array .ensures) (c .before .before .before .before .if2 .left), c .before .before .before .before .before .before .before .before .before .before .before .before .before .before .before .before .pre .0), ((item-at _ _ _ (c .before .before .before .before .before .before .before .before .before .before .before .before .before .before .before .before .pre .1 .0) (c .before .before .before .before .before .before .before .before .before .before .before .before .before .before .before .before .pre .1 .1) _ (c .before .before .before .before .before .before .before .before .before .item-of .ensures)) .repeated, c .before .before .if3 .left, raised-shallow Depth.array _ _ (c .before .before .before .before .before .inc-array .ensures) _ (c .before .before .before .before .if2 .left), record { within = c .before .before .before .before .before .before .before .plain-at .ensures .here (not-false _ (c .before .before .before .before .before .before .if1 .left)) .whole; near = c .before .before .before .before .before .before .before .before .before .before .before .before .before .before .before .before .pre .1 .3 .near; few = c .before .before .before .before .before .before .before .before .before .before .before .before .before .before .before .before .pre .1 .3 .few }))
 
--- src/lib.rt:189:9
+-- src/lib.rt:202:9
 array-ended-requires-2 : (t : ℕ) → array-lts.Need-ended-requires-2 (
   item-of-reads.Asked,
   item-of-reads.Learnt,
@@ -566,7 +566,7 @@ array-ended-requires-2 : (t : ℕ) → array-lts.Need-ended-requires-2 (
 ) (array-at t) array.Post
 array-ended-requires-2 t c κs = λ z. row-bounds z (c .before .before .before .before .elements .ensures) .within
 
--- src/lib.rt:190:5
+-- src/lib.rt:203:5
 array-array-end-requires-2 : (t : ℕ) → array-lts.Need-array-end-requires-2 (
   item-of-reads.Asked,
   item-of-reads.Learnt,
@@ -589,7 +589,7 @@ array-array-end-requires-2 : (t : ℕ) → array-lts.Need-array-end-requires-2 (
 ) (array-at t) array.Post
 array-array-end-requires-2 t c κs = (c .before .before .before .before .before .before .before .before .before .before .before .before .before .before .before .before .before .before .before .before .before .before .before .before .pre .1 .3 .near, c .before .before .before .before .before .before .before .before .before .before .before .before .before .before .before .before .before .before .before .before .before .before .before .before .pre .1 .3 .few, λ z. row-bounds z (c .before .before .ended2 .ensures _ _ _ _ _ _ _ _ _ _ _ (c .before .before .before .before .before .before .before .elements .ensures)) .small, λ z. row-bounds z (c .before .before .ended2 .ensures _ _ _ _ _ _ _ _ _ _ _ (c .before .before .before .before .before .before .before .elements .ensures)) .few)
 
--- src/lib.rt:148:1
+-- src/lib.rt:161:1
 array-same-length-3 : (t : ℕ) → array-lts.Need-same-length-3 (
   item-of-reads.Asked,
   item-of-reads.Learnt,
@@ -612,7 +612,7 @@ array-same-length-3 : (t : ℕ) → array-lts.Need-same-length-3 (
 ) (array-at t) array.Post
 array-same-length-3 t c = search needs
 
--- src/lib.rt:148:1
+-- src/lib.rt:161:1
 array-same-length-4 : (t : ℕ) → array-lts.Need-same-length-4 (
   item-of-reads.Asked,
   item-of-reads.Learnt,
@@ -635,7 +635,7 @@ array-same-length-4 : (t : ℕ) → array-lts.Need-same-length-4 (
 ) (array-at t) array.Post
 array-same-length-4 t c = search needs
 
--- src/lib.rt:148:1
+-- src/lib.rt:161:1
 array-returns-4 : (t : ℕ) → array-lts.Need-returns-4 (
   item-of-reads.Asked,
   item-of-reads.Learnt,
@@ -664,7 +664,7 @@ elements-Inv-loop text shapes item events texts context out₀ ends₀ child′ 
 abbrev elements-μ-loop : elements-lts.MeasureT-loop
 elements-μ-loop text shapes item events texts context out₀ ends₀ child′ base top e₀ k₀ j₀ out ends e k j = length events - e
 
--- src/lib.rt:211:13
+-- src/lib.rt:224:13
 elements-enum-told : (t : ℕ) → elements-lts.Need-enum-told (
   basics-reads.Asked,
   basics-reads.Learnt,
@@ -685,7 +685,7 @@ elements-enum-told : (t : ℕ) → elements-lts.Need-enum-told (
 ) (elements-at t) elements.Post elements-Inv-loop elements-μ-loop
 elements-enum-told t c = search needs
 
--- src/lib.rt:213:13
+-- src/lib.rt:226:13
 elements-basics-requires : (t : ℕ) → elements-lts.Need-basics-requires (
   basics-reads.Asked,
   basics-reads.Learnt,
@@ -706,7 +706,7 @@ elements-basics-requires : (t : ℕ) → elements-lts.Need-basics-requires (
 ) (elements-at t) elements.Post elements-Inv-loop elements-μ-loop
 elements-basics-requires t c κs = ((held-number _ _ _ (c .before .before .before .before .before .before .before .before .before .before .before .before .pre .1 .0) (c .before .before .before .before .before .before .before .before .before .before .before .before .pre .1 .1) _ _ (c .before .before .before .enum-told .given .1)) .key, sym ((held-number _ _ _ (c .before .before .before .before .before .before .before .before .before .before .before .before .pre .1 .0) (c .before .before .before .before .before .before .before .before .before .before .before .before .pre .1 .1) _ _ (c .before .before .before .enum-told .given .1)) .whole), alone-basic _ _ _ (c .before .before .before .before .before .before .before .before .before .before .before .before .pre .1 .0) (c .before .before .before .before .before .before .before .before .before .before .before .before .pre .1 .1) _ ((held-number _ _ _ (c .before .before .before .before .before .before .before .before .before .before .before .before .pre .1 .0) (c .before .before .before .before .before .before .before .before .before .before .before .before .pre .1 .1) _ _ (c .before .before .before .enum-told .given .1)) .plain (c .before .before .if1 .taken)), c .before .before .before .before .before .before .before .before .before .before .before .before .pre .1 .3)
 
--- src/lib.rt:213:13
+-- src/lib.rt:226:13
 elements-same-length : (t : ℕ) → elements-lts.Need-same-length (
   basics-reads.Asked,
   basics-reads.Learnt,
@@ -727,7 +727,7 @@ elements-same-length : (t : ℕ) → elements-lts.Need-same-length (
 ) (elements-at t) elements.Post elements-Inv-loop elements-μ-loop
 elements-same-length t c = search needs
 
--- src/lib.rt:213:13
+-- src/lib.rt:226:13
 elements-same-length-2 : (t : ℕ) → elements-lts.Need-same-length-2 (
   basics-reads.Asked,
   basics-reads.Learnt,
@@ -748,7 +748,7 @@ elements-same-length-2 : (t : ℕ) → elements-lts.Need-same-length-2 (
 ) (elements-at t) elements.Post elements-Inv-loop elements-μ-loop
 elements-same-length-2 t c = search needs
 
--- src/lib.rt:213:13
+-- src/lib.rt:226:13
 elements-returns : (t : ℕ) → elements-lts.Need-returns (
   basics-reads.Asked,
   basics-reads.Learnt,
@@ -769,7 +769,7 @@ elements-returns : (t : ℕ) → elements-lts.Need-returns (
 ) (elements-at t) elements.Post elements-Inv-loop elements-μ-loop
 elements-returns t c = items-basic _ _ _ _ _ _ (c .before .before .before .before .before .before .before .before .before .before .before .before .before .before .before .before .before .pre .1 .1) _ _ _ _ _ _ _ _ _ _ _ _ true ((held-number _ _ _ (c .before .before .before .before .before .before .before .before .before .before .before .before .before .before .before .before .before .pre .1 .0) (c .before .before .before .before .before .before .before .before .before .before .before .before .before .before .before .before .before .pre .1 .1) _ _ (c .before .before .before .before .before .before .before .before .enum-told .given .1)) .plain (c .before .before .before .before .before .before .before .if1 .taken)) (c .before .before .before .before .before .before .before .if1 .taken) (c .before .before .before .before .basics .ensures)
 
--- src/lib.rt:225:9
+-- src/lib.rt:238:9
 elements-readings-requires : (t : ℕ) → elements-lts.Need-readings-requires (
   basics-reads.Asked,
   basics-reads.Learnt,
@@ -790,7 +790,7 @@ elements-readings-requires : (t : ℕ) → elements-lts.Need-readings-requires (
 ) (elements-at t) elements.Post elements-Inv-loop elements-μ-loop
 elements-readings-requires t c κs = ((held-number _ _ _ (c .before .before .before .before .before .before .before .before .before .before .before .before .pre .1 .0) (c .before .before .before .before .before .before .before .before .before .before .before .before .pre .1 .1) _ _ (c .before .before .before .enum-told .given .1)) .key, (held-number _ _ _ (c .before .before .before .before .before .before .before .before .before .before .before .before .pre .1 .0) (c .before .before .before .before .before .before .before .before .before .before .before .before .pre .1 .1) _ _ (c .before .before .before .enum-told .given .1)) .whole, alone-reading _ _ _ (c .before .before .before .before .before .before .before .before .before .before .before .before .pre .1 .0) (c .before .before .before .before .before .before .before .before .before .before .before .before .pre .1 .1) _ ((held-number _ _ _ (c .before .before .before .before .before .before .before .before .before .before .before .before .pre .1 .0) (c .before .before .before .before .before .before .before .before .before .before .before .before .pre .1 .1) _ _ (c .before .before .before .enum-told .given .1)) .held (c .before .before .if1 .left)), c .before .before .before .before .before .before .before .before .before .before .before .before .pre .1 .3)
 
--- src/lib.rt:225:9
+-- src/lib.rt:238:9
 elements-same-length-3 : (t : ℕ) → elements-lts.Need-same-length-3 (
   basics-reads.Asked,
   basics-reads.Learnt,
@@ -811,7 +811,7 @@ elements-same-length-3 : (t : ℕ) → elements-lts.Need-same-length-3 (
 ) (elements-at t) elements.Post elements-Inv-loop elements-μ-loop
 elements-same-length-3 t c = search needs
 
--- src/lib.rt:225:9
+-- src/lib.rt:238:9
 elements-same-length-4 : (t : ℕ) → elements-lts.Need-same-length-4 (
   basics-reads.Asked,
   basics-reads.Learnt,
@@ -832,7 +832,7 @@ elements-same-length-4 : (t : ℕ) → elements-lts.Need-same-length-4 (
 ) (elements-at t) elements.Post elements-Inv-loop elements-μ-loop
 elements-same-length-4 t c = search needs
 
--- src/lib.rt:225:9
+-- src/lib.rt:238:9
 elements-returns-2 : (t : ℕ) → elements-lts.Need-returns-2 (
   basics-reads.Asked,
   basics-reads.Learnt,
@@ -853,7 +853,7 @@ elements-returns-2 : (t : ℕ) → elements-lts.Need-returns-2 (
 ) (elements-at t) elements.Post elements-Inv-loop elements-μ-loop
 elements-returns-2 t c = items-reading _ _ _ _ _ _ (c .before .before .before .before .before .before .before .before .before .before .before .before .before .before .before .before .before .pre .1 .1) _ _ _ _ _ _ _ _ _ _ _ _ ((held-number _ _ _ (c .before .before .before .before .before .before .before .before .before .before .before .before .before .before .before .before .before .pre .1 .0) (c .before .before .before .before .before .before .before .before .before .before .before .before .before .before .before .before .before .pre .1 .1) _ _ (c .before .before .before .before .before .before .before .before .enum-told .given .1)) .held (c .before .before .before .before .before .before .before .if1 .left)) ((held-number _ _ _ (c .before .before .before .before .before .before .before .before .before .before .before .before .before .before .before .before .before .pre .1 .0) (c .before .before .before .before .before .before .before .before .before .before .before .before .before .before .before .before .before .pre .1 .1) _ _ (c .before .before .before .before .before .before .before .before .enum-told .given .1)) .whole) (c .before .before .before .before .before .before .before .if1 .left) (c .before .before .before .before .readings .ensures)
 
--- src/lib.rt:246:13
+-- src/lib.rt:259:13
 elements-enum-told-2 : (t : ℕ) → elements-lts.Need-enum-told-2 (
   basics-reads.Asked,
   basics-reads.Learnt,
@@ -874,7 +874,7 @@ elements-enum-told-2 : (t : ℕ) → elements-lts.Need-enum-told-2 (
 ) (elements-at t) elements.Post elements-Inv-loop elements-μ-loop
 elements-enum-told-2 t c = search needs
 
--- src/lib.rt:238:9
+-- src/lib.rt:251:9
 elements-basics-requires-2 : (t : ℕ) → elements-lts.Need-basics-requires-2 (
   basics-reads.Asked,
   basics-reads.Learnt,
@@ -895,7 +895,7 @@ elements-basics-requires-2 : (t : ℕ) → elements-lts.Need-basics-requires-2 (
 ) (elements-at t) elements.Post elements-Inv-loop elements-μ-loop
 elements-basics-requires-2 t c κs = ((held-text _ _ _ (c .before .before .before .before .before .before .before .before .before .before .before .before .pre .1 .0) (c .before .before .before .before .before .before .before .before .before .before .before .before .pre .1 .1) _ (c .before .before .enum-told2 .given .1)) .key, sym ((held-text _ _ _ (c .before .before .before .before .before .before .before .before .before .before .before .before .pre .1 .0) (c .before .before .before .before .before .before .before .before .before .before .before .before .pre .1 .1) _ (c .before .before .enum-told2 .given .1)) .loose), alone-basic _ _ _ (c .before .before .before .before .before .before .before .before .before .before .before .before .pre .1 .0) (c .before .before .before .before .before .before .before .before .before .before .before .before .pre .1 .1) _ ((held-text _ _ _ (c .before .before .before .before .before .before .before .before .before .before .before .before .pre .1 .0) (c .before .before .before .before .before .before .before .before .before .before .before .before .pre .1 .1) _ (c .before .before .enum-told2 .given .1)) .tree), c .before .before .before .before .before .before .before .before .before .before .before .before .pre .1 .3)
 
--- src/lib.rt:238:9
+-- src/lib.rt:251:9
 elements-same-length-5 : (t : ℕ) → elements-lts.Need-same-length-5 (
   basics-reads.Asked,
   basics-reads.Learnt,
@@ -916,7 +916,7 @@ elements-same-length-5 : (t : ℕ) → elements-lts.Need-same-length-5 (
 ) (elements-at t) elements.Post elements-Inv-loop elements-μ-loop
 elements-same-length-5 t c = search needs
 
--- src/lib.rt:238:9
+-- src/lib.rt:251:9
 elements-same-length-6 : (t : ℕ) → elements-lts.Need-same-length-6 (
   basics-reads.Asked,
   basics-reads.Learnt,
@@ -937,7 +937,7 @@ elements-same-length-6 : (t : ℕ) → elements-lts.Need-same-length-6 (
 ) (elements-at t) elements.Post elements-Inv-loop elements-μ-loop
 elements-same-length-6 t c = search needs
 
--- src/lib.rt:238:9
+-- src/lib.rt:251:9
 elements-returns-3 : (t : ℕ) → elements-lts.Need-returns-3 (
   basics-reads.Asked,
   basics-reads.Learnt,
@@ -958,7 +958,7 @@ elements-returns-3 : (t : ℕ) → elements-lts.Need-returns-3 (
 ) (elements-at t) elements.Post elements-Inv-loop elements-μ-loop
 elements-returns-3 t c = items-basic _ _ _ _ _ _ (c .before .before .before .before .before .before .before .before .before .before .before .before .before .before .before .before .before .pre .1 .1) _ _ _ _ _ _ _ _ _ _ _ _ false ((held-text _ _ _ (c .before .before .before .before .before .before .before .before .before .before .before .before .before .before .before .before .before .pre .1 .0) (c .before .before .before .before .before .before .before .before .before .before .before .before .before .before .before .before .before .pre .1 .1) _ (c .before .before .before .before .before .before .before .enum-told2 .given .1)) .tree) ((held-text _ _ _ (c .before .before .before .before .before .before .before .before .before .before .before .before .before .before .before .before .before .pre .1 .0) (c .before .before .before .before .before .before .before .before .before .before .before .before .before .before .before .before .before .pre .1 .1) _ (c .before .before .before .before .before .before .before .enum-told2 .given .1)) .same-fixed) (c .before .before .before .before .basics2 .ensures)
 
--- src/lib.rt:255:5
+-- src/lib.rt:268:5
 elements-loop-holds : (t : ℕ) → elements-lts.Need-loop-holds (
   basics-reads.Asked,
   basics-reads.Learnt,
@@ -979,7 +979,7 @@ elements-loop-holds : (t : ℕ) → elements-lts.Need-loop-holds (
 ) (elements-at t) elements.Post elements-Inv-loop elements-μ-loop
 elements-loop-holds t c = left-all _ _ _ _ _ _ _ _ (c .before .before .before .before .before .before .before .before .before .pre .1 .3 .within)
 
--- src/lib.rt:255:16
+-- src/lib.rt:268:16
 elements-sub-loop : (t : ℕ) → elements-lts.Need-sub-loop (
   basics-reads.Asked,
   basics-reads.Learnt,
@@ -1000,7 +1000,7 @@ elements-sub-loop : (t : ℕ) → elements-lts.Need-sub-loop (
 ) (elements-at t) elements.Post elements-Inv-loop elements-μ-loop
 elements-sub-loop t c = omega (arith, c .loop .inv .within)
 
--- src/lib.rt:256:12
+-- src/lib.rt:269:12
 elements-mul-if2 : (t : ℕ) → elements-lts.Need-mul-if2 (
   basics-reads.Asked,
   basics-reads.Learnt,
@@ -1021,7 +1021,7 @@ elements-mul-if2 : (t : ℕ) → elements-lts.Need-mul-if2 (
 ) (elements-at t) elements.Post elements-Inv-loop elements-μ-loop
 elements-mul-if2 t c = omega arith
 
--- src/lib.rt:256:12
+-- src/lib.rt:269:12
 elements-shared-slice-read-if2 : (t : ℕ) → elements-lts.Need-shared-slice-read-if2 (
   basics-reads.Asked,
   basics-reads.Learnt,
@@ -1042,7 +1042,7 @@ elements-shared-slice-read-if2 : (t : ℕ) → elements-lts.Need-shared-slice-re
 ) (elements-at t) elements.Post elements-Inv-loop elements-μ-loop
 elements-shared-slice-read-if2 t c = (omega (arith, c .before .before .loop .inv .within, c .before .loop-test .taken))
 
--- src/lib.rt:257:13
+-- src/lib.rt:270:13
 elements-ran-requires : (t : ℕ) → elements-lts.Need-ran-requires (
   basics-reads.Asked,
   basics-reads.Learnt,
@@ -1063,7 +1063,7 @@ elements-ran-requires : (t : ℕ) → elements-lts.Need-ran-requires (
 ) (elements-at t) elements.Post elements-Inv-loop elements-μ-loop
 elements-ran-requires t c κs = search needs
 
--- src/lib.rt:257:13
+-- src/lib.rt:270:13
 elements-same-length-7 : (t : ℕ) → elements-lts.Need-same-length-7 (
   basics-reads.Asked,
   basics-reads.Learnt,
@@ -1084,7 +1084,7 @@ elements-same-length-7 : (t : ℕ) → elements-lts.Need-same-length-7 (
 ) (elements-at t) elements.Post elements-Inv-loop elements-μ-loop
 elements-same-length-7 t c = search needs
 
--- src/lib.rt:257:13
+-- src/lib.rt:270:13
 elements-same-length-8 : (t : ℕ) → elements-lts.Need-same-length-8 (
   basics-reads.Asked,
   basics-reads.Learnt,
@@ -1105,7 +1105,7 @@ elements-same-length-8 : (t : ℕ) → elements-lts.Need-same-length-8 (
 ) (elements-at t) elements.Post elements-Inv-loop elements-μ-loop
 elements-same-length-8 t c = search needs
 
--- src/lib.rt:257:13
+-- src/lib.rt:270:13
 elements-returns-4 : (t : ℕ) → elements-lts.Need-returns-4 (
   basics-reads.Asked,
   basics-reads.Learnt,
@@ -1126,7 +1126,7 @@ elements-returns-4 : (t : ℕ) → elements-lts.Need-returns-4 (
 ) (elements-at t) elements.Post elements-Inv-loop elements-μ-loop
 elements-returns-4 t c = rw (c .ran .ensures) (left-shut _ _ _ _ _ _ _ _ _ _ _ _ _ (c .before .before .before .before .loop .inv) (omega (arith, c .before .before .before .before .loop .inv .within, c .before .before .before .loop-test .taken)) (c .before .if2 .taken))
 
--- src/lib.rt:259:26
+-- src/lib.rt:272:26
 elements-add-pad : (t : ℕ) → elements-lts.Need-add-pad (
   basics-reads.Asked,
   basics-reads.Learnt,
@@ -1147,7 +1147,7 @@ elements-add-pad : (t : ℕ) → elements-lts.Need-add-pad (
 ) (elements-at t) elements.Post elements-Inv-loop elements-μ-loop
 elements-add-pad t c = omega (arith, c .before .before .before .before .loop .inv .small, c .before .before .before .before .before .before .before .before .before .before .before .before .before .before .pre .1 .3 .near)
 
--- src/lib.rt:259:13
+-- src/lib.rt:272:13
 elements-pad-requires : (t : ℕ) → elements-lts.Need-pad-requires (
   basics-reads.Asked,
   basics-reads.Learnt,
@@ -1168,7 +1168,7 @@ elements-pad-requires : (t : ℕ) → elements-lts.Need-pad-requires (
 ) (elements-at t) elements.Post elements-Inv-loop elements-μ-loop
 elements-pad-requires t c κs = (omega (arith, c .before .before .before .before .loop .inv .small, c .before .before .before .before .before .before .before .before .before .before .before .before .before .before .pre .1 .3 .near), c .before .before .before .before .before .before .before .before .before .before .before .before .before .before .pre .1 .0 .aligned)
 
--- src/lib.rt:262:30
+-- src/lib.rt:275:30
 elements-add-add : (t : ℕ) → elements-lts.Need-add-add (
   basics-reads.Asked,
   basics-reads.Learnt,
@@ -1189,7 +1189,7 @@ elements-add-add : (t : ℕ) → elements-lts.Need-add-add (
 ) (elements-at t) elements.Post elements-Inv-loop elements-μ-loop
 elements-add-add t c = omega (arith, c .before .before .before .before .before .before .before .loop .inv .small, c .before .before .pad .ensures .0 .1)
 
--- src/lib.rt:262:20
+-- src/lib.rt:275:20
 elements-add-requires : (t : ℕ) → elements-lts.Need-add-requires (
   basics-reads.Asked,
   basics-reads.Learnt,
@@ -1210,7 +1210,7 @@ elements-add-requires : (t : ℕ) → elements-lts.Need-add-requires (
 ) (elements-at t) elements.Post elements-Inv-loop elements-μ-loop
 elements-add-requires t c κs = search needs
 
--- src/lib.rt:263:18
+-- src/lib.rt:276:18
 elements-add-requires-2 : (t : ℕ) → elements-lts.Need-add-requires-2 (
   basics-reads.Asked,
   basics-reads.Learnt,
@@ -1231,7 +1231,7 @@ elements-add-requires-2 : (t : ℕ) → elements-lts.Need-add-requires-2 (
 ) (elements-at t) elements.Post elements-Inv-loop elements-μ-loop
 elements-add-requires-2 t c κs = search needs
 
--- src/lib.rt:265:13
+-- src/lib.rt:278:13
 elements-value-requires : (t : ℕ) → elements-lts.Need-value-requires (
   basics-reads.Asked,
   basics-reads.Learnt,
@@ -1252,7 +1252,7 @@ elements-value-requires : (t : ℕ) → elements-lts.Need-value-requires (
 ) (elements-at t) elements.Post elements-Inv-loop elements-μ-loop
 elements-value-requires t c κs = (omega (arith, c .before .before .before .before .before .before .before .before .before .before .before .before .before .before .before .before .before .before .before .before .before .pre .0), (c .before .before .before .before .before .before .before .before .before .before .before .before .before .before .before .before .before .before .before .before .before .pre .1 .0 .child, c .before .before .before .before .before .before .before .before .before .before .before .before .before .before .before .before .before .before .before .before .before .pre .1 .2, record { within = c .before .before .before .before .before .before .before .before .before .before .before .loop .inv .within; near = omega (arith, c .before .before .before .add .ensures); few = omega (arith, c .before .before .add2 .ensures) }))
 
--- src/lib.rt:278:13
+-- src/lib.rt:291:13
 elements-stopped-requires : (t : ℕ) → elements-lts.Need-stopped-requires (
   basics-reads.Asked,
   basics-reads.Learnt,
@@ -1273,7 +1273,7 @@ elements-stopped-requires : (t : ℕ) → elements-lts.Need-stopped-requires (
 ) (elements-at t) elements.Post elements-Inv-loop elements-μ-loop
 elements-stopped-requires t c κs = search needs
 
--- src/lib.rt:278:13
+-- src/lib.rt:291:13
 elements-same-length-9 : (t : ℕ) → elements-lts.Need-same-length-9 (
   basics-reads.Asked,
   basics-reads.Learnt,
@@ -1294,7 +1294,7 @@ elements-same-length-9 : (t : ℕ) → elements-lts.Need-same-length-9 (
 ) (elements-at t) elements.Post elements-Inv-loop elements-μ-loop
 elements-same-length-9 t c = search needs
 
--- src/lib.rt:278:13
+-- src/lib.rt:291:13
 elements-same-length-10 : (t : ℕ) → elements-lts.Need-same-length-10 (
   basics-reads.Asked,
   basics-reads.Learnt,
@@ -1315,7 +1315,7 @@ elements-same-length-10 : (t : ℕ) → elements-lts.Need-same-length-10 (
 ) (elements-at t) elements.Post elements-Inv-loop elements-μ-loop
 elements-same-length-10 t c = search needs
 
--- src/lib.rt:278:13
+-- src/lib.rt:291:13
 elements-returns-5 : (t : ℕ) → elements-lts.Need-returns-5 (
   basics-reads.Asked,
   basics-reads.Learnt,
@@ -1336,7 +1336,7 @@ elements-returns-5 : (t : ℕ) → elements-lts.Need-returns-5 (
 ) (elements-at t) elements.Post elements-Inv-loop elements-μ-loop
 elements-returns-5 t c = rw (c .stopped .ensures) (left-stop _ _ _ _ _ _ _ _ _ _ _ _ _ (c .before .before .before .before .before .before .before .before .before .before .before .before .before .before .before .before .before .before .loop .inv) (omega (arith, c .before .before .before .before .before .before .before .before .before .before .before .before .before .before .before .before .before .before .loop .inv .within, c .before .before .before .before .before .before .before .before .before .before .before .before .before .before .before .before .before .loop-test .taken)) (c .before .before .before .before .before .before .before .before .before .before .before .before .before .before .before .if2 .left) _ _ _ _ _ _ (item-as-value _ _ _ _ _ _ _ _ _ _ _ _ _ _ _ (c .before .before .before .before .before .before .before .before .before .before .before .before .before .before .before .before .before .before .before .before .before .before .before .before .before .before .before .before .pre .1 .1) (c .before .before .before .before .before .before .value .ensures)) (c .before .if3 .taken))
 
--- src/lib.rt:280:17
+-- src/lib.rt:293:17
 elements-add-add-2 : (t : ℕ) → elements-lts.Need-add-add-2 (
   basics-reads.Asked,
   basics-reads.Learnt,
@@ -1357,7 +1357,7 @@ elements-add-add-2 : (t : ℕ) → elements-lts.Need-add-add-2 (
 ) (elements-at t) elements.Post elements-Inv-loop elements-μ-loop
 elements-add-add-2 t c = omega (arith, c .before .before .before .before .before .before .before .before .before .before .before .before .before .before .before .before .before .loop .inv .small, c .before .before .before .before .before .before .before .before .before .before .before .before .pad .ensures .0 .1)
 
--- src/lib.rt:280:9
+-- src/lib.rt:293:9
 elements-add-requires-3 : (t : ℕ) → elements-lts.Need-add-requires-3 (
   basics-reads.Asked,
   basics-reads.Learnt,
@@ -1378,7 +1378,7 @@ elements-add-requires-3 : (t : ℕ) → elements-lts.Need-add-requires-3 (
 ) (elements-at t) elements.Post elements-Inv-loop elements-μ-loop
 elements-add-requires-3 t c κs = search needs
 
--- src/lib.rt:282:9
+-- src/lib.rt:295:9
 elements-keep-requires : (t : ℕ) → elements-lts.Need-keep-requires (
   basics-reads.Asked,
   basics-reads.Learnt,
@@ -1399,7 +1399,7 @@ elements-keep-requires : (t : ℕ) → elements-lts.Need-keep-requires (
 ) (elements-at t) elements.Post elements-Inv-loop elements-μ-loop
 elements-keep-requires t c κs = omega (arith, c .before .before .before .before .before .before .before .before .before .before .before .before .before .before .before .before .before .before .before .before .loop .inv .few, c .before .before .before .before .before .before .before .before .before .before .before .before .before .before .before .before .before .before .before .before .before .before .before .before .before .before .before .before .before .before .pre .1 .3 .few)
 
--- src/lib.rt:255:5
+-- src/lib.rt:268:5
 elements-loop-less : (t : ℕ) → elements-lts.Need-loop-less (
   basics-reads.Asked,
   basics-reads.Learnt,
@@ -1420,7 +1420,7 @@ elements-loop-less : (t : ℕ) → elements-lts.Need-loop-less (
 ) (elements-at t) elements.Post elements-Inv-loop elements-μ-loop
 elements-loop-less t c = let q = bounds (c .before .before .before .before .before .before .before .before .if3 .left) (c .before .before .before .before .before .before .before .before .before .before .before .before .before .value .ensures) in omega (arith, q .forward, q .within)
 
--- src/lib.rt:255:5
+-- src/lib.rt:268:5
 elements-loop-again : (t : ℕ) → elements-lts.Need-loop-again (
   basics-reads.Asked,
   basics-reads.Learnt,
@@ -1441,7 +1441,7 @@ elements-loop-again : (t : ℕ) → elements-lts.Need-loop-again (
 ) (elements-at t) elements.Post elements-Inv-loop elements-μ-loop
 elements-loop-again t c = left-on _ _ _ _ _ _ _ _ _ _ _ _ _ (c .before .before .before .before .before .before .before .before .before .before .before .before .before .before .before .before .before .before .before .before .before .before .before .before .before .loop .inv) (omega (arith, c .before .before .before .before .before .before .before .before .before .before .before .before .before .before .before .before .before .before .before .before .before .before .before .before .before .loop .inv .within, c .before .before .before .before .before .before .before .before .before .before .before .before .before .before .before .before .before .before .before .before .before .before .before .before .loop-test .taken)) (c .before .before .before .before .before .before .before .before .before .before .before .before .before .before .before .before .before .before .before .before .before .before .if2 .left) _ _ _ _ _ _ (item-as-value _ _ _ _ _ _ _ _ _ _ _ _ _ _ _ (c .before .before .before .before .before .before .before .before .before .before .before .before .before .before .before .before .before .before .before .before .before .before .before .before .before .before .before .before .before .before .before .before .before .before .before .pre .1 .1) (c .before .before .before .before .before .before .before .before .before .before .before .before .before .value .ensures)) _ _ _ _ _ _ (item-shorter _ _ _ _ _ _) (item-alignment _ _ _ _ _ _ (c .before .before .before .before .before .before .before .before .before .before .before .before .before .before .before .before .before .before .before .before .before .before .before .before .before .before .before .before .before .before .before .before .before .before .before .pre .1 .0) _ _) (c .before .before .before .before .before .before .before .before .if3 .left) (c .before .before .before .before .before .before .before .before .before .before .before .before .before .before .before .before .before .before .before .before .pad .ensures .0 .0) (c .before .before .before .before .before .before .before .before .before .before .before .before .before .before .before .before .before .before .before .before .pad .ensures .1) (c .before .before .before .before .before .before .before .before .before .before .before .before .before .before .before .before .before .add .ensures) (c .before .before .before .before .before .before .before .before .before .before .before .before .before .before .before .before .add2 .ensures) (c .before .before .before .before .before .before .before .add3 .ensures) (c .before .before .before .before .keep .ensures) (omega (arith, c .before .before .before .before .before .before .before .before .before .before .before .before .before .before .before .before .before .before .before .before .before .before .before .before .before .loop .inv .same)) (omega (arith, c .before .before .before .before .before .before .before .before .before .before .before .before .before .before .before .before .before .before .before .before .before .before .before .before .before .loop .inv .same)) (omega (arith, c .before .before .before .before .before .before .before .before .before .before .before .before .before .before .before .before .before .before .before .before .before .before .before .before .before .loop .inv .sames)) (omega (arith, c .before .before .before .before .before .before .before .before .before .before .before .before .before .before .before .before .before .before .before .before .before .before .before .before .before .loop .inv .sames))
 
--- src/lib.rt:284:5
+-- src/lib.rt:297:5
 elements-stopped-requires-2 : (t : ℕ) → elements-lts.Need-stopped-requires-2 (
   basics-reads.Asked,
   basics-reads.Learnt,
@@ -1462,7 +1462,7 @@ elements-stopped-requires-2 : (t : ℕ) → elements-lts.Need-stopped-requires-2
 ) (elements-at t) elements.Post elements-Inv-loop elements-μ-loop
 elements-stopped-requires-2 t c κs = search needs
 
--- src/lib.rt:194:1
+-- src/lib.rt:207:1
 elements-same-length-11 : (t : ℕ) → elements-lts.Need-same-length-11 (
   basics-reads.Asked,
   basics-reads.Learnt,
@@ -1483,7 +1483,7 @@ elements-same-length-11 : (t : ℕ) → elements-lts.Need-same-length-11 (
 ) (elements-at t) elements.Post elements-Inv-loop elements-μ-loop
 elements-same-length-11 t c = search needs
 
--- src/lib.rt:194:1
+-- src/lib.rt:207:1
 elements-same-length-12 : (t : ℕ) → elements-lts.Need-same-length-12 (
   basics-reads.Asked,
   basics-reads.Learnt,
@@ -1504,7 +1504,7 @@ elements-same-length-12 : (t : ℕ) → elements-lts.Need-same-length-12 (
 ) (elements-at t) elements.Post elements-Inv-loop elements-μ-loop
 elements-same-length-12 t c = search needs
 
--- src/lib.rt:194:1
+-- src/lib.rt:207:1
 elements-returns-6 : (t : ℕ) → elements-lts.Need-returns-6 (
   basics-reads.Asked,
   basics-reads.Learnt,
@@ -1531,7 +1531,7 @@ entries-Inv-loop text shapes item events texts context out₀ ends₀ base top e
 abbrev entries-μ-loop : entries-lts.MeasureT-loop
 entries-μ-loop text shapes item events texts context out₀ ends₀ base top e₀ k₀ j₀ out ends e k j = length events - e
 
--- src/lib.rt:309:5
+-- src/lib.rt:322:5
 entries-loop-holds : (t : ℕ) → entries-lts.Need-loop-holds (
   ran-reads.Asked,
   ran-reads.Learnt,
@@ -1548,7 +1548,7 @@ entries-loop-holds : (t : ℕ) → entries-lts.Need-loop-holds (
 ) (entries-at t) entries.Post entries-Inv-loop entries-μ-loop
 entries-loop-holds t c = left-all _ _ _ _ _ _ _ _ (c .before .before .before .before .before .before .pre .1 .3 .within)
 
--- src/lib.rt:309:16
+-- src/lib.rt:322:16
 entries-sub-loop : (t : ℕ) → entries-lts.Need-sub-loop (
   ran-reads.Asked,
   ran-reads.Learnt,
@@ -1565,7 +1565,7 @@ entries-sub-loop : (t : ℕ) → entries-lts.Need-sub-loop (
 ) (entries-at t) entries.Post entries-Inv-loop entries-μ-loop
 entries-sub-loop t c = omega (arith, c .loop .inv .within)
 
--- src/lib.rt:310:12
+-- src/lib.rt:323:12
 entries-mul-if1 : (t : ℕ) → entries-lts.Need-mul-if1 (
   ran-reads.Asked,
   ran-reads.Learnt,
@@ -1582,7 +1582,7 @@ entries-mul-if1 : (t : ℕ) → entries-lts.Need-mul-if1 (
 ) (entries-at t) entries.Post entries-Inv-loop entries-μ-loop
 entries-mul-if1 t c = omega arith
 
--- src/lib.rt:310:12
+-- src/lib.rt:323:12
 entries-shared-slice-read-if1 : (t : ℕ) → entries-lts.Need-shared-slice-read-if1 (
   ran-reads.Asked,
   ran-reads.Learnt,
@@ -1599,7 +1599,7 @@ entries-shared-slice-read-if1 : (t : ℕ) → entries-lts.Need-shared-slice-read
 ) (entries-at t) entries.Post entries-Inv-loop entries-μ-loop
 entries-shared-slice-read-if1 t c = (omega (arith, c .before .before .loop .inv .within, c .before .loop-test .taken))
 
--- src/lib.rt:311:13
+-- src/lib.rt:324:13
 entries-ran-requires : (t : ℕ) → entries-lts.Need-ran-requires (
   ran-reads.Asked,
   ran-reads.Learnt,
@@ -1616,7 +1616,7 @@ entries-ran-requires : (t : ℕ) → entries-lts.Need-ran-requires (
 ) (entries-at t) entries.Post entries-Inv-loop entries-μ-loop
 entries-ran-requires t c κs = search needs
 
--- src/lib.rt:311:13
+-- src/lib.rt:324:13
 entries-same-length : (t : ℕ) → entries-lts.Need-same-length (
   ran-reads.Asked,
   ran-reads.Learnt,
@@ -1633,7 +1633,7 @@ entries-same-length : (t : ℕ) → entries-lts.Need-same-length (
 ) (entries-at t) entries.Post entries-Inv-loop entries-μ-loop
 entries-same-length t c = search needs
 
--- src/lib.rt:311:13
+-- src/lib.rt:324:13
 entries-same-length-2 : (t : ℕ) → entries-lts.Need-same-length-2 (
   ran-reads.Asked,
   ran-reads.Learnt,
@@ -1650,7 +1650,7 @@ entries-same-length-2 : (t : ℕ) → entries-lts.Need-same-length-2 (
 ) (entries-at t) entries.Post entries-Inv-loop entries-μ-loop
 entries-same-length-2 t c = search needs
 
--- src/lib.rt:311:13
+-- src/lib.rt:324:13
 entries-returns : (t : ℕ) → entries-lts.Need-returns (
   ran-reads.Asked,
   ran-reads.Learnt,
@@ -1667,7 +1667,7 @@ entries-returns : (t : ℕ) → entries-lts.Need-returns (
 ) (entries-at t) entries.Post entries-Inv-loop entries-μ-loop
 entries-returns t c = rw (c .ran .ensures) (left-shut _ _ _ _ _ _ _ _ _ _ _ _ _ (c .before .before .before .before .loop .inv) (omega (arith, c .before .before .before .before .loop .inv .within, c .before .before .before .loop-test .taken)) (c .before .if1 .taken))
 
--- src/lib.rt:313:26
+-- src/lib.rt:326:26
 entries-add-pad : (t : ℕ) → entries-lts.Need-add-pad (
   ran-reads.Asked,
   ran-reads.Learnt,
@@ -1684,7 +1684,7 @@ entries-add-pad : (t : ℕ) → entries-lts.Need-add-pad (
 ) (entries-at t) entries.Post entries-Inv-loop entries-μ-loop
 entries-add-pad t c = omega (arith, c .before .before .before .before .loop .inv .small, c .before .before .before .before .before .before .before .before .before .before .before .pre .1 .3 .near)
 
--- src/lib.rt:313:13
+-- src/lib.rt:326:13
 entries-pad-requires : (t : ℕ) → entries-lts.Need-pad-requires (
   ran-reads.Asked,
   ran-reads.Learnt,
@@ -1701,7 +1701,7 @@ entries-pad-requires : (t : ℕ) → entries-lts.Need-pad-requires (
 ) (entries-at t) entries.Post entries-Inv-loop entries-μ-loop
 entries-pad-requires t c κs = (omega (arith, c .before .before .before .before .loop .inv .small, c .before .before .before .before .before .before .before .before .before .before .before .pre .1 .3 .near), c .before .before .before .before .before .before .before .before .before .before .before .pre .1 .0 .aligned)
 
--- src/lib.rt:316:30
+-- src/lib.rt:329:30
 entries-add-add : (t : ℕ) → entries-lts.Need-add-add (
   ran-reads.Asked,
   ran-reads.Learnt,
@@ -1718,7 +1718,7 @@ entries-add-add : (t : ℕ) → entries-lts.Need-add-add (
 ) (entries-at t) entries.Post entries-Inv-loop entries-μ-loop
 entries-add-add t c = omega (arith, c .before .before .before .before .before .before .before .loop .inv .small, c .before .before .pad .ensures .0 .1)
 
--- src/lib.rt:316:20
+-- src/lib.rt:329:20
 entries-add-requires : (t : ℕ) → entries-lts.Need-add-requires (
   ran-reads.Asked,
   ran-reads.Learnt,
@@ -1735,7 +1735,7 @@ entries-add-requires : (t : ℕ) → entries-lts.Need-add-requires (
 ) (entries-at t) entries.Post entries-Inv-loop entries-μ-loop
 entries-add-requires t c κs = search needs
 
--- src/lib.rt:317:18
+-- src/lib.rt:330:18
 entries-add-requires-2 : (t : ℕ) → entries-lts.Need-add-requires-2 (
   ran-reads.Asked,
   ran-reads.Learnt,
@@ -1752,7 +1752,7 @@ entries-add-requires-2 : (t : ℕ) → entries-lts.Need-add-requires-2 (
 ) (entries-at t) entries.Post entries-Inv-loop entries-μ-loop
 entries-add-requires-2 t c κs = search needs
 
--- src/lib.rt:319:13
+-- src/lib.rt:332:13
 entries-entry-requires : (t : ℕ) → entries-lts.Need-entry-requires (
   ran-reads.Asked,
   ran-reads.Learnt,
@@ -1769,7 +1769,7 @@ entries-entry-requires : (t : ℕ) → entries-lts.Need-entry-requires (
 ) (entries-at t) entries.Post entries-Inv-loop entries-μ-loop
 entries-entry-requires t c κs = (omega (arith, c .before .before .before .before .before .before .before .before .before .before .before .before .before .before .before .before .before .before .pre .0), (c .before .before .before .before .before .before .before .before .before .before .before .before .before .before .before .before .before .before .pre .1 .0, c .before .before .before .before .before .before .before .before .before .before .before .before .before .before .before .before .before .before .pre .1 .1, c .before .before .before .before .before .before .before .before .before .before .before .before .before .before .before .before .before .before .pre .1 .2, record { within = c .before .before .before .before .before .before .before .before .before .before .before .loop .inv .within; near = omega (arith, c .before .before .before .add .ensures); few = omega (arith, c .before .before .add2 .ensures) }))
 
--- src/lib.rt:322:13
+-- src/lib.rt:335:13
 entries-stopped-requires : (t : ℕ) → entries-lts.Need-stopped-requires (
   ran-reads.Asked,
   ran-reads.Learnt,
@@ -1786,7 +1786,7 @@ entries-stopped-requires : (t : ℕ) → entries-lts.Need-stopped-requires (
 ) (entries-at t) entries.Post entries-Inv-loop entries-μ-loop
 entries-stopped-requires t c κs = search needs
 
--- src/lib.rt:322:13
+-- src/lib.rt:335:13
 entries-same-length-3 : (t : ℕ) → entries-lts.Need-same-length-3 (
   ran-reads.Asked,
   ran-reads.Learnt,
@@ -1803,7 +1803,7 @@ entries-same-length-3 : (t : ℕ) → entries-lts.Need-same-length-3 (
 ) (entries-at t) entries.Post entries-Inv-loop entries-μ-loop
 entries-same-length-3 t c = search needs
 
--- src/lib.rt:322:13
+-- src/lib.rt:335:13
 entries-same-length-4 : (t : ℕ) → entries-lts.Need-same-length-4 (
   ran-reads.Asked,
   ran-reads.Learnt,
@@ -1820,7 +1820,7 @@ entries-same-length-4 : (t : ℕ) → entries-lts.Need-same-length-4 (
 ) (entries-at t) entries.Post entries-Inv-loop entries-μ-loop
 entries-same-length-4 t c = search needs
 
--- src/lib.rt:322:13
+-- src/lib.rt:335:13
 entries-returns-2 : (t : ℕ) → entries-lts.Need-returns-2 (
   ran-reads.Asked,
   ran-reads.Learnt,
@@ -1837,7 +1837,7 @@ entries-returns-2 : (t : ℕ) → entries-lts.Need-returns-2 (
 ) (entries-at t) entries.Post entries-Inv-loop entries-μ-loop
 entries-returns-2 t c = rw (c .stopped .ensures) (left-stop _ _ _ _ _ _ _ _ _ _ _ _ _ (c .before .before .before .before .before .before .before .before .before .before .before .before .before .before .before .before .before .before .loop .inv) (omega (arith, c .before .before .before .before .before .before .before .before .before .before .before .before .before .before .before .before .before .before .loop .inv .within, c .before .before .before .before .before .before .before .before .before .before .before .before .before .before .before .before .before .loop-test .taken)) (c .before .before .before .before .before .before .before .before .before .before .before .before .before .before .before .if1 .left) _ _ _ _ _ _ (c .before .before .before .before .before .before .entry .ensures) (c .before .if2 .taken))
 
--- src/lib.rt:324:17
+-- src/lib.rt:337:17
 entries-add-add-2 : (t : ℕ) → entries-lts.Need-add-add-2 (
   ran-reads.Asked,
   ran-reads.Learnt,
@@ -1854,7 +1854,7 @@ entries-add-add-2 : (t : ℕ) → entries-lts.Need-add-add-2 (
 ) (entries-at t) entries.Post entries-Inv-loop entries-μ-loop
 entries-add-add-2 t c = omega (arith, c .before .before .before .before .before .before .before .before .before .before .before .before .before .before .before .before .before .loop .inv .small, c .before .before .before .before .before .before .before .before .before .before .before .before .pad .ensures .0 .1)
 
--- src/lib.rt:324:9
+-- src/lib.rt:337:9
 entries-add-requires-3 : (t : ℕ) → entries-lts.Need-add-requires-3 (
   ran-reads.Asked,
   ran-reads.Learnt,
@@ -1871,7 +1871,7 @@ entries-add-requires-3 : (t : ℕ) → entries-lts.Need-add-requires-3 (
 ) (entries-at t) entries.Post entries-Inv-loop entries-μ-loop
 entries-add-requires-3 t c κs = search needs
 
--- src/lib.rt:326:9
+-- src/lib.rt:339:9
 entries-keep-requires : (t : ℕ) → entries-lts.Need-keep-requires (
   ran-reads.Asked,
   ran-reads.Learnt,
@@ -1888,7 +1888,7 @@ entries-keep-requires : (t : ℕ) → entries-lts.Need-keep-requires (
 ) (entries-at t) entries.Post entries-Inv-loop entries-μ-loop
 entries-keep-requires t c κs = omega (arith, c .before .before .before .before .before .before .before .before .before .before .before .before .before .before .before .before .before .before .before .before .loop .inv .few, c .before .before .before .before .before .before .before .before .before .before .before .before .before .before .before .before .before .before .before .before .before .before .before .before .before .before .before .pre .1 .3 .few)
 
--- src/lib.rt:309:5
+-- src/lib.rt:322:5
 entries-loop-less : (t : ℕ) → entries-lts.Need-loop-less (
   ran-reads.Asked,
   ran-reads.Learnt,
@@ -1905,7 +1905,7 @@ entries-loop-less : (t : ℕ) → entries-lts.Need-loop-less (
 ) (entries-at t) entries.Post entries-Inv-loop entries-μ-loop
 entries-loop-less t c = let q = bounds (c .before .before .before .before .before .before .before .before .if2 .left) (c .before .before .before .before .before .before .before .before .before .before .before .before .before .entry .ensures) in omega (arith, q .forward, q .within)
 
--- src/lib.rt:309:5
+-- src/lib.rt:322:5
 entries-loop-again : (t : ℕ) → entries-lts.Need-loop-again (
   ran-reads.Asked,
   ran-reads.Learnt,
@@ -1922,7 +1922,7 @@ entries-loop-again : (t : ℕ) → entries-lts.Need-loop-again (
 ) (entries-at t) entries.Post entries-Inv-loop entries-μ-loop
 entries-loop-again t c = left-on _ _ _ _ _ _ _ _ _ _ _ _ _ (c .before .before .before .before .before .before .before .before .before .before .before .before .before .before .before .before .before .before .before .before .before .before .before .before .before .loop .inv) (omega (arith, c .before .before .before .before .before .before .before .before .before .before .before .before .before .before .before .before .before .before .before .before .before .before .before .before .before .loop .inv .within, c .before .before .before .before .before .before .before .before .before .before .before .before .before .before .before .before .before .before .before .before .before .before .before .before .loop-test .taken)) (c .before .before .before .before .before .before .before .before .before .before .before .before .before .before .before .before .before .before .before .before .before .before .if1 .left) _ _ _ _ _ _ (c .before .before .before .before .before .before .before .before .before .before .before .before .before .entry .ensures) _ _ _ _ _ _ (item-shorter _ _ _ _ _ _) (item-alignment _ _ _ _ _ _ (c .before .before .before .before .before .before .before .before .before .before .before .before .before .before .before .before .before .before .before .before .before .before .before .before .before .before .before .before .before .before .before .before .pre .1 .0) _ _) (c .before .before .before .before .before .before .before .before .if2 .left) (c .before .before .before .before .before .before .before .before .before .before .before .before .before .before .before .before .before .before .before .before .pad .ensures .0 .0) (c .before .before .before .before .before .before .before .before .before .before .before .before .before .before .before .before .before .before .before .before .pad .ensures .1) (c .before .before .before .before .before .before .before .before .before .before .before .before .before .before .before .before .before .add .ensures) (c .before .before .before .before .before .before .before .before .before .before .before .before .before .before .before .before .add2 .ensures) (c .before .before .before .before .before .before .before .add3 .ensures) (c .before .before .before .before .keep .ensures) (omega (arith, c .before .before .before .before .before .before .before .before .before .before .before .before .before .before .before .before .before .before .before .before .before .before .before .before .before .loop .inv .same)) (omega (arith, c .before .before .before .before .before .before .before .before .before .before .before .before .before .before .before .before .before .before .before .before .before .before .before .before .before .loop .inv .same)) (omega (arith, c .before .before .before .before .before .before .before .before .before .before .before .before .before .before .before .before .before .before .before .before .before .before .before .before .before .loop .inv .sames)) (omega (arith, c .before .before .before .before .before .before .before .before .before .before .before .before .before .before .before .before .before .before .before .before .before .before .before .before .before .loop .inv .sames))
 
--- src/lib.rt:328:5
+-- src/lib.rt:341:5
 entries-stopped-requires-2 : (t : ℕ) → entries-lts.Need-stopped-requires-2 (
   ran-reads.Asked,
   ran-reads.Learnt,
@@ -1939,7 +1939,7 @@ entries-stopped-requires-2 : (t : ℕ) → entries-lts.Need-stopped-requires-2 (
 ) (entries-at t) entries.Post entries-Inv-loop entries-μ-loop
 entries-stopped-requires-2 t c κs = search needs
 
--- src/lib.rt:290:1
+-- src/lib.rt:303:1
 entries-same-length-5 : (t : ℕ) → entries-lts.Need-same-length-5 (
   ran-reads.Asked,
   ran-reads.Learnt,
@@ -1956,7 +1956,7 @@ entries-same-length-5 : (t : ℕ) → entries-lts.Need-same-length-5 (
 ) (entries-at t) entries.Post entries-Inv-loop entries-μ-loop
 entries-same-length-5 t c = search needs
 
--- src/lib.rt:290:1
+-- src/lib.rt:303:1
 entries-same-length-6 : (t : ℕ) → entries-lts.Need-same-length-6 (
   ran-reads.Asked,
   ran-reads.Learnt,
@@ -1973,7 +1973,7 @@ entries-same-length-6 : (t : ℕ) → entries-lts.Need-same-length-6 (
 ) (entries-at t) entries.Post entries-Inv-loop entries-μ-loop
 entries-same-length-6 t c = search needs
 
--- src/lib.rt:290:1
+-- src/lib.rt:303:1
 entries-returns-3 : (t : ℕ) → entries-lts.Need-returns-3 (
   ran-reads.Asked,
   ran-reads.Learnt,
@@ -1990,7 +1990,7 @@ entries-returns-3 : (t : ℕ) → entries-lts.Need-returns-3 (
 ) (entries-at t) entries.Post entries-Inv-loop entries-μ-loop
 entries-returns-3 t c = rw (c .stopped2 .ensures) (left-short _ _ _ _ _ _ _ _ _ _ _ _ _ (c .before .before .loop .inv) (omega (arith, c .before .before .loop .inv .within, c .before .loop-test .left)))
 
--- src/lib.rt:350:9
+-- src/lib.rt:363:9
 entry-basic-value-requires : (t : ℕ) → entry-lts.Need-basic-value-requires (
   basic-value-reads.Asked,
   basic-value-reads.Learnt,
@@ -2009,7 +2009,7 @@ entry-basic-value-requires : (t : ℕ) → entry-lts.Need-basic-value-requires (
 ) (entry-at t) entry.Post
 entry-basic-value-requires t c κs = (c .before .before .before .before .before .before .before .before .pre .1 .3 .within, c .before .before .before .before .before .before .before .before .pre .1 .3 .near, c .before .before .before .before .before .before .before .before .pre .1 .0 .key (c .before .before .before .before .before .before .before .before .pre .1 .1))
 
--- src/lib.rt:354:9
+-- src/lib.rt:367:9
 entry-same-length : (t : ℕ) → entry-lts.Need-same-length (
   basic-value-reads.Asked,
   basic-value-reads.Learnt,
@@ -2028,7 +2028,7 @@ entry-same-length : (t : ℕ) → entry-lts.Need-same-length (
 ) (entry-at t) entry.Post
 entry-same-length t c = search needs
 
--- src/lib.rt:354:9
+-- src/lib.rt:367:9
 entry-returns : (t : ℕ) → entry-lts.Need-returns (
   basic-value-reads.Asked,
   basic-value-reads.Learnt,
@@ -2047,7 +2047,7 @@ entry-returns : (t : ℕ) → entry-lts.Need-returns (
 ) (entry-at t) entry.Post
 entry-returns t c = item-key-stop _ _ _ _ _ _ _ _ _ _ _ _ _ _ _ (c .before .before .before .before .before .before .before .before .before .before .before .before .pre .1 .1) (c .before .before .before .basic-value .ensures _ _ _) (c .if1 .taken)
 
--- src/lib.rt:356:9
+-- src/lib.rt:369:9
 entry-keep-requires : (t : ℕ) → entry-lts.Need-keep-requires (
   basic-value-reads.Asked,
   basic-value-reads.Learnt,
@@ -2066,7 +2066,7 @@ entry-keep-requires : (t : ℕ) → entry-lts.Need-keep-requires (
 ) (entry-at t) entry.Post
 entry-keep-requires t c κs = omega (arith, c .before .before .before .before .before .before .before .before .before .before .before .before .before .before .pre .1 .3 .few)
 
--- src/lib.rt:357:22
+-- src/lib.rt:370:22
 entry-add-pad : (t : ℕ) → entry-lts.Need-add-pad (
   basic-value-reads.Asked,
   basic-value-reads.Learnt,
@@ -2085,7 +2085,7 @@ entry-add-pad : (t : ℕ) → entry-lts.Need-add-pad (
 ) (entry-at t) entry.Post
 entry-add-pad t c = omega (arith, (bounds (c .before .before .before .before .before .before .before .before .if1 .left) (c .before .before .before .before .before .before .before .before .before .before .before .basic-value .ensures noneOpen 0 [])) .small, c .before .before .before .before .before .before .before .before .before .before .before .before .before .before .before .before .before .before .before .before .pre .1 .3 .near)
 
--- src/lib.rt:357:9
+-- src/lib.rt:370:9
 entry-pad-requires : (t : ℕ) → entry-lts.Need-pad-requires (
   basic-value-reads.Asked,
   basic-value-reads.Learnt,
@@ -2104,7 +2104,7 @@ entry-pad-requires : (t : ℕ) → entry-lts.Need-pad-requires (
 ) (entry-at t) entry.Post
 entry-pad-requires t c κs = (omega (arith, (bounds (c .before .before .before .before .before .before .before .before .if1 .left) (c .before .before .before .before .before .before .before .before .before .before .before .basic-value .ensures noneOpen 0 [])) .small, c .before .before .before .before .before .before .before .before .before .before .before .before .before .before .before .before .before .before .before .before .pre .1 .3 .near), described-aligned (c .before .before .before .before .before .before .before .before .before .before .before .before .before .before .before .before .before .before .before .before .pre .1 .0 .child))
 
--- src/lib.rt:360:27
+-- src/lib.rt:373:27
 entry-add-add : (t : ℕ) → entry-lts.Need-add-add (
   basic-value-reads.Asked,
   basic-value-reads.Learnt,
@@ -2123,7 +2123,7 @@ entry-add-add : (t : ℕ) → entry-lts.Need-add-add (
 ) (entry-at t) entry.Post
 entry-add-add t c = omega (arith, (bounds (c .before .before .before .before .before .before .before .before .before .before .before .if1 .left) (c .before .before .before .before .before .before .before .before .before .before .before .before .before .before .basic-value .ensures noneOpen 0 [])) .small, c .before .before .pad .ensures .0 .1)
 
--- src/lib.rt:360:16
+-- src/lib.rt:373:16
 entry-add-requires : (t : ℕ) → entry-lts.Need-add-requires (
   basic-value-reads.Asked,
   basic-value-reads.Learnt,
@@ -2142,7 +2142,7 @@ entry-add-requires : (t : ℕ) → entry-lts.Need-add-requires (
 ) (entry-at t) entry.Post
 entry-add-requires t c κs = search needs
 
--- src/lib.rt:361:14
+-- src/lib.rt:374:14
 entry-add-requires-2 : (t : ℕ) → entry-lts.Need-add-requires-2 (
   basic-value-reads.Asked,
   basic-value-reads.Learnt,
@@ -2161,7 +2161,7 @@ entry-add-requires-2 : (t : ℕ) → entry-lts.Need-add-requires-2 (
 ) (entry-at t) entry.Post
 entry-add-requires-2 t c κs = search needs
 
--- src/lib.rt:363:9
+-- src/lib.rt:376:9
 entry-value-requires : (t : ℕ) → entry-lts.Need-value-requires (
   basic-value-reads.Asked,
   basic-value-reads.Learnt,
@@ -2180,7 +2180,7 @@ entry-value-requires : (t : ℕ) → entry-lts.Need-value-requires (
 ) (entry-at t) entry.Post
 entry-value-requires t c κs = (omega (arith, c .before .before .before .before .before .before .before .before .before .before .before .before .before .before .before .before .before .before .before .before .before .before .before .before .before .before .before .pre .0), (c .before .before .before .before .before .before .before .before .before .before .before .before .before .before .before .before .before .before .before .before .before .before .before .before .before .before .before .pre .1 .0 .child, c .before .before .before .before .before .before .before .before .before .before .before .before .before .before .before .before .before .before .before .before .before .before .before .before .before .before .before .pre .1 .2, record { within = (bounds (c .before .before .before .before .before .before .before .before .before .before .before .before .before .before .before .if1 .left) (c .before .before .before .before .before .before .before .before .before .before .before .before .before .before .before .before .before .before .basic-value .ensures noneOpen 0 [])) .within; near = omega (arith, c .before .before .before .add .ensures); few = omega (arith, c .before .before .add2 .ensures) }))
 
--- src/lib.rt:376:9
+-- src/lib.rt:389:9
 entry-same-length-2 : (t : ℕ) → entry-lts.Need-same-length-2 (
   basic-value-reads.Asked,
   basic-value-reads.Learnt,
@@ -2199,7 +2199,7 @@ entry-same-length-2 : (t : ℕ) → entry-lts.Need-same-length-2 (
 ) (entry-at t) entry.Post
 entry-same-length-2 t c = search needs
 
--- src/lib.rt:376:9
+-- src/lib.rt:389:9
 entry-same-length-3 : (t : ℕ) → entry-lts.Need-same-length-3 (
   basic-value-reads.Asked,
   basic-value-reads.Learnt,
@@ -2218,7 +2218,7 @@ entry-same-length-3 : (t : ℕ) → entry-lts.Need-same-length-3 (
 ) (entry-at t) entry.Post
 entry-same-length-3 t c = search needs
 
--- src/lib.rt:376:9
+-- src/lib.rt:389:9
 entry-returns-2 : (t : ℕ) → entry-lts.Need-returns-2 (
   basic-value-reads.Asked,
   basic-value-reads.Learnt,
@@ -2237,7 +2237,7 @@ entry-returns-2 : (t : ℕ) → entry-lts.Need-returns-2 (
 ) (entry-at t) entry.Post
 entry-returns-2 t c = item-value-stop _ _ _ _ _ _ _ _ _ _ _ _ _ _ _ _ _ _ _ _ _ (c .before .before .before .before .before .before .before .before .before .before .before .before .before .before .before .before .before .before .before .before .before .before .before .before .before .before .before .before .before .before .before .before .before .pre .1 .1) (c .before .before .before .before .before .before .before .before .before .before .before .before .before .before .before .before .before .before .before .before .before .before .before .before .basic-value .ensures _ 0 []) (c .before .before .before .before .before .before .before .before .before .before .before .before .before .before .before .before .before .before .before .before .before .if1 .left) _ _ _ _ (c .before .before .before .before .before .value .ensures) (c .if2 .taken)
 
--- src/lib.rt:378:31
+-- src/lib.rt:391:31
 entry-add-add-2 : (t : ℕ) → entry-lts.Need-add-add-2 (
   basic-value-reads.Asked,
   basic-value-reads.Learnt,
@@ -2256,7 +2256,7 @@ entry-add-add-2 : (t : ℕ) → entry-lts.Need-add-add-2 (
 ) (entry-at t) entry.Post
 entry-add-add-2 t c = omega (arith, (bounds (c .before .before .before .before .before .before .before .before .before .before .before .before .before .before .before .before .before .before .before .before .before .if1 .left) (c .before .before .before .before .before .before .before .before .before .before .before .before .before .before .before .before .before .before .before .before .before .before .before .before .basic-value .ensures noneOpen 0 [])) .small, c .before .before .before .before .before .before .before .before .before .before .before .before .pad .ensures .0 .1)
 
--- src/lib.rt:378:27
+-- src/lib.rt:391:27
 entry-add-requires-3 : (t : ℕ) → entry-lts.Need-add-requires-3 (
   basic-value-reads.Asked,
   basic-value-reads.Learnt,
@@ -2275,7 +2275,7 @@ entry-add-requires-3 : (t : ℕ) → entry-lts.Need-add-requires-3 (
 ) (entry-at t) entry.Post
 entry-add-requires-3 t c κs = search needs
 
--- src/lib.rt:378:9
+-- src/lib.rt:391:9
 entry-ran-requires : (t : ℕ) → entry-lts.Need-ran-requires (
   basic-value-reads.Asked,
   basic-value-reads.Learnt,
@@ -2294,7 +2294,7 @@ entry-ran-requires : (t : ℕ) → entry-lts.Need-ran-requires (
 ) (entry-at t) entry.Post
 entry-ran-requires t c κs = search needs
 
--- src/lib.rt:379:5
+-- src/lib.rt:392:5
 entry-structure-end-requires : (t : ℕ) → entry-lts.Need-structure-end-requires (
   basic-value-reads.Asked,
   basic-value-reads.Learnt,
@@ -2313,7 +2313,7 @@ entry-structure-end-requires : (t : ℕ) → entry-lts.Need-structure-end-requir
 ) (entry-at t) entry.Post
 entry-structure-end-requires t c κs = (c .before .before .before .before .before .before .before .before .before .before .before .before .before .before .before .before .before .before .before .before .before .before .before .before .before .before .before .before .before .before .before .before .before .before .before .before .before .pre .1 .3 .near, c .before .before .before .before .before .before .before .before .before .before .before .before .before .before .before .before .before .before .before .before .before .before .before .before .before .before .before .before .before .before .before .before .before .before .before .before .before .pre .1 .3 .few, c .before .before .before .before .before .before .before .before .before .before .before .before .before .before .before .before .before .before .before .before .before .before .before .before .before .before .before .before .before .before .before .before .before .before .before .before .before .pre .1 .0 .aligned, λ z. rw (c .before .before .ran .ensures) (omega (arith, c .before .before .before .add3 .ensures)), λ z. rw (c .before .before .ran .ensures) (kept-few _ _ _ _ _ _ _ _ (c .before .before .before .before .before .before .before .before .before .before .before .before .before .before .before .before .before .before .before .before .before .before .keep .ensures)))
 
--- src/lib.rt:332:1
+-- src/lib.rt:345:1
 entry-same-length-4 : (t : ℕ) → entry-lts.Need-same-length-4 (
   basic-value-reads.Asked,
   basic-value-reads.Learnt,
@@ -2332,7 +2332,7 @@ entry-same-length-4 : (t : ℕ) → entry-lts.Need-same-length-4 (
 ) (entry-at t) entry.Post
 entry-same-length-4 t c = omega (arith, c .before .before .structure-end .kept, c .before .before .before .before .before .before .before .before .before .before .before .before .value .kept, c .before .before .before .before .before .before .before .before .before .before .before .before .before .before .before .before .before .before .before .pad .kept, c .before .before .before .before .before .before .before .before .before .before .before .before .before .before .before .before .before .before .before .before .before .before .before .before .before .keep .kept, c .before .before .before .before .before .before .before .before .before .before .before .before .before .before .before .before .before .before .before .before .before .before .before .before .before .before .before .before .before .before .before .basic-value .kept)
 
--- src/lib.rt:332:1
+-- src/lib.rt:345:1
 entry-same-length-5 : (t : ℕ) → entry-lts.Need-same-length-5 (
   basic-value-reads.Asked,
   basic-value-reads.Learnt,
@@ -2351,7 +2351,7 @@ entry-same-length-5 : (t : ℕ) → entry-lts.Need-same-length-5 (
 ) (entry-at t) entry.Post
 entry-same-length-5 t c = omega (arith, c .before .before .before .before .before .before .before .before .before .before .before .before .value .kept, c .before .before .before .before .before .before .before .before .before .before .before .before .before .before .before .before .before .before .before .before .before .before .before .before .before .keep .kept)
 
--- src/lib.rt:332:1
+-- src/lib.rt:345:1
 entry-returns-3 : (t : ℕ) → entry-lts.Need-returns-3 (
   basic-value-reads.Asked,
   basic-value-reads.Learnt,
@@ -2376,7 +2376,7 @@ fields-Inv-loop text shapes at events texts context out₀ ends₀ base top i₀
 abbrev fields-μ-loop : fields-lts.MeasureT-loop
 fields-μ-loop text shapes at events texts context out₀ ends₀ base top i₀ e₀ k₀ j₀ out ends i e k j = length text - i
 
--- src/lib.rt:461:5
+-- src/lib.rt:474:5
 fields-loop-holds : (t : ℕ) → fields-lts.Need-loop-holds (
   shape-in-reads.Asked,
   shape-in-reads.Learnt,
@@ -2397,7 +2397,7 @@ fields-loop-holds : (t : ℕ) → fields-lts.Need-loop-holds (
 ) (fields-at t) fields.Post fields-Inv-loop fields-μ-loop
 fields-loop-holds t c = fields-begin _ _ _ (few-variants (c .before .before .before .before .before .before .pre .1 .2)) _ _ _ _ _ _ _ _ _ (c .before .before .before .before .before .before .pre .1 .0) (c .before .before .before .before .before .before .pre .1 .3 .within)
 
--- src/lib.rt:462:13
+-- src/lib.rt:475:13
 fields-shape-in-requires : (t : ℕ) → fields-lts.Need-shape-in-requires (
   shape-in-reads.Asked,
   shape-in-reads.Learnt,
@@ -2418,7 +2418,7 @@ fields-shape-in-requires : (t : ℕ) → fields-lts.Need-shape-in-requires (
 ) (fields-at t) fields.Post fields-Inv-loop fields-μ-loop
 fields-shape-in-requires t c κs = search needs
 
--- src/lib.rt:463:13
+-- src/lib.rt:476:13
 fields-letter-at-requires : (t : ℕ) → fields-lts.Need-letter-at-requires (
   shape-in-reads.Asked,
   shape-in-reads.Learnt,
@@ -2439,7 +2439,7 @@ fields-letter-at-requires : (t : ℕ) → fields-lts.Need-letter-at-requires (
 ) (fields-at t) fields.Post fields-Inv-loop fields-μ-loop
 fields-letter-at-requires t c κs = search needs
 
--- src/lib.rt:464:26
+-- src/lib.rt:477:26
 fields-add-pad : (t : ℕ) → fields-lts.Need-add-pad (
   shape-in-reads.Asked,
   shape-in-reads.Learnt,
@@ -2460,7 +2460,7 @@ fields-add-pad : (t : ℕ) → fields-lts.Need-add-pad (
 ) (fields-at t) fields.Post fields-Inv-loop fields-μ-loop
 fields-add-pad t c = omega (arith, c .before .before .before .loop .inv .small, c .before .before .before .before .before .before .before .before .before .before .pre .1 .3 .near)
 
--- src/lib.rt:464:13
+-- src/lib.rt:477:13
 fields-pad-requires : (t : ℕ) → fields-lts.Need-pad-requires (
   shape-in-reads.Asked,
   shape-in-reads.Learnt,
@@ -2481,7 +2481,7 @@ fields-pad-requires : (t : ℕ) → fields-lts.Need-pad-requires (
 ) (fields-at t) fields.Post fields-Inv-loop fields-μ-loop
 fields-pad-requires t c κs = (omega (arith, c .before .before .before .loop .inv .small, c .before .before .before .before .before .before .before .before .before .before .pre .1 .3 .near), described-aligned ((field-here _ _ _ (c .before .before .before .loop .inv .rowed) (c .before .before .before .before .before .before .before .before .before .before .pre .1 .1) _ (c .before .before .shape-in .ensures) _ (c .before .letter-at .ensures)) .shape))
 
--- src/lib.rt:467:30
+-- src/lib.rt:480:30
 fields-add-add : (t : ℕ) → fields-lts.Need-add-add (
   shape-in-reads.Asked,
   shape-in-reads.Learnt,
@@ -2502,7 +2502,7 @@ fields-add-add : (t : ℕ) → fields-lts.Need-add-add (
 ) (fields-at t) fields.Post fields-Inv-loop fields-μ-loop
 fields-add-add t c = omega (arith, c .before .before .before .before .before .before .loop .inv .small, c .before .before .pad .ensures .0 .1)
 
--- src/lib.rt:467:20
+-- src/lib.rt:480:20
 fields-add-requires : (t : ℕ) → fields-lts.Need-add-requires (
   shape-in-reads.Asked,
   shape-in-reads.Learnt,
@@ -2523,7 +2523,7 @@ fields-add-requires : (t : ℕ) → fields-lts.Need-add-requires (
 ) (fields-at t) fields.Post fields-Inv-loop fields-μ-loop
 fields-add-requires t c κs = search needs
 
--- src/lib.rt:468:18
+-- src/lib.rt:481:18
 fields-add-requires-2 : (t : ℕ) → fields-lts.Need-add-requires-2 (
   shape-in-reads.Asked,
   shape-in-reads.Learnt,
@@ -2544,7 +2544,7 @@ fields-add-requires-2 : (t : ℕ) → fields-lts.Need-add-requires-2 (
 ) (fields-at t) fields.Post fields-Inv-loop fields-μ-loop
 fields-add-requires-2 t c κs = search needs
 
--- src/lib.rt:470:13
+-- src/lib.rt:483:13
 fields-value-requires : (t : ℕ) → fields-lts.Need-value-requires (
   shape-in-reads.Asked,
   shape-in-reads.Learnt,
@@ -2565,7 +2565,7 @@ fields-value-requires : (t : ℕ) → fields-lts.Need-value-requires (
 ) (fields-at t) fields.Post fields-Inv-loop fields-μ-loop
 fields-value-requires t c κs = (omega (arith, c .before .before .before .before .before .before .before .before .before .before .before .before .before .before .before .before .before .pre .0), ((field-here _ _ _ (c .before .before .before .before .before .before .before .before .before .before .loop .inv .rowed) (c .before .before .before .before .before .before .before .before .before .before .before .before .before .before .before .before .before .pre .1 .1) _ (c .before .before .before .before .before .before .before .before .before .shape-in .ensures) _ (c .before .before .before .before .before .before .before .before .letter-at .ensures)) .shape, c .before .before .before .before .before .before .before .before .before .before .before .before .before .before .before .before .before .pre .1 .2, record { within = c .before .before .before .before .before .before .before .before .before .before .loop .inv .within; near = omega (arith, c .before .before .before .add .ensures); few = omega (arith, c .before .before .add2 .ensures) }))
 
--- src/lib.rt:483:13
+-- src/lib.rt:496:13
 fields-stopped-requires : (t : ℕ) → fields-lts.Need-stopped-requires (
   shape-in-reads.Asked,
   shape-in-reads.Learnt,
@@ -2586,7 +2586,7 @@ fields-stopped-requires : (t : ℕ) → fields-lts.Need-stopped-requires (
 ) (fields-at t) fields.Post fields-Inv-loop fields-μ-loop
 fields-stopped-requires t c κs = search needs
 
--- src/lib.rt:483:13
+-- src/lib.rt:496:13
 fields-same-length : (t : ℕ) → fields-lts.Need-same-length (
   shape-in-reads.Asked,
   shape-in-reads.Learnt,
@@ -2607,7 +2607,7 @@ fields-same-length : (t : ℕ) → fields-lts.Need-same-length (
 ) (fields-at t) fields.Post fields-Inv-loop fields-μ-loop
 fields-same-length t c = search needs
 
--- src/lib.rt:483:13
+-- src/lib.rt:496:13
 fields-same-length-2 : (t : ℕ) → fields-lts.Need-same-length-2 (
   shape-in-reads.Asked,
   shape-in-reads.Learnt,
@@ -2628,7 +2628,7 @@ fields-same-length-2 : (t : ℕ) → fields-lts.Need-same-length-2 (
 ) (fields-at t) fields.Post fields-Inv-loop fields-μ-loop
 fields-same-length-2 t c = search needs
 
--- src/lib.rt:483:13
+-- src/lib.rt:496:13
 fields-returns : (t : ℕ) → fields-lts.Need-returns (
   shape-in-reads.Asked,
   shape-in-reads.Learnt,
@@ -2649,7 +2649,7 @@ fields-returns : (t : ℕ) → fields-lts.Need-returns (
 ) (fields-at t) fields.Post fields-Inv-loop fields-μ-loop
 fields-returns t c = rw (c .stopped .ensures) (fields-stop _ _ _ (few-variants (c .before .before .before .before .before .before .before .before .before .before .before .before .before .before .before .before .before .before .before .before .before .before .before .before .pre .1 .2)) _ _ _ _ _ _ _ _ _ _ _ _ _ _ _ _ (c .before .before .before .before .before .before .before .before .before .before .before .before .before .before .before .before .before .loop .inv) _ _ _ _ _ _ _ (c .before .before .before .before .before .before .value .ensures) _ (last-field-of _ _ _ (c .before .before .before .before .before .before .before .before .before .before .before .before .before .before .before .before .before .loop .inv .rowed) (c .before .before .before .before .before .before .before .before .before .before .before .before .before .before .before .before .before .before .before .before .before .before .before .before .pre .1 .1) _ (c .before .before .before .before .before .before .before .before .before .before .before .before .before .before .before .before .shape-in .ensures) _ (c .before .before .before .before .before .before .before .before .before .before .before .before .before .before .before .letter-at .ensures)) (next-field-of _ _ _ (c .before .before .before .before .before .before .before .before .before .before .before .before .before .before .before .before .before .loop .inv .rowed) (c .before .before .before .before .before .before .before .before .before .before .before .before .before .before .before .before .before .before .before .before .before .before .before .before .pre .1 .1) _ (c .before .before .before .before .before .before .before .before .before .before .before .before .before .before .before .before .shape-in .ensures) _ (c .before .before .before .before .before .before .before .before .before .before .before .before .before .before .before .letter-at .ensures)) (c .before .if1 .taken))
 
--- src/lib.rt:485:17
+-- src/lib.rt:498:17
 fields-add-add-2 : (t : ℕ) → fields-lts.Need-add-add-2 (
   shape-in-reads.Asked,
   shape-in-reads.Learnt,
@@ -2670,7 +2670,7 @@ fields-add-add-2 : (t : ℕ) → fields-lts.Need-add-add-2 (
 ) (fields-at t) fields.Post fields-Inv-loop fields-μ-loop
 fields-add-add-2 t c = omega (arith, c .before .before .before .before .before .before .before .before .before .before .before .before .before .before .before .before .loop .inv .small, c .before .before .before .before .before .before .before .before .before .before .before .before .pad .ensures .0 .1)
 
--- src/lib.rt:485:9
+-- src/lib.rt:498:9
 fields-add-requires-3 : (t : ℕ) → fields-lts.Need-add-requires-3 (
   shape-in-reads.Asked,
   shape-in-reads.Learnt,
@@ -2691,7 +2691,7 @@ fields-add-requires-3 : (t : ℕ) → fields-lts.Need-add-requires-3 (
 ) (fields-at t) fields.Post fields-Inv-loop fields-μ-loop
 fields-add-requires-3 t c κs = search needs
 
--- src/lib.rt:488:13
+-- src/lib.rt:501:13
 fields-enum-told : (t : ℕ) → fields-lts.Need-enum-told (
   shape-in-reads.Asked,
   shape-in-reads.Learnt,
@@ -2712,7 +2712,7 @@ fields-enum-told : (t : ℕ) → fields-lts.Need-enum-told (
 ) (fields-at t) fields.Post fields-Inv-loop fields-μ-loop
 fields-enum-told t c = search needs
 
--- src/lib.rt:488:13
+-- src/lib.rt:501:13
 fields-ran-requires : (t : ℕ) → fields-lts.Need-ran-requires (
   shape-in-reads.Asked,
   shape-in-reads.Learnt,
@@ -2733,7 +2733,7 @@ fields-ran-requires : (t : ℕ) → fields-lts.Need-ran-requires (
 ) (fields-at t) fields.Post fields-Inv-loop fields-μ-loop
 fields-ran-requires t c κs = search needs
 
--- src/lib.rt:488:13
+-- src/lib.rt:501:13
 fields-same-length-3 : (t : ℕ) → fields-lts.Need-same-length-3 (
   shape-in-reads.Asked,
   shape-in-reads.Learnt,
@@ -2754,7 +2754,7 @@ fields-same-length-3 : (t : ℕ) → fields-lts.Need-same-length-3 (
 ) (fields-at t) fields.Post fields-Inv-loop fields-μ-loop
 fields-same-length-3 t c = omega (arith, c .before .before .before .before .before .before .before .before .before .before .before .before .before .before .before .before .before .before .before .before .loop .inv .same, c .before .before .before .before .before .before .before .before .before .value .kept, c .before .before .before .before .before .before .before .before .before .before .before .before .before .before .before .before .pad .kept)
 
--- src/lib.rt:488:13
+-- src/lib.rt:501:13
 fields-same-length-4 : (t : ℕ) → fields-lts.Need-same-length-4 (
   shape-in-reads.Asked,
   shape-in-reads.Learnt,
@@ -2775,7 +2775,7 @@ fields-same-length-4 : (t : ℕ) → fields-lts.Need-same-length-4 (
 ) (fields-at t) fields.Post fields-Inv-loop fields-μ-loop
 fields-same-length-4 t c = omega (arith, c .before .before .before .before .before .before .before .before .before .before .before .before .before .before .before .before .before .before .before .before .loop .inv .sames, c .before .before .before .before .before .before .before .before .before .value .kept)
 
--- src/lib.rt:488:13
+-- src/lib.rt:501:13
 fields-returns-2 : (t : ℕ) → fields-lts.Need-returns-2 (
   shape-in-reads.Asked,
   shape-in-reads.Learnt,
@@ -2796,7 +2796,7 @@ fields-returns-2 : (t : ℕ) → fields-lts.Need-returns-2 (
 ) (fields-at t) fields.Post fields-Inv-loop fields-μ-loop
 fields-returns-2 t c = rw (c .ran .ensures) (fields-last _ _ _ (few-variants (c .before .before .before .before .before .before .before .before .before .before .before .before .before .before .before .before .before .before .before .before .before .before .before .before .before .before .before .pre .1 .2)) _ _ _ _ _ _ _ _ _ _ _ _ _ _ _ _ (c .before .before .before .before .before .before .before .before .before .before .before .before .before .before .before .before .before .before .before .before .loop .inv) _ _ _ _ _ _ _ (c .before .before .before .before .before .before .before .before .before .value .ensures) _ _ (c .before .before .before .before .if1 .left) (described-alignment ((field-here _ _ _ (c .before .before .before .before .before .before .before .before .before .before .before .before .before .before .before .before .before .before .before .before .loop .inv .rowed) (c .before .before .before .before .before .before .before .before .before .before .before .before .before .before .before .before .before .before .before .before .before .before .before .before .before .before .before .pre .1 .1) _ (c .before .before .before .before .before .before .before .before .before .before .before .before .before .before .before .before .before .before .before .shape-in .ensures) _ (c .before .before .before .before .before .before .before .before .before .before .before .before .before .before .before .before .before .before .letter-at .ensures)) .shape)) (c .before .before .before .before .before .before .before .before .before .before .before .before .before .before .before .before .pad .ensures .0 .0) (c .before .before .before .before .before .before .before .before .before .before .before .before .before .before .before .before .pad .ensures .1) (c .before .before .before .before .before .before .before .before .before .before .before .before .before .add .ensures) (c .before .before .before .before .before .before .before .before .before .before .before .before .add2 .ensures) (c .before .before .before .add3 .ensures) (omega (arith, c .before .before .before .before .before .before .before .before .before .before .before .before .before .before .before .before .before .before .before .before .loop .inv .same)) (omega (arith, c .before .before .before .before .before .before .before .before .before .before .before .before .before .before .before .before .before .before .before .before .loop .inv .sames)) (last-field-of _ _ _ (c .before .before .before .before .before .before .before .before .before .before .before .before .before .before .before .before .before .before .before .before .loop .inv .rowed) (c .before .before .before .before .before .before .before .before .before .before .before .before .before .before .before .before .before .before .before .before .before .before .before .before .before .before .before .pre .1 .1) _ (c .before .before .before .before .before .before .before .before .before .before .before .before .before .before .before .before .before .before .before .shape-in .ensures) _ (c .before .before .before .before .before .before .before .before .before .before .before .before .before .before .before .before .before .before .letter-at .ensures) (c .before .enum-told .given .1)))
 
--- src/lib.rt:490:9
+-- src/lib.rt:503:9
 fields-keep-requires : (t : ℕ) → fields-lts.Need-keep-requires (
   shape-in-reads.Asked,
   shape-in-reads.Learnt,
@@ -2817,7 +2817,7 @@ fields-keep-requires : (t : ℕ) → fields-lts.Need-keep-requires (
 ) (fields-at t) fields.Post fields-Inv-loop fields-μ-loop
 fields-keep-requires t c κs = omega (arith, c .before .before .before .before .before .before .before .before .before .before .before .before .before .before .before .before .before .before .before .before .loop .inv .few, c .before .before .before .before .before .before .before .before .before .before .before .before .before .before .before .before .before .before .before .before .before .before .before .before .before .before .before .pre .1 .3 .few)
 
--- src/lib.rt:461:5
+-- src/lib.rt:474:5
 fields-loop-less : (t : ℕ) → fields-lts.Need-loop-less (
   shape-in-reads.Asked,
   shape-in-reads.Learnt,
@@ -2838,7 +2838,7 @@ fields-loop-less : (t : ℕ) → fields-lts.Need-loop-less (
 ) (fields-at t) fields.Post fields-Inv-loop fields-μ-loop
 fields-loop-less t c = let q = (next-field-of _ _ _ (c .before .before .before .before .before .before .before .before .before .before .before .before .before .before .before .before .before .before .before .before .before .before .before .before .before .loop .inv .rowed) (c .before .before .before .before .before .before .before .before .before .before .before .before .before .before .before .before .before .before .before .before .before .before .before .before .before .before .before .before .before .before .before .before .pre .1 .1) _ (c .before .before .before .before .before .before .before .before .before .before .before .before .before .before .before .before .before .before .before .before .before .before .before .before .shape-in .ensures) _ (c .before .before .before .before .before .before .before .before .before .before .before .before .before .before .before .before .before .before .before .before .before .before .before .letter-at .ensures) (apart-from CloseStructure _ (c .before .before .before .before .before .before .before .match .keys2))) in omega (arith, q .onward, q .within)
 
--- src/lib.rt:461:5
+-- src/lib.rt:474:5
 fields-loop-again : (t : ℕ) → fields-lts.Need-loop-again (
   shape-in-reads.Asked,
   shape-in-reads.Learnt,
@@ -2859,7 +2859,7 @@ fields-loop-again : (t : ℕ) → fields-lts.Need-loop-again (
 ) (fields-at t) fields.Post fields-Inv-loop fields-μ-loop
 fields-loop-again t c = fields-next _ _ _ (few-variants (c .before .before .before .before .before .before .before .before .before .before .before .before .before .before .before .before .before .before .before .before .before .before .before .before .before .before .before .before .before .before .before .before .pre .1 .2)) _ _ _ _ _ _ _ _ _ _ _ _ _ _ _ _ (c .before .before .before .before .before .before .before .before .before .before .before .before .before .before .before .before .before .before .before .before .before .before .before .before .before .loop .inv) _ _ _ _ _ _ _ (c .before .before .before .before .before .before .before .before .before .before .before .before .before .before .value .ensures) _ _ (c .before .before .before .before .before .before .before .before .before .if1 .left) (described-alignment ((field-here _ _ _ (c .before .before .before .before .before .before .before .before .before .before .before .before .before .before .before .before .before .before .before .before .before .before .before .before .before .loop .inv .rowed) (c .before .before .before .before .before .before .before .before .before .before .before .before .before .before .before .before .before .before .before .before .before .before .before .before .before .before .before .before .before .before .before .before .pre .1 .1) _ (c .before .before .before .before .before .before .before .before .before .before .before .before .before .before .before .before .before .before .before .before .before .before .before .before .shape-in .ensures) _ (c .before .before .before .before .before .before .before .before .before .before .before .before .before .before .before .before .before .before .before .before .before .before .before .letter-at .ensures)) .shape)) (c .before .before .before .before .before .before .before .before .before .before .before .before .before .before .before .before .before .before .before .before .before .pad .ensures .0 .0) (c .before .before .before .before .before .before .before .before .before .before .before .before .before .before .before .before .before .before .before .before .before .pad .ensures .1) (c .before .before .before .before .before .before .before .before .before .before .before .before .before .before .before .before .before .before .add .ensures) (c .before .before .before .before .before .before .before .before .before .before .before .before .before .before .before .before .before .add2 .ensures) (c .before .before .before .before .before .before .before .before .add3 .ensures) (omega (arith, c .before .before .before .before .before .before .before .before .before .before .before .before .before .before .before .before .before .before .before .before .before .before .before .before .before .loop .inv .same)) (omega (arith, c .before .before .before .before .before .before .before .before .before .before .before .before .before .before .before .before .before .before .before .before .before .before .before .before .before .loop .inv .sames)) _ _ _ (next-field-of _ _ _ (c .before .before .before .before .before .before .before .before .before .before .before .before .before .before .before .before .before .before .before .before .before .before .before .before .before .loop .inv .rowed) (c .before .before .before .before .before .before .before .before .before .before .before .before .before .before .before .before .before .before .before .before .before .before .before .before .before .before .before .before .before .before .before .before .pre .1 .1) _ (c .before .before .before .before .before .before .before .before .before .before .before .before .before .before .before .before .before .before .before .before .before .before .before .before .shape-in .ensures) _ (c .before .before .before .before .before .before .before .before .before .before .before .before .before .before .before .before .before .before .before .before .before .before .before .letter-at .ensures) (apart-from CloseStructure _ (c .before .before .before .before .before .before .before .match .keys2))) (c .before .before .before .before .keep .ensures) (omega (arith, c .before .before .before .before .before .before .before .before .before .before .before .before .before .before .before .before .before .before .before .before .before .before .before .before .before .loop .inv .same)) (omega (arith, c .before .before .before .before .before .before .before .before .before .before .before .before .before .before .before .before .before .before .before .before .before .before .before .before .before .loop .inv .sames))
 
--- src/lib.rt:119:8
+-- src/lib.rt:132:8
 maybe-plain-at-requires : (t : ℕ) → maybe-lts.Need-plain-at-requires (
   plain-at-reads.Asked,
   plain-at-reads.Learnt,
@@ -2878,7 +2878,7 @@ maybe-plain-at-requires : (t : ℕ) → maybe-lts.Need-plain-at-requires (
 ) (maybe-at t) maybe.Post
 maybe-plain-at-requires t c κs = c .before .before .before .before .before .before .pre .1 .3 .within
 
--- src/lib.rt:120:22
+-- src/lib.rt:133:22
 maybe-add-wrote : (t : ℕ) → maybe-lts.Need-add-wrote (
   plain-at-reads.Asked,
   plain-at-reads.Learnt,
@@ -2897,7 +2897,7 @@ maybe-add-wrote : (t : ℕ) → maybe-lts.Need-add-wrote (
 ) (maybe-at t) maybe.Post
 maybe-add-wrote t c = omega (arith, c .before .plain-at .ensures .here (c .if1 .taken) .whole)
 
--- src/lib.rt:120:9
+-- src/lib.rt:133:9
 maybe-wrote-requires : (t : ℕ) → maybe-lts.Need-wrote-requires (
   plain-at-reads.Asked,
   plain-at-reads.Learnt,
@@ -2916,7 +2916,7 @@ maybe-wrote-requires : (t : ℕ) → maybe-lts.Need-wrote-requires (
 ) (maybe-at t) maybe.Post
 maybe-wrote-requires t c κs = search needs
 
--- src/lib.rt:120:9
+-- src/lib.rt:133:9
 maybe-returns : (t : ℕ) → maybe-lts.Need-returns (
   plain-at-reads.Asked,
   plain-at-reads.Learnt,
@@ -2935,7 +2935,7 @@ maybe-returns : (t : ℕ) → maybe-lts.Need-returns (
 ) (maybe-at t) maybe.Post
 maybe-returns t c = rw (c .wrote .ensures) (value-nothing _ _ (c .before .before .before .before .before .before .before .before .before .pre .1 .0 .typed) (c .before .before .before .before .before .before .before .before .before .pre .1 .1) _ _ _ _ _ _ _ _ _ (c .before .before .plain-at .ensures .here (c .before .if1 .taken)))
 
--- src/lib.rt:122:9
+-- src/lib.rt:135:9
 maybe-plain-at-requires-2 : (t : ℕ) → maybe-lts.Need-plain-at-requires-2 (
   plain-at-reads.Asked,
   plain-at-reads.Learnt,
@@ -2954,7 +2954,7 @@ maybe-plain-at-requires-2 : (t : ℕ) → maybe-lts.Need-plain-at-requires-2 (
 ) (maybe-at t) maybe.Post
 maybe-plain-at-requires-2 t c κs = c .before .before .before .before .before .before .before .before .pre .1 .3 .within
 
--- src/lib.rt:123:9
+-- src/lib.rt:136:9
 maybe-refused-requires : (t : ℕ) → maybe-lts.Need-refused-requires (
   plain-at-reads.Asked,
   plain-at-reads.Learnt,
@@ -2973,7 +2973,7 @@ maybe-refused-requires : (t : ℕ) → maybe-lts.Need-refused-requires (
 ) (maybe-at t) maybe.Post
 maybe-refused-requires t c κs = search needs
 
--- src/lib.rt:123:9
+-- src/lib.rt:136:9
 maybe-returns-2 : (t : ℕ) → maybe-lts.Need-returns-2 (
   plain-at-reads.Asked,
   plain-at-reads.Learnt,
@@ -2992,7 +2992,7 @@ maybe-returns-2 : (t : ℕ) → maybe-lts.Need-returns-2 (
 ) (maybe-at t) maybe.Post
 maybe-returns-2 t c = rw (c .refused .ensures) (value-neither _ _ (c .before .before .before .before .before .before .before .before .before .before .before .pre .1 .0 .typed) (c .before .before .before .before .before .before .before .before .before .before .before .pre .1 .1) _ _ _ _ _ _ _ _ _ (c .before .before .before .before .plain-at .ensures .not (c .before .before .before .if1 .left)) (c .before .before .plain-at2 .ensures .not (not-true _ (c .before .if2 .taken))))
 
--- src/lib.rt:125:9
+-- src/lib.rt:138:9
 maybe-inc-maybe-requires : (t : ℕ) → maybe-lts.Need-inc-maybe-requires (
   plain-at-reads.Asked,
   plain-at-reads.Learnt,
@@ -3011,7 +3011,7 @@ maybe-inc-maybe-requires : (t : ℕ) → maybe-lts.Need-inc-maybe-requires (
 ) (maybe-at t) maybe.Post
 maybe-inc-maybe-requires t c κs = search needs
 
--- src/lib.rt:128:9
+-- src/lib.rt:141:9
 maybe-refused-requires-2 : (t : ℕ) → maybe-lts.Need-refused-requires-2 (
   plain-at-reads.Asked,
   plain-at-reads.Learnt,
@@ -3030,7 +3030,7 @@ maybe-refused-requires-2 : (t : ℕ) → maybe-lts.Need-refused-requires-2 (
 ) (maybe-at t) maybe.Post
 maybe-refused-requires-2 t c κs = search needs
 
--- src/lib.rt:128:9
+-- src/lib.rt:141:9
 maybe-returns-3 : (t : ℕ) → maybe-lts.Need-returns-3 (
   plain-at-reads.Asked,
   plain-at-reads.Learnt,
@@ -3049,7 +3049,7 @@ maybe-returns-3 : (t : ℕ) → maybe-lts.Need-returns-3 (
 ) (maybe-at t) maybe.Post
 maybe-returns-3 t c = rw (c .refused2 .ensures) (value-maybe-deep _ _ (c .before .before .before .before .before .before .before .before .before .before .before .before .before .pre .1 .0 .typed) (c .before .before .before .before .before .before .before .before .before .before .before .before .before .pre .1 .1) _ _ _ _ _ _ _ _ _ (c .before .before .before .before .plain-at2 .ensures .here (not-false _ (c .before .before .before .if2 .left))) _ (c .before .before .inc-maybe .ensures) (c .before .if3 .taken))
 
--- src/lib.rt:135:39
+-- src/lib.rt:148:39
 maybe-add-shape-in : (t : ℕ) → maybe-lts.Need-add-shape-in (
   plain-at-reads.Asked,
   plain-at-reads.Learnt,
@@ -3068,7 +3068,7 @@ maybe-add-shape-in : (t : ℕ) → maybe-lts.Need-add-shape-in (
 ) (maybe-at t) maybe.Post
 maybe-add-shape-in t c = omega (arith, cut (c .before .before .before .before .before .before .before .before .before .before .before .before .before .before .args .text .now) (c .before .before .before .before .before .before .before .before .before .before .before .before .before .before .args .shape .at) Maybe 109 (c .before .before .before .before .before .before .before .before .before .before .before .before .before .before .pre .1 .1) refl .within, c .before .before .before .before .before .before .before .before .before .before .before .before .before .before .pre .1 .0 .typed .short)
 
--- src/lib.rt:135:9
+-- src/lib.rt:148:9
 maybe-shape-in-requires : (t : ℕ) → maybe-lts.Need-shape-in-requires (
   plain-at-reads.Asked,
   plain-at-reads.Learnt,
@@ -3087,7 +3087,7 @@ maybe-shape-in-requires : (t : ℕ) → maybe-lts.Need-shape-in-requires (
 ) (maybe-at t) maybe.Post
 maybe-shape-in-requires t c κs = search needs
 
--- src/lib.rt:137:15
+-- src/lib.rt:150:15
 maybe-add-t23 : (t : ℕ) → maybe-lts.Need-add-t23 (
   plain-at-reads.Asked,
   plain-at-reads.Learnt,
@@ -3106,7 +3106,7 @@ maybe-add-t23 : (t : ℕ) → maybe-lts.Need-add-t23 (
 ) (maybe-at t) maybe.Post
 maybe-add-t23 t c = omega (arith, c .before .before .before .before .before .before .plain-at2 .ensures .here (not-false _ (c .before .before .before .before .before .if2 .left)) .whole, c .before .before .before .before .before .before)
 
--- src/lib.rt:141:9
+-- src/lib.rt:154:9
 maybe-value-requires : (t : ℕ) → maybe-lts.Need-value-requires (
   plain-at-reads.Asked,
   plain-at-reads.Learnt,
@@ -3125,7 +3125,7 @@ maybe-value-requires : (t : ℕ) → maybe-lts.Need-value-requires (
 ) (maybe-at t) maybe.Post
 maybe-value-requires t c κs = (omega (arith, level-falls Depth.maybe (c .before .before .before .before .before .before .before .before .before .before .before .before .before .before .before .before .before .args .context .depths) (c .before .before .before .before .before .before .inc-maybe .result) (c .before .before .before .before .before .before .inc-maybe .ensures) (c .before .before .before .before .before .if3 .left), c .before .before .before .before .before .before .before .before .before .before .before .before .before .before .before .before .before .pre .0), ((described-as (c .before .before .shape-in .ensures) (maybe-described _ _ (c .before .before .before .before .before .before .before .before .before .before .before .before .before .before .before .before .before .pre .1 .0 .typed) (c .before .before .before .before .before .before .before .before .before .before .before .before .before .before .before .before .before .pre .1 .1) _ (c .before .before .before .before .before .before .before .before .before .before .before .before .before .before .before .before .before .pre .1 .0 .table))), raised-shallow Depth.maybe _ _ (c .before .before .before .before .before .before .inc-maybe .ensures) _ (c .before .before .before .before .before .if3 .left), record { within = c .before .before .before .before .before .before .before .before .plain-at2 .ensures .here (not-false _ (c .before .before .before .before .before .before .before .if2 .left)) .whole; near = c .before .before .before .before .before .before .before .before .before .before .before .before .before .before .before .before .before .pre .1 .3 .near; few = c .before .before .before .before .before .before .before .before .before .before .before .before .before .before .before .before .before .pre .1 .3 .few }))
 
--- src/lib.rt:142:5
+-- src/lib.rt:155:5
 maybe-present-requires : (t : ℕ) → maybe-lts.Need-present-requires (
   plain-at-reads.Asked,
   plain-at-reads.Learnt,
@@ -3144,7 +3144,7 @@ maybe-present-requires : (t : ℕ) → maybe-lts.Need-present-requires (
 ) (maybe-at t) maybe.Post
 maybe-present-requires t c κs = (c .before .before .before .before .before .before .before .before .before .before .before .before .before .before .before .before .before .before .before .before .before .before .before .pre .1 .3 .near, λ z. bounds z (c .before .before .before .before .before .value .ensures) .small)
 
--- src/lib.rt:103:1
+-- src/lib.rt:116:1
 maybe-same-length : (t : ℕ) → maybe-lts.Need-same-length (
   plain-at-reads.Asked,
   plain-at-reads.Learnt,
@@ -3163,7 +3163,7 @@ maybe-same-length : (t : ℕ) → maybe-lts.Need-same-length (
 ) (maybe-at t) maybe.Post
 maybe-same-length t c = search needs
 
--- src/lib.rt:103:1
+-- src/lib.rt:116:1
 maybe-same-length-2 : (t : ℕ) → maybe-lts.Need-same-length-2 (
   plain-at-reads.Asked,
   plain-at-reads.Learnt,
@@ -3182,7 +3182,7 @@ maybe-same-length-2 : (t : ℕ) → maybe-lts.Need-same-length-2 (
 ) (maybe-at t) maybe.Post
 maybe-same-length-2 t c = search needs
 
--- src/lib.rt:103:1
+-- src/lib.rt:116:1
 maybe-returns-4 : (t : ℕ) → maybe-lts.Need-returns-4 (
   plain-at-reads.Asked,
   plain-at-reads.Learnt,
@@ -3201,7 +3201,7 @@ maybe-returns-4 : (t : ℕ) → maybe-lts.Need-returns-4 (
 ) (maybe-at t) maybe.Post
 maybe-returns-4 t c = value-present _ _ (c .before .before .before .before .before .before .before .before .before .before .before .before .before .before .before .before .before .before .before .before .before .before .before .before .before .before .pre .1 .0 .typed) (c .before .before .before .before .before .before .before .before .before .before .before .before .before .before .before .before .before .before .before .before .before .before .before .before .before .before .pre .1 .1) _ _ _ _ _ _ _ _ _ (c .before .before .before .before .before .before .before .before .before .before .before .before .before .before .before .before .before .plain-at2 .ensures .here (not-false _ (c .before .before .before .before .before .before .before .before .before .before .before .before .before .before .before .before .if2 .left))) _ (c .before .before .before .before .before .before .before .before .before .before .before .before .before .before .before .inc-maybe .ensures) (c .before .before .before .before .before .before .before .before .before .before .before .shape-in .result) _ _ _ (c .before .before .before .before .before .before .before .before .before .before .before .before .before .before .if3 .left) (ap (λ (s : Shape). s .at) (c .before .before .before .before .before .before .before .before .before .before .before .shape-in .ensures)) (described-fixed (described-as (c .before .before .before .before .before .before .before .before .before .before .before .shape-in .ensures) (maybe-described _ _ (c .before .before .before .before .before .before .before .before .before .before .before .before .before .before .before .before .before .before .before .before .before .before .before .before .before .before .pre .1 .0 .typed) (c .before .before .before .before .before .before .before .before .before .before .before .before .before .before .before .before .before .before .before .before .before .before .before .before .before .before .pre .1 .1) _ (c .before .before .before .before .before .before .before .before .before .before .before .before .before .before .before .before .before .before .before .before .before .before .before .before .before .before .pre .1 .0 .table)))) (c .before .before .present .ensures _ _ _ _ _ _ _ _ (omega arith) (c .before .before .before .before .before .before .before .before .value .ensures))
 
--- src/lib.rt:399:9
+-- src/lib.rt:412:9
 structure-plain-at-requires : (t : ℕ) → structure-lts.Need-plain-at-requires (
   plain-at-reads.Asked,
   plain-at-reads.Learnt,
@@ -3218,7 +3218,7 @@ structure-plain-at-requires : (t : ℕ) → structure-lts.Need-plain-at-requires
 ) (structure-at t) structure.Post
 structure-plain-at-requires t c κs = c .before .before .before .before .before .before .pre .1 .3 .within
 
--- src/lib.rt:400:9
+-- src/lib.rt:413:9
 structure-refused-requires : (t : ℕ) → structure-lts.Need-refused-requires (
   plain-at-reads.Asked,
   plain-at-reads.Learnt,
@@ -3235,7 +3235,7 @@ structure-refused-requires : (t : ℕ) → structure-lts.Need-refused-requires (
 ) (structure-at t) structure.Post
 structure-refused-requires t c κs = search needs
 
--- src/lib.rt:400:9
+-- src/lib.rt:413:9
 structure-returns : (t : ℕ) → structure-lts.Need-returns (
   plain-at-reads.Asked,
   plain-at-reads.Learnt,
@@ -3252,7 +3252,7 @@ structure-returns : (t : ℕ) → structure-lts.Need-returns (
 ) (structure-at t) structure.Post
 structure-returns t c = rw (c .refused .ensures) (value-structure-not (c .before .before .before .before .before .before .before .before .before .pre .1 .0) (c .before .before .before .before .before .before .before .before .before .pre .1 .1) _ _ _ (few-variants (c .before .before .before .before .before .before .before .before .before .pre .1 .2)) _ _ _ _ _ _ (c .before .before .plain-at .ensures .not (not-true _ (c .before .if1 .taken))))
 
--- src/lib.rt:402:9
+-- src/lib.rt:415:9
 structure-inc-structure-requires : (t : ℕ) → structure-lts.Need-inc-structure-requires (
   plain-at-reads.Asked,
   plain-at-reads.Learnt,
@@ -3269,7 +3269,7 @@ structure-inc-structure-requires : (t : ℕ) → structure-lts.Need-inc-structur
 ) (structure-at t) structure.Post
 structure-inc-structure-requires t c κs = search needs
 
--- src/lib.rt:405:9
+-- src/lib.rt:418:9
 structure-refused-requires-2 : (t : ℕ) → structure-lts.Need-refused-requires-2 (
   plain-at-reads.Asked,
   plain-at-reads.Learnt,
@@ -3286,7 +3286,7 @@ structure-refused-requires-2 : (t : ℕ) → structure-lts.Need-refused-requires
 ) (structure-at t) structure.Post
 structure-refused-requires-2 t c κs = search needs
 
--- src/lib.rt:405:9
+-- src/lib.rt:418:9
 structure-returns-2 : (t : ℕ) → structure-lts.Need-returns-2 (
   plain-at-reads.Asked,
   plain-at-reads.Learnt,
@@ -3303,7 +3303,7 @@ structure-returns-2 : (t : ℕ) → structure-lts.Need-returns-2 (
 ) (structure-at t) structure.Post
 structure-returns-2 t c = rw (c .refused2 .ensures) (value-structure-deep (c .before .before .before .before .before .before .before .before .before .before .before .pre .1 .0) (c .before .before .before .before .before .before .before .before .before .before .before .pre .1 .1) _ _ _ (few-variants (c .before .before .before .before .before .before .before .before .before .before .before .pre .1 .2)) _ _ _ _ _ _ (c .before .before .before .before .plain-at .ensures .here (not-false _ (c .before .before .before .if1 .left))) _ (c .before .before .inc-structure .ensures) (c .before .if2 .taken))
 
--- src/lib.rt:413:15
+-- src/lib.rt:426:15
 structure-add-fields : (t : ℕ) → structure-lts.Need-add-fields (
   plain-at-reads.Asked,
   plain-at-reads.Learnt,
@@ -3320,7 +3320,7 @@ structure-add-fields : (t : ℕ) → structure-lts.Need-add-fields (
 ) (structure-at t) structure.Post
 structure-add-fields t c = omega (arith, c .before .before .before .before .plain-at .ensures .here (not-false _ (c .before .before .before .if1 .left)) .whole)
 
--- src/lib.rt:420:9
+-- src/lib.rt:433:9
 structure-add-fields-2 : (t : ℕ) → structure-lts.Need-add-fields-2 (
   plain-at-reads.Asked,
   plain-at-reads.Learnt,
@@ -3337,7 +3337,7 @@ structure-add-fields-2 : (t : ℕ) → structure-lts.Need-add-fields-2 (
 ) (structure-at t) structure.Post
 structure-add-fields-2 t c = omega (arith, cut (c .before .before .before .before .before .before .before .before .before .before .before .before .args .text .now) (c .before .before .before .before .before .before .before .before .before .before .before .before .args .shape .at) OpenStructure 40 (c .before .before .before .before .before .before .before .before .before .before .before .before .pre .1 .1) refl .within, c .before .before .before .before .before .before .before .before .before .before .before .before .pre .1 .0 .typed .short)
 
--- src/lib.rt:417:9
+-- src/lib.rt:430:9
 structure-fields-requires : (t : ℕ) → structure-lts.Need-fields-requires (
   plain-at-reads.Asked,
   plain-at-reads.Learnt,
@@ -3354,7 +3354,7 @@ structure-fields-requires : (t : ℕ) → structure-lts.Need-fields-requires (
 ) (structure-at t) structure.Post
 structure-fields-requires t c κs = (omega (arith, level-falls Depth.structure (c .before .before .before .before .before .before .before .before .before .before .before .before .before .before .args .context .depths) (c .before .before .before .before .before .inc-structure .result) (c .before .before .before .before .before .inc-structure .ensures) (c .before .before .before .before .if2 .left), c .before .before .before .before .before .before .before .before .before .before .before .before .before .before .pre .0), (structure-rowed (c .before .before .before .before .before .before .before .before .before .before .before .before .before .before .pre .1 .0) (c .before .before .before .before .before .before .before .before .before .before .before .before .before .before .pre .1 .1), c .before .before .before .before .before .before .before .before .before .before .before .before .before .before .pre .1 .0 .table, raised-shallow Depth.structure _ _ (c .before .before .before .before .before .inc-structure .ensures) _ (c .before .before .before .before .if2 .left), record { within = c .before .before .before .before .before .before .before .plain-at .ensures .here (not-false _ (c .before .before .before .before .before .before .if1 .left)) .whole; near = c .before .before .before .before .before .before .before .before .before .before .before .before .before .before .pre .1 .3 .near; few = c .before .before .before .before .before .before .before .before .before .before .before .before .before .before .pre .1 .3 .few }))
 
--- src/lib.rt:428:9
+-- src/lib.rt:441:9
 structure-ended-requires : (t : ℕ) → structure-lts.Need-ended-requires (
   plain-at-reads.Asked,
   plain-at-reads.Learnt,
@@ -3371,7 +3371,7 @@ structure-ended-requires : (t : ℕ) → structure-lts.Need-ended-requires (
 ) (structure-at t) structure.Post
 structure-ended-requires t c κs = λ z. row-bounds z (c .before .before .before .before .fields .ensures) .within
 
--- src/lib.rt:429:5
+-- src/lib.rt:442:5
 structure-structure-end-requires : (t : ℕ) → structure-lts.Need-structure-end-requires (
   plain-at-reads.Asked,
   plain-at-reads.Learnt,
@@ -3388,7 +3388,7 @@ structure-structure-end-requires : (t : ℕ) → structure-lts.Need-structure-en
 ) (structure-at t) structure.Post
 structure-structure-end-requires t c κs = (c .before .before .before .before .before .before .before .before .before .before .before .before .before .before .before .before .before .before .before .before .before .before .pre .1 .3 .near, c .before .before .before .before .before .before .before .before .before .before .before .before .before .before .before .before .before .before .before .before .before .before .pre .1 .3 .few, described-aligned (c .before .before .before .before .before .before .before .before .before .before .before .before .before .before .before .before .before .before .before .before .before .before .pre .1 .0), λ z. row-bounds z (c .before .before .ended .ensures _ _ _ _ _ _ _ _ _ _ _ (c .before .before .before .before .before .before .before .fields .ensures)) .small, λ z. row-bounds z (c .before .before .ended .ensures _ _ _ _ _ _ _ _ _ _ _ (c .before .before .before .before .before .before .before .fields .ensures)) .few)
 
--- src/lib.rt:384:1
+-- src/lib.rt:397:1
 structure-same-length : (t : ℕ) → structure-lts.Need-same-length (
   plain-at-reads.Asked,
   plain-at-reads.Learnt,
@@ -3405,7 +3405,7 @@ structure-same-length : (t : ℕ) → structure-lts.Need-same-length (
 ) (structure-at t) structure.Post
 structure-same-length t c = search needs
 
--- src/lib.rt:384:1
+-- src/lib.rt:397:1
 structure-same-length-2 : (t : ℕ) → structure-lts.Need-same-length-2 (
   plain-at-reads.Asked,
   plain-at-reads.Learnt,
@@ -3422,7 +3422,7 @@ structure-same-length-2 : (t : ℕ) → structure-lts.Need-same-length-2 (
 ) (structure-at t) structure.Post
 structure-same-length-2 t c = search needs
 
--- src/lib.rt:384:1
+-- src/lib.rt:397:1
 structure-returns-3 : (t : ℕ) → structure-lts.Need-returns-3 (
   plain-at-reads.Asked,
   plain-at-reads.Learnt,
@@ -3439,7 +3439,7 @@ structure-returns-3 : (t : ℕ) → structure-lts.Need-returns-3 (
 ) (structure-at t) structure.Post
 structure-returns-3 t c = value-structure (c .before .before .before .before .before .before .before .before .before .before .before .before .before .before .before .before .before .before .before .before .before .before .before .before .before .pre .1 .0) (c .before .before .before .before .before .before .before .before .before .before .before .before .before .before .before .before .before .before .before .before .before .before .before .before .before .pre .1 .1) _ _ _ (few-variants (c .before .before .before .before .before .before .before .before .before .before .before .before .before .before .before .before .before .before .before .before .before .before .before .before .before .pre .1 .2)) _ _ _ _ _ _ (c .before .before .before .before .before .before .before .before .before .before .before .before .before .before .before .before .before .before .plain-at .ensures .here (not-false _ (c .before .before .before .before .before .before .before .before .before .before .before .before .before .before .before .before .before .if1 .left))) _ (c .before .before .before .before .before .before .before .before .before .before .before .before .before .before .before .before .inc-structure .ensures) _ _ _ (c .before .before .before .before .before .before .before .before .before .before .before .before .before .before .before .if2 .left) (c .before .before .structure-end .ensures _ _ _ _ _ _ _ (structure-structured _ _) (λ f. sealed-no-ends _ _ _ (few-variants (raised-shallow Depth.structure _ _ (c .before .before .before .before .before .before .before .before .before .before .before .before .before .before .before .before .inc-structure .ensures) false (c .before .before .before .before .before .before .before .before .before .before .before .before .before .before .before .if2 .left))) _ _ (sym (structure-fixed (c .before .before .before .before .before .before .before .before .before .before .before .before .before .before .before .before .before .before .before .before .before .before .before .before .before .pre .1 .0) (c .before .before .before .before .before .before .before .before .before .before .before .before .before .before .before .before .before .before .before .before .before .before .before .before .before .pre .1 .1)) ∙ f) _) (λ z. omega (arith, row-bounds z (c .before .before .before .before .before .ended .ensures _ _ _ _ _ _ _ _ _ _ _ (c .before .before .before .before .before .before .before .before .before .before .fields .ensures)) .forward)) (omega arith) (omega arith) (c .before .before .before .before .before .ended .ensures _ _ _ _ _ _ _ _ _ _ _ (c .before .before .before .before .before .before .before .before .before .before .fields .ensures)))
 
--- src/lib.rt:72:55
+-- src/lib.rt:73:55
 value-enum-told : (t : ℕ) → value-lts.Need-enum-told (
   boolean-reads.Asked,
   boolean-reads.Learnt,
@@ -3458,7 +3458,7 @@ value-enum-told : (t : ℕ) → value-lts.Need-enum-told (
 ) (value-at t) value.Post
 value-enum-told t c = search needs
 
--- src/lib.rt:72:28
+-- src/lib.rt:73:28
 value-boolean-requires : (t : ℕ) → value-lts.Need-boolean-requires (
   boolean-reads.Asked,
   boolean-reads.Learnt,
@@ -3477,7 +3477,7 @@ value-boolean-requires : (t : ℕ) → value-lts.Need-boolean-requires (
 ) (value-at t) value.Post
 value-boolean-requires t c κs = (c .before .before .before .before .before .before .before .before .before .pre .1 .2 .within, c .before .before .before .before .before .before .before .before .before .pre .1 .2 .near)
 
--- src/lib.rt:73:26
+-- src/lib.rt:74:26
 value-enum-known-kind : (t : ℕ) → value-lts.Need-enum-known-kind (
   boolean-reads.Asked,
   boolean-reads.Learnt,
@@ -3496,7 +3496,7 @@ value-enum-known-kind : (t : ℕ) → value-lts.Need-enum-known-kind (
 ) (value-at t) value.Post
 value-enum-known-kind t c = search needs
 
--- src/lib.rt:73:43
+-- src/lib.rt:74:43
 value-number-requires : (t : ℕ) → value-lts.Need-number-requires (
   boolean-reads.Asked,
   boolean-reads.Learnt,
@@ -3515,7 +3515,7 @@ value-number-requires : (t : ℕ) → value-lts.Need-number-requires (
 ) (value-at t) value.Post
 value-number-requires t c κs = (c .before .before .before .before .before .before .before .before .before .before .pre .1 .2 .within, c .before .before .before .before .before .before .before .before .before .before .pre .1 .2 .near, number-aligned-at _ _ (c .before .before .before .before .before .before .before .before .before .before .pre .1 .0 .typed) _ _ (sym (described-kind (c .before .before .before .before .before .before .before .before .before .before .pre .1 .0)) ∙ c .before .before .kind .given .1))
 
--- src/lib.rt:82:24
+-- src/lib.rt:83:24
 value-enum-known-kind-2 : (t : ℕ) → value-lts.Need-enum-known-kind-2 (
   boolean-reads.Asked,
   boolean-reads.Learnt,
@@ -3534,7 +3534,7 @@ value-enum-known-kind-2 : (t : ℕ) → value-lts.Need-enum-known-kind-2 (
 ) (value-at t) value.Post
 value-enum-known-kind-2 t c = search needs
 
--- src/lib.rt:82:34
+-- src/lib.rt:83:34
 value-text-value-requires : (t : ℕ) → value-lts.Need-text-value-requires (
   boolean-reads.Asked,
   boolean-reads.Learnt,
@@ -3553,7 +3553,7 @@ value-text-value-requires : (t : ℕ) → value-lts.Need-text-value-requires (
 ) (value-at t) value.Post
 value-text-value-requires t c κs = (c .before .before .before .before .before .before .before .before .before .before .pre .1 .2 .within, c .before .before .before .before .before .before .before .before .before .before .pre .1 .2 .near)
 
--- src/lib.rt:83:83
+-- src/lib.rt:84:83
 value-enum-told-2 : (t : ℕ) → value-lts.Need-enum-told-2 (
   boolean-reads.Asked,
   boolean-reads.Learnt,
@@ -3572,7 +3572,7 @@ value-enum-told-2 : (t : ℕ) → value-lts.Need-enum-told-2 (
 ) (value-at t) value.Post
 value-enum-told-2 t c = search needs
 
--- src/lib.rt:83:26
+-- src/lib.rt:84:26
 value-maybe-requires : (t : ℕ) → value-lts.Need-maybe-requires (
   boolean-reads.Asked,
   boolean-reads.Learnt,
@@ -3591,7 +3591,7 @@ value-maybe-requires : (t : ℕ) → value-lts.Need-maybe-requires (
 ) (value-at t) value.Post
 value-maybe-requires t c κs = (omega (arith, c .before .before .before .before .before .before .before .before .before .before .pre .0), (c .before .before .before .before .before .before .before .before .before .before .pre .1 .0, (sym (described-kind (c .before .before .before .before .before .before .before .before .before .before .pre .1 .0)) ∙ c .before .before .enum-told2 .given .1), c .before .before .before .before .before .before .before .before .before .before .pre .1 .1, c .before .before .before .before .before .before .before .before .before .before .pre .1 .2))
 
--- src/lib.rt:84:83
+-- src/lib.rt:85:83
 value-enum-told-3 : (t : ℕ) → value-lts.Need-enum-told-3 (
   boolean-reads.Asked,
   boolean-reads.Learnt,
@@ -3610,7 +3610,7 @@ value-enum-told-3 : (t : ℕ) → value-lts.Need-enum-told-3 (
 ) (value-at t) value.Post
 value-enum-told-3 t c = search needs
 
--- src/lib.rt:84:26
+-- src/lib.rt:85:26
 value-array-requires : (t : ℕ) → value-lts.Need-array-requires (
   boolean-reads.Asked,
   boolean-reads.Learnt,
@@ -3629,7 +3629,7 @@ value-array-requires : (t : ℕ) → value-lts.Need-array-requires (
 ) (value-at t) value.Post
 value-array-requires t c κs = (omega (arith, c .before .before .before .before .before .before .before .before .before .before .pre .0), (c .before .before .before .before .before .before .before .before .before .before .pre .1 .0, (sym (described-kind (c .before .before .before .before .before .before .before .before .before .before .pre .1 .0)) ∙ c .before .before .enum-told3 .given .1), c .before .before .before .before .before .before .before .before .before .before .pre .1 .1, c .before .before .before .before .before .before .before .before .before .before .pre .1 .2))
 
--- src/lib.rt:93:13
+-- src/lib.rt:94:13
 value-enum-told-4 : (t : ℕ) → value-lts.Need-enum-told-4 (
   boolean-reads.Asked,
   boolean-reads.Learnt,
@@ -3648,7 +3648,7 @@ value-enum-told-4 : (t : ℕ) → value-lts.Need-enum-told-4 (
 ) (value-at t) value.Post
 value-enum-told-4 t c = search needs
 
--- src/lib.rt:85:34
+-- src/lib.rt:86:34
 value-structure-requires : (t : ℕ) → value-lts.Need-structure-requires (
   boolean-reads.Asked,
   boolean-reads.Learnt,
@@ -3667,7 +3667,7 @@ value-structure-requires : (t : ℕ) → value-lts.Need-structure-requires (
 ) (value-at t) value.Post
 value-structure-requires t c κs = (omega (arith, c .before .before .before .before .before .before .before .before .before .before .pre .0), (c .before .before .before .before .before .before .before .before .before .before .pre .1 .0, (sym (described-kind (c .before .before .before .before .before .before .before .before .before .before .pre .1 .0)) ∙ c .before .before .enum-told4 .given .1), c .before .before .before .before .before .before .before .before .before .before .pre .1 .1, c .before .before .before .before .before .before .before .before .before .before .pre .1 .2))
 
--- src/lib.rt:96:66
+-- src/lib.rt:97:87
 value-enum-told-5 : (t : ℕ) → value-lts.Need-enum-told-5 (
   boolean-reads.Asked,
   boolean-reads.Learnt,
@@ -3686,7 +3686,83 @@ value-enum-told-5 : (t : ℕ) → value-lts.Need-enum-told-5 (
 ) (value-at t) value.Post
 value-enum-told-5 t c = search needs
 
--- src/lib.rt:96:28
+-- src/lib.rt:97:30
+value-array-requires-2 : (t : ℕ) → value-lts.Need-array-requires-2 (
+  boolean-reads.Asked,
+  boolean-reads.Learnt,
+  number-reads.Asked,
+  number-reads.Learnt,
+  text-value-reads.Asked,
+  text-value-reads.Learnt,
+  maybe-below t,
+  maybe.Post,
+  array-below t,
+  array.Post,
+  structure-below t,
+  structure.Post,
+  variant-below t,
+  variant.Post,
+) (value-at t) value.Post
+value-array-requires-2 t c κs = begins-not _ _ (c .before .before .before .before .before .before .before .before .before .before .pre .1 .0 .typed) _ (sym (described-kind (c .before .before .before .before .before .before .before .before .before .before .pre .1 .0)) ∙ c .before .before .enum-told5 .given .1) refl
+
+-- src/lib.rt:106:13
+value-enum-told-6 : (t : ℕ) → value-lts.Need-enum-told-6 (
+  boolean-reads.Asked,
+  boolean-reads.Learnt,
+  number-reads.Asked,
+  number-reads.Learnt,
+  text-value-reads.Asked,
+  text-value-reads.Learnt,
+  maybe-below t,
+  maybe.Post,
+  array-below t,
+  array.Post,
+  structure-below t,
+  structure.Post,
+  variant-below t,
+  variant.Post,
+) (value-at t) value.Post
+value-enum-told-6 t c = search needs
+
+-- src/lib.rt:98:35
+value-structure-requires-2 : (t : ℕ) → value-lts.Need-structure-requires-2 (
+  boolean-reads.Asked,
+  boolean-reads.Learnt,
+  number-reads.Asked,
+  number-reads.Learnt,
+  text-value-reads.Asked,
+  text-value-reads.Learnt,
+  maybe-below t,
+  maybe.Post,
+  array-below t,
+  array.Post,
+  structure-below t,
+  structure.Post,
+  variant-below t,
+  variant.Post,
+) (value-at t) value.Post
+value-structure-requires-2 t c κs = begins-not _ _ (c .before .before .before .before .before .before .before .before .before .before .pre .1 .0 .typed) _ (sym (described-kind (c .before .before .before .before .before .before .before .before .before .before .pre .1 .0)) ∙ c .before .before .enum-told6 .given .1) refl
+
+-- src/lib.rt:109:66
+value-enum-told-7 : (t : ℕ) → value-lts.Need-enum-told-7 (
+  boolean-reads.Asked,
+  boolean-reads.Learnt,
+  number-reads.Asked,
+  number-reads.Learnt,
+  text-value-reads.Asked,
+  text-value-reads.Learnt,
+  maybe-below t,
+  maybe.Post,
+  array-below t,
+  array.Post,
+  structure-below t,
+  structure.Post,
+  variant-below t,
+  variant.Post,
+) (value-at t) value.Post
+value-enum-told-7 t c = search needs
+
+-- src/lib.rt:109:28
 value-variant-requires : (t : ℕ) → value-lts.Need-variant-requires (
   boolean-reads.Asked,
   boolean-reads.Learnt,
@@ -3705,7 +3781,7 @@ value-variant-requires : (t : ℕ) → value-lts.Need-variant-requires (
 ) (value-at t) value.Post
 value-variant-requires t c κs = (omega (arith, c .before .before .before .before .before .before .before .before .before .before .pre .0), (c .before .before .before .before .before .before .before .before .before .before .pre .1 .1, c .before .before .before .before .before .before .before .before .before .before .pre .1 .2))
 
--- src/lib.rt:97:14
+-- src/lib.rt:110:14
 value-variant-requires-2 : (t : ℕ) → value-lts.Need-variant-requires-2 (
   boolean-reads.Asked,
   boolean-reads.Learnt,
@@ -3724,7 +3800,7 @@ value-variant-requires-2 : (t : ℕ) → value-lts.Need-variant-requires-2 (
 ) (value-at t) value.Post
 value-variant-requires-2 t c κs = (omega (arith, c .before .before .before .before .before .before .before .before .before .pre .0), (c .before .before .before .before .before .before .before .before .before .pre .1 .1, c .before .before .before .before .before .before .before .before .before .pre .1 .2))
 
--- src/lib.rt:56:1
+-- src/lib.rt:57:1
 value-same-length : (t : ℕ) → value-lts.Need-same-length (
   boolean-reads.Asked,
   boolean-reads.Learnt,
@@ -3743,7 +3819,7 @@ value-same-length : (t : ℕ) → value-lts.Need-same-length (
 ) (value-at t) value.Post
 value-same-length t c = search needs
 
--- src/lib.rt:56:1
+-- src/lib.rt:57:1
 value-returns : (t : ℕ) → value-lts.Need-returns (
   boolean-reads.Asked,
   boolean-reads.Learnt,
@@ -3762,7 +3838,7 @@ value-returns : (t : ℕ) → value-lts.Need-returns (
 ) (value-at t) value.Post
 value-returns t c = value-boolean _ _ (c .before .before .before .before .before .before .before .before .before .before .before .before .pre .1 .0 .typed) _ _ _ _ _ _ _ _ _ _ _ (sym (described-kind (c .before .before .before .before .before .before .before .before .before .before .before .before .pre .1 .0)) ∙ c .before .before .before .before .enum-told .given .1) (c .before .before .boolean .ensures)
 
--- src/lib.rt:56:1
+-- src/lib.rt:57:1
 value-same-length-2 : (t : ℕ) → value-lts.Need-same-length-2 (
   boolean-reads.Asked,
   boolean-reads.Learnt,
@@ -3781,7 +3857,7 @@ value-same-length-2 : (t : ℕ) → value-lts.Need-same-length-2 (
 ) (value-at t) value.Post
 value-same-length-2 t c = search needs
 
--- src/lib.rt:56:1
+-- src/lib.rt:57:1
 value-returns-2 : (t : ℕ) → value-lts.Need-returns-2 (
   boolean-reads.Asked,
   boolean-reads.Learnt,
@@ -3800,7 +3876,7 @@ value-returns-2 : (t : ℕ) → value-lts.Need-returns-2 (
 ) (value-at t) value.Post
 value-returns-2 t c = value-number _ _ (c .before .before .before .before .before .before .before .before .before .before .before .before .before .pre .1 .0 .typed) _ _ _ _ _ _ _ _ _ _ _ _ _ (sym (described-kind (c .before .before .before .before .before .before .before .before .before .before .before .before .before .pre .1 .0)) ∙ c .before .before .before .before .before .kind .given .1) (c .before .before .number .ensures)
 
--- src/lib.rt:56:1
+-- src/lib.rt:57:1
 value-same-length-3 : (t : ℕ) → value-lts.Need-same-length-3 (
   boolean-reads.Asked,
   boolean-reads.Learnt,
@@ -3819,7 +3895,7 @@ value-same-length-3 : (t : ℕ) → value-lts.Need-same-length-3 (
 ) (value-at t) value.Post
 value-same-length-3 t c = search needs
 
--- src/lib.rt:56:1
+-- src/lib.rt:57:1
 value-returns-3 : (t : ℕ) → value-lts.Need-returns-3 (
   boolean-reads.Asked,
   boolean-reads.Learnt,
@@ -3838,7 +3914,7 @@ value-returns-3 : (t : ℕ) → value-lts.Need-returns-3 (
 ) (value-at t) value.Post
 value-returns-3 t c = value-text _ _ (c .before .before .before .before .before .before .before .before .before .before .before .before .before .pre .1 .0 .typed) _ _ _ _ _ _ _ _ _ _ _ _ (sym (described-kind (c .before .before .before .before .before .before .before .before .before .before .before .before .before .pre .1 .0)) ∙ c .before .before .before .before .before .kind2 .given .1) (c .before .before .text-value .ensures)
 
--- src/lib.rt:56:1
+-- src/lib.rt:57:1
 value-same-length-4 : (t : ℕ) → value-lts.Need-same-length-4 (
   boolean-reads.Asked,
   boolean-reads.Learnt,
@@ -3857,7 +3933,7 @@ value-same-length-4 : (t : ℕ) → value-lts.Need-same-length-4 (
 ) (value-at t) value.Post
 value-same-length-4 t c = search needs
 
--- src/lib.rt:56:1
+-- src/lib.rt:57:1
 value-same-length-5 : (t : ℕ) → value-lts.Need-same-length-5 (
   boolean-reads.Asked,
   boolean-reads.Learnt,
@@ -3876,7 +3952,7 @@ value-same-length-5 : (t : ℕ) → value-lts.Need-same-length-5 (
 ) (value-at t) value.Post
 value-same-length-5 t c = search needs
 
--- src/lib.rt:56:1
+-- src/lib.rt:57:1
 value-returns-4 : (t : ℕ) → value-lts.Need-returns-4 (
   boolean-reads.Asked,
   boolean-reads.Learnt,
@@ -3895,7 +3971,7 @@ value-returns-4 : (t : ℕ) → value-lts.Need-returns-4 (
 ) (value-at t) value.Post
 value-returns-4 t c = c .before .before .before .before .maybe .ensures
 
--- src/lib.rt:56:1
+-- src/lib.rt:57:1
 value-same-length-6 : (t : ℕ) → value-lts.Need-same-length-6 (
   boolean-reads.Asked,
   boolean-reads.Learnt,
@@ -3914,7 +3990,7 @@ value-same-length-6 : (t : ℕ) → value-lts.Need-same-length-6 (
 ) (value-at t) value.Post
 value-same-length-6 t c = search needs
 
--- src/lib.rt:56:1
+-- src/lib.rt:57:1
 value-same-length-7 : (t : ℕ) → value-lts.Need-same-length-7 (
   boolean-reads.Asked,
   boolean-reads.Learnt,
@@ -3933,7 +4009,7 @@ value-same-length-7 : (t : ℕ) → value-lts.Need-same-length-7 (
 ) (value-at t) value.Post
 value-same-length-7 t c = search needs
 
--- src/lib.rt:56:1
+-- src/lib.rt:57:1
 value-returns-5 : (t : ℕ) → value-lts.Need-returns-5 (
   boolean-reads.Asked,
   boolean-reads.Learnt,
@@ -3952,7 +4028,7 @@ value-returns-5 : (t : ℕ) → value-lts.Need-returns-5 (
 ) (value-at t) value.Post
 value-returns-5 t c = c .before .before .before .before .array .ensures
 
--- src/lib.rt:56:1
+-- src/lib.rt:57:1
 value-same-length-8 : (t : ℕ) → value-lts.Need-same-length-8 (
   boolean-reads.Asked,
   boolean-reads.Learnt,
@@ -3971,7 +4047,7 @@ value-same-length-8 : (t : ℕ) → value-lts.Need-same-length-8 (
 ) (value-at t) value.Post
 value-same-length-8 t c = search needs
 
--- src/lib.rt:56:1
+-- src/lib.rt:57:1
 value-same-length-9 : (t : ℕ) → value-lts.Need-same-length-9 (
   boolean-reads.Asked,
   boolean-reads.Learnt,
@@ -3990,7 +4066,7 @@ value-same-length-9 : (t : ℕ) → value-lts.Need-same-length-9 (
 ) (value-at t) value.Post
 value-same-length-9 t c = search needs
 
--- src/lib.rt:56:1
+-- src/lib.rt:57:1
 value-returns-6 : (t : ℕ) → value-lts.Need-returns-6 (
   boolean-reads.Asked,
   boolean-reads.Learnt,
@@ -4009,7 +4085,7 @@ value-returns-6 : (t : ℕ) → value-lts.Need-returns-6 (
 ) (value-at t) value.Post
 value-returns-6 t c = c .before .before .before .before .structure .ensures
 
--- src/lib.rt:56:1
+-- src/lib.rt:57:1
 value-same-length-10 : (t : ℕ) → value-lts.Need-same-length-10 (
   boolean-reads.Asked,
   boolean-reads.Learnt,
@@ -4028,7 +4104,7 @@ value-same-length-10 : (t : ℕ) → value-lts.Need-same-length-10 (
 ) (value-at t) value.Post
 value-same-length-10 t c = search needs
 
--- src/lib.rt:56:1
+-- src/lib.rt:57:1
 value-same-length-11 : (t : ℕ) → value-lts.Need-same-length-11 (
   boolean-reads.Asked,
   boolean-reads.Learnt,
@@ -4047,7 +4123,7 @@ value-same-length-11 : (t : ℕ) → value-lts.Need-same-length-11 (
 ) (value-at t) value.Post
 value-same-length-11 t c = search needs
 
--- src/lib.rt:56:1
+-- src/lib.rt:57:1
 value-returns-7 : (t : ℕ) → value-lts.Need-returns-7 (
   boolean-reads.Asked,
   boolean-reads.Learnt,
@@ -4064,9 +4140,9 @@ value-returns-7 : (t : ℕ) → value-lts.Need-returns-7 (
   variant-below t,
   variant.Post,
 ) (value-at t) value.Post
-value-returns-7 t c = value-variant _ _ (c .before .before .before .before .before .before .before .before .before .before .before .before .before .before .before .pre .1 .0 .typed) _ _ _ _ _ _ _ _ _ _ _ _ (sym (described-kind (c .before .before .before .before .before .before .before .before .before .before .before .before .before .before .before .pre .1 .0)) ∙ c .before .before .before .before .before .before .before .enum-told5 .given .1) (c .before .before .before .before .variant .ensures)
+value-returns-7 t c = begins-not _ _ (c .before .before .before .before .before .before .before .before .before .before .before .before .before .before .before .pre .1 .0 .typed) _ (sym (described-kind (c .before .before .before .before .before .before .before .before .before .before .before .before .before .before .before .pre .1 .0)) ∙ c .before .before .before .before .before .before .before .enum-told5 .given .1) refl
 
--- src/lib.rt:56:1
+-- src/lib.rt:57:1
 value-same-length-12 : (t : ℕ) → value-lts.Need-same-length-12 (
   boolean-reads.Asked,
   boolean-reads.Learnt,
@@ -4085,7 +4161,7 @@ value-same-length-12 : (t : ℕ) → value-lts.Need-same-length-12 (
 ) (value-at t) value.Post
 value-same-length-12 t c = search needs
 
--- src/lib.rt:56:1
+-- src/lib.rt:57:1
 value-same-length-13 : (t : ℕ) → value-lts.Need-same-length-13 (
   boolean-reads.Asked,
   boolean-reads.Learnt,
@@ -4104,7 +4180,7 @@ value-same-length-13 : (t : ℕ) → value-lts.Need-same-length-13 (
 ) (value-at t) value.Post
 value-same-length-13 t c = search needs
 
--- src/lib.rt:56:1
+-- src/lib.rt:57:1
 value-returns-8 : (t : ℕ) → value-lts.Need-returns-8 (
   boolean-reads.Asked,
   boolean-reads.Learnt,
@@ -4121,9 +4197,123 @@ value-returns-8 : (t : ℕ) → value-lts.Need-returns-8 (
   variant-below t,
   variant.Post,
 ) (value-at t) value.Post
-value-returns-8 t c = value-none _ _ (c .before .before .before .before .before .before .before .before .before .before .before .before .before .before .pre .1 .0 .typed) _ _ _ _ _ _ _ _ _ _ _ _ _ (described-kind (c .before .before .before .before .before .before .before .before .before .before .before .before .before .before .pre .1 .0)) (c .before .before .before .before .before .before .before .match .keys8)
+value-returns-8 t c = begins-not _ _ (c .before .before .before .before .before .before .before .before .before .before .before .before .before .before .before .pre .1 .0 .typed) _ (sym (described-kind (c .before .before .before .before .before .before .before .before .before .before .before .before .before .before .before .pre .1 .0)) ∙ c .before .before .before .before .before .before .before .enum-told6 .given .1) refl
 
--- src/lib.rt:511:9
+-- src/lib.rt:57:1
+value-same-length-14 : (t : ℕ) → value-lts.Need-same-length-14 (
+  boolean-reads.Asked,
+  boolean-reads.Learnt,
+  number-reads.Asked,
+  number-reads.Learnt,
+  text-value-reads.Asked,
+  text-value-reads.Learnt,
+  maybe-below t,
+  maybe.Post,
+  array-below t,
+  array.Post,
+  structure-below t,
+  structure.Post,
+  variant-below t,
+  variant.Post,
+) (value-at t) value.Post
+value-same-length-14 t c = search needs
+
+-- src/lib.rt:57:1
+value-same-length-15 : (t : ℕ) → value-lts.Need-same-length-15 (
+  boolean-reads.Asked,
+  boolean-reads.Learnt,
+  number-reads.Asked,
+  number-reads.Learnt,
+  text-value-reads.Asked,
+  text-value-reads.Learnt,
+  maybe-below t,
+  maybe.Post,
+  array-below t,
+  array.Post,
+  structure-below t,
+  structure.Post,
+  variant-below t,
+  variant.Post,
+) (value-at t) value.Post
+value-same-length-15 t c = search needs
+
+-- src/lib.rt:57:1
+value-returns-9 : (t : ℕ) → value-lts.Need-returns-9 (
+  boolean-reads.Asked,
+  boolean-reads.Learnt,
+  number-reads.Asked,
+  number-reads.Learnt,
+  text-value-reads.Asked,
+  text-value-reads.Learnt,
+  maybe-below t,
+  maybe.Post,
+  array-below t,
+  array.Post,
+  structure-below t,
+  structure.Post,
+  variant-below t,
+  variant.Post,
+) (value-at t) value.Post
+value-returns-9 t c = value-variant _ _ (c .before .before .before .before .before .before .before .before .before .before .before .before .before .before .before .pre .1 .0 .typed) _ _ _ _ _ _ _ _ _ _ _ _ (sym (described-kind (c .before .before .before .before .before .before .before .before .before .before .before .before .before .before .before .pre .1 .0)) ∙ c .before .before .before .before .before .before .before .enum-told7 .given .1) (c .before .before .before .before .variant .ensures)
+
+-- src/lib.rt:57:1
+value-same-length-16 : (t : ℕ) → value-lts.Need-same-length-16 (
+  boolean-reads.Asked,
+  boolean-reads.Learnt,
+  number-reads.Asked,
+  number-reads.Learnt,
+  text-value-reads.Asked,
+  text-value-reads.Learnt,
+  maybe-below t,
+  maybe.Post,
+  array-below t,
+  array.Post,
+  structure-below t,
+  structure.Post,
+  variant-below t,
+  variant.Post,
+) (value-at t) value.Post
+value-same-length-16 t c = search needs
+
+-- src/lib.rt:57:1
+value-same-length-17 : (t : ℕ) → value-lts.Need-same-length-17 (
+  boolean-reads.Asked,
+  boolean-reads.Learnt,
+  number-reads.Asked,
+  number-reads.Learnt,
+  text-value-reads.Asked,
+  text-value-reads.Learnt,
+  maybe-below t,
+  maybe.Post,
+  array-below t,
+  array.Post,
+  structure-below t,
+  structure.Post,
+  variant-below t,
+  variant.Post,
+) (value-at t) value.Post
+value-same-length-17 t c = search needs
+
+-- src/lib.rt:57:1
+value-returns-10 : (t : ℕ) → value-lts.Need-returns-10 (
+  boolean-reads.Asked,
+  boolean-reads.Learnt,
+  number-reads.Asked,
+  number-reads.Learnt,
+  text-value-reads.Asked,
+  text-value-reads.Learnt,
+  maybe-below t,
+  maybe.Post,
+  array-below t,
+  array.Post,
+  structure-below t,
+  structure.Post,
+  variant-below t,
+  variant.Post,
+) (value-at t) value.Post
+value-returns-10 t c = value-none _ _ (c .before .before .before .before .before .before .before .before .before .before .before .before .before .before .pre .1 .0 .typed) _ _ _ _ _ _ _ _ _ _ _ _ _ (described-kind (c .before .before .before .before .before .before .before .before .before .before .before .before .before .before .pre .1 .0)) (c .before .before .before .before .before .before .before .match .keys10)
+
+-- src/lib.rt:524:9
 variant-plain-at-requires : (t : ℕ) → variant-lts.Need-plain-at-requires (
   plain-at-reads.Asked,
   plain-at-reads.Learnt,
@@ -4144,7 +4334,7 @@ variant-plain-at-requires : (t : ℕ) → variant-lts.Need-plain-at-requires (
 ) (variant-at t) variant.Post
 variant-plain-at-requires t c κs = c .before .before .before .before .pre .1 .1 .within
 
--- src/lib.rt:512:9
+-- src/lib.rt:525:9
 variant-refused-requires : (t : ℕ) → variant-lts.Need-refused-requires (
   plain-at-reads.Asked,
   plain-at-reads.Learnt,
@@ -4165,7 +4355,7 @@ variant-refused-requires : (t : ℕ) → variant-lts.Need-refused-requires (
 ) (variant-at t) variant.Post
 variant-refused-requires t c κs = search needs
 
--- src/lib.rt:512:9
+-- src/lib.rt:525:9
 variant-returns : (t : ℕ) → variant-lts.Need-returns (
   plain-at-reads.Asked,
   plain-at-reads.Learnt,
@@ -4186,7 +4376,7 @@ variant-returns : (t : ℕ) → variant-lts.Need-returns (
 ) (variant-at t) variant.Post
 variant-returns t c = rw (c .refused .ensures) (value-variant-not _ _ _ (few-variants (c .before .before .before .before .before .before .before .pre .1 .0)) _ _ _ _ _ _ (c .before .before .plain-at .ensures .not (not-true _ (c .before .if1 .taken))))
 
--- src/lib.rt:514:39
+-- src/lib.rt:527:39
 variant-add-text-at : (t : ℕ) → variant-lts.Need-add-text-at (
   plain-at-reads.Asked,
   plain-at-reads.Learnt,
@@ -4207,7 +4397,7 @@ variant-add-text-at : (t : ℕ) → variant-lts.Need-add-text-at (
 ) (variant-at t) variant.Post
 variant-add-text-at t c = omega (arith, c .before .plain-at .ensures .here (not-false _ (c .if1 .left)) .whole)
 
--- src/lib.rt:514:9
+-- src/lib.rt:527:9
 variant-text-at-requires : (t : ℕ) → variant-lts.Need-text-at-requires (
   plain-at-reads.Asked,
   plain-at-reads.Learnt,
@@ -4228,7 +4418,7 @@ variant-text-at-requires : (t : ℕ) → variant-lts.Need-text-at-requires (
 ) (variant-at t) variant.Post
 variant-text-at-requires t c κs = c .before .plain-at .ensures .here (not-false _ (c .if1 .left)) .whole
 
--- src/lib.rt:519:9
+-- src/lib.rt:532:9
 variant-refused-requires-2 : (t : ℕ) → variant-lts.Need-refused-requires-2 (
   plain-at-reads.Asked,
   plain-at-reads.Learnt,
@@ -4249,7 +4439,7 @@ variant-refused-requires-2 : (t : ℕ) → variant-lts.Need-refused-requires-2 (
 ) (variant-at t) variant.Post
 variant-refused-requires-2 t c κs = search needs
 
--- src/lib.rt:519:9
+-- src/lib.rt:532:9
 variant-returns-2 : (t : ℕ) → variant-lts.Need-returns-2 (
   plain-at-reads.Asked,
   plain-at-reads.Learnt,
@@ -4270,7 +4460,7 @@ variant-returns-2 : (t : ℕ) → variant-lts.Need-returns-2 (
 ) (variant-at t) variant.Post
 variant-returns-2 t c = rw (c .refused2 .ensures) (value-variant-text _ _ _ (few-variants (c .before .before .before .before .before .before .before .before .before .pre .1 .0)) _ _ _ _ _ _ (c .before .before .before .before .plain-at .ensures .here (not-false _ (c .before .before .before .if1 .left))) _ (c .before .before .text-at .ensures .refused (c .before .if2 .taken)))
 
--- src/lib.rt:521:21
+-- src/lib.rt:534:21
 variant-sub-signature : (t : ℕ) → variant-lts.Need-sub-signature (
   plain-at-reads.Asked,
   plain-at-reads.Learnt,
@@ -4291,7 +4481,7 @@ variant-sub-signature : (t : ℕ) → variant-lts.Need-sub-signature (
 ) (variant-at t) variant.Post
 variant-sub-signature t c = omega (arith, c .before .text-at .ensures .taken (c .if2 .left) .order)
 
--- src/lib.rt:521:21
+-- src/lib.rt:534:21
 variant-part-signature-start : (t : ℕ) → variant-lts.Need-part-signature-start (
   plain-at-reads.Asked,
   plain-at-reads.Learnt,
@@ -4312,7 +4502,7 @@ variant-part-signature-start : (t : ℕ) → variant-lts.Need-part-signature-sta
 ) (variant-at t) variant.Post
 variant-part-signature-start t c = c .before .text-at .ensures .taken (c .if2 .left) .order
 
--- src/lib.rt:521:21
+-- src/lib.rt:534:21
 variant-part-signature-end : (t : ℕ) → variant-lts.Need-part-signature-end (
   plain-at-reads.Asked,
   plain-at-reads.Learnt,
@@ -4333,7 +4523,7 @@ variant-part-signature-end : (t : ℕ) → variant-lts.Need-part-signature-end (
 ) (variant-at t) variant.Post
 variant-part-signature-end t c = c .before .text-at .ensures .taken (c .if2 .left) .inside
 
--- src/lib.rt:523:30
+-- src/lib.rt:536:30
 variant-slice-aggregate-shapes-of : (t : ℕ) → variant-lts.Need-slice-aggregate-shapes-of (
   plain-at-reads.Asked,
   plain-at-reads.Learnt,
@@ -4354,7 +4544,7 @@ variant-slice-aggregate-shapes-of : (t : ℕ) → variant-lts.Need-slice-aggrega
 ) (variant-at t) variant.Post
 variant-slice-aggregate-shapes-of t c = search needs
 
--- src/lib.rt:523:9
+-- src/lib.rt:536:9
 variant-shapes-of-requires : (t : ℕ) → variant-lts.Need-shapes-of-requires (
   plain-at-reads.Asked,
   plain-at-reads.Learnt,
@@ -4375,7 +4565,7 @@ variant-shapes-of-requires : (t : ℕ) → variant-lts.Need-shapes-of-requires (
 ) (variant-at t) variant.Post
 variant-shapes-of-requires t c κs = search needs
 
--- src/lib.rt:524:9
+-- src/lib.rt:537:9
 variant-refused-requires-3 : (t : ℕ) → variant-lts.Need-refused-requires-3 (
   plain-at-reads.Asked,
   plain-at-reads.Learnt,
@@ -4396,7 +4586,7 @@ variant-refused-requires-3 : (t : ℕ) → variant-lts.Need-refused-requires-3 (
 ) (variant-at t) variant.Post
 variant-refused-requires-3 t c κs = search needs
 
--- src/lib.rt:524:9
+-- src/lib.rt:537:9
 variant-returns-3 : (t : ℕ) → variant-lts.Need-returns-3 (
   plain-at-reads.Asked,
   plain-at-reads.Learnt,
@@ -4417,7 +4607,7 @@ variant-returns-3 : (t : ℕ) → variant-lts.Need-returns-3 (
 ) (variant-at t) variant.Post
 variant-returns-3 t c = rw (c .refused3 .ensures) (value-variant-type _ _ _ (few-variants (c .before .before .before .before .before .before .before .before .before .before .before .before .before .before .pre .1 .0)) _ _ _ _ _ _ (c .before .before .before .before .before .before .before .before .before .plain-at .ensures .here (not-false _ (c .before .before .before .before .before .before .before .before .if1 .left))) _ _ (c .before .before .before .before .before .before .before .text-at .ensures .taken (c .before .before .before .before .before .before .if2 .left)) (table-refused _ _ _ _ refl (c .before .before .before .shapes-of .ensures) (not-true _ (c .before .if3 .taken))))
 
--- src/lib.rt:526:9
+-- src/lib.rt:539:9
 variant-inc-variant-requires : (t : ℕ) → variant-lts.Need-inc-variant-requires (
   plain-at-reads.Asked,
   plain-at-reads.Learnt,
@@ -4438,7 +4628,7 @@ variant-inc-variant-requires : (t : ℕ) → variant-lts.Need-inc-variant-requir
 ) (variant-at t) variant.Post
 variant-inc-variant-requires t c κs = search needs
 
--- src/lib.rt:529:9
+-- src/lib.rt:542:9
 variant-refused-requires-4 : (t : ℕ) → variant-lts.Need-refused-requires-4 (
   plain-at-reads.Asked,
   plain-at-reads.Learnt,
@@ -4459,7 +4649,7 @@ variant-refused-requires-4 : (t : ℕ) → variant-lts.Need-refused-requires-4 (
 ) (variant-at t) variant.Post
 variant-refused-requires-4 t c κs = search needs
 
--- src/lib.rt:529:9
+-- src/lib.rt:542:9
 variant-returns-4 : (t : ℕ) → variant-lts.Need-returns-4 (
   plain-at-reads.Asked,
   plain-at-reads.Learnt,
@@ -4480,7 +4670,7 @@ variant-returns-4 : (t : ℕ) → variant-lts.Need-returns-4 (
 ) (variant-at t) variant.Post
 variant-returns-4 t c = rw (c .refused4 .ensures) (value-variant-deep _ _ _ (few-variants (c .before .before .before .before .before .before .before .before .before .before .before .before .before .before .before .before .pre .1 .0)) _ _ _ _ _ _ (c .before .before .before .before .before .before .before .before .before .before .before .plain-at .ensures .here (not-false _ (c .before .before .before .before .before .before .before .before .before .before .if1 .left))) _ _ (c .before .before .before .before .before .before .before .before .before .text-at .ensures .taken (c .before .before .before .before .before .before .before .before .if2 .left)) (table-type _ _ _ _ refl (c .before .before .before .before .before .shapes-of .ensures) (not-false _ (c .before .before .before .if3 .left))) _ (c .before .before .inc-variant .ensures) (c .before .if4 .taken))
 
--- src/lib.rt:536:37
+-- src/lib.rt:549:37
 variant-slice-aggregate-shape-in : (t : ℕ) → variant-lts.Need-slice-aggregate-shape-in (
   plain-at-reads.Asked,
   plain-at-reads.Learnt,
@@ -4501,7 +4691,7 @@ variant-slice-aggregate-shape-in : (t : ℕ) → variant-lts.Need-slice-aggregat
 ) (variant-at t) variant.Post
 variant-slice-aggregate-shape-in t c = search needs
 
--- src/lib.rt:536:9
+-- src/lib.rt:549:9
 variant-shape-in-requires : (t : ℕ) → variant-lts.Need-shape-in-requires (
   plain-at-reads.Asked,
   plain-at-reads.Learnt,
@@ -4522,7 +4712,7 @@ variant-shape-in-requires : (t : ℕ) → variant-lts.Need-shape-in-requires (
 ) (variant-at t) variant.Post
 variant-shape-in-requires t c κs = search needs
 
--- src/lib.rt:538:15
+-- src/lib.rt:551:15
 variant-add-t24 : (t : ℕ) → variant-lts.Need-add-t24 (
   plain-at-reads.Asked,
   plain-at-reads.Learnt,
@@ -4543,7 +4733,7 @@ variant-add-t24 : (t : ℕ) → variant-lts.Need-add-t24 (
 ) (variant-at t) variant.Post
 variant-add-t24 t c = let q : c .before .before .before .before .before .before .before .before .before .before .before .before .before .before .before .before .before .before .args .spot .next + 3 + 3 ≤ length (c .before .before .before .before .before .before .before .before .before .before .before .before .before .before .before .before .before .before .args .events .now) = c .before .before .before .before .before .before .before .before .before .before .before .text-at .ensures .taken (c .before .before .before .before .before .before .before .before .before .before .if2 .left) .at .whole in omega (arith, q, c .before .before .before .before .before .before .before .before .before .before .before .before .before)
 
--- src/lib.rt:544:9
+-- src/lib.rt:557:9
 variant-slice-aggregate-value : (t : ℕ) → variant-lts.Need-slice-aggregate-value (
   plain-at-reads.Asked,
   plain-at-reads.Learnt,
@@ -4564,7 +4754,7 @@ variant-slice-aggregate-value : (t : ℕ) → variant-lts.Need-slice-aggregate-v
 ) (variant-at t) variant.Post
 variant-slice-aggregate-value t c = search needs
 
--- src/lib.rt:542:9
+-- src/lib.rt:555:9
 variant-value-requires : (t : ℕ) → variant-lts.Need-value-requires (
   plain-at-reads.Asked,
   plain-at-reads.Learnt,
@@ -4585,7 +4775,7 @@ variant-value-requires : (t : ℕ) → variant-lts.Need-value-requires (
 ) (variant-at t) variant.Post
 variant-value-requires t c κs = (omega (arith, level-falls Depth.variant (c .before .before .before .before .before .before .before .before .before .before .before .before .before .before .before .before .before .before .before .before .before .args .context .depths) (c .before .before .before .before .before .before .before .inc-variant .result) (c .before .before .before .before .before .before .before .inc-variant .ensures) (c .before .before .before .before .before .before .if4 .left), c .before .before .before .before .before .before .before .before .before .before .before .before .before .before .before .before .before .before .before .before .before .pre .0), (described-as (c .before .before .before .shape-in .ensures) (front-described _ _ (table-filled _ _ _ _ refl (c .before .before .before .before .before .before .before .before .before .before .shapes-of .ensures) (c .before .before .before .before .before .before .before .before .before .before .shapes-of .kept .1 .0) (not-false _ (c .before .before .before .before .before .before .before .before .if3 .left))) (front _ (table-type _ _ _ _ refl (c .before .before .before .before .before .before .before .before .before .before .shapes-of .ensures) (not-false _ (c .before .before .before .before .before .before .before .before .if3 .left))))), raised-shallow Depth.variant _ _ (c .before .before .before .before .before .before .before .inc-variant .ensures) _ (c .before .before .before .before .before .before .if4 .left), record { within = omega (arith, c .before .before .before .before .before .before .before .before .before .before .before .before .before .before .text-at .ensures .taken (c .before .before .before .before .before .before .before .before .before .before .before .before .before .if2 .left) .at .whole); near = c .before .before .before .before .before .before .before .before .before .before .before .before .before .before .before .before .before .before .before .before .before .pre .1 .1 .near; few = c .before .before .before .before .before .before .before .before .before .before .before .before .before .before .before .before .before .before .before .before .before .pre .1 .1 .few }))
 
--- src/lib.rt:553:5
+-- src/lib.rt:566:5
 variant-variant-end-requires : (t : ℕ) → variant-lts.Need-variant-end-requires (
   plain-at-reads.Asked,
   plain-at-reads.Learnt,
@@ -4606,7 +4796,7 @@ variant-variant-end-requires : (t : ℕ) → variant-lts.Need-variant-end-requir
 ) (variant-at t) variant.Post
 variant-variant-end-requires t c κs = (c .before .before .before .before .before .before .before .before .before .before .before .before .before .before .before .before .before .before .before .before .before .before .before .before .before .before .before .pre .1 .1 .near, λ z. bounds z (c .before .before .before .before .before .value .ensures) .small, λ z. bounds z (c .before .before .before .before .before .value .ensures) .within, c .before .before .before .before .before .before .before .before .before .before .before .before .before .before .before .before .before .before .before .before .text-at .ensures .taken (c .before .before .before .before .before .before .before .before .before .before .before .before .before .before .before .before .before .before .before .if2 .left) .order, c .before .before .before .before .before .before .before .before .before .before .before .before .before .before .before .before .before .before .before .before .text-at .ensures .taken (c .before .before .before .before .before .before .before .before .before .before .before .before .before .before .before .before .before .before .before .if2 .left) .inside, front-short _ _ _ (c .before .before .before .before .before .before .before .before .before .before .before .before .before .before .before .before .before .before .before .before .text-at .ensures .taken (c .before .before .before .before .before .before .before .before .before .before .before .before .before .before .before .before .before .before .before .if2 .left) .order) (c .before .before .before .before .before .before .before .before .before .before .before .before .before .before .before .before .before .before .before .before .text-at .ensures .taken (c .before .before .before .before .before .before .before .before .before .before .before .before .before .before .before .before .before .before .before .if2 .left) .inside) ((table-filled _ _ _ _ refl (c .before .before .before .before .before .before .before .before .before .before .before .before .before .before .before .before .shapes-of .ensures) (c .before .before .before .before .before .before .before .before .before .before .before .before .before .before .before .before .shapes-of .kept .1 .0) (not-false _ (c .before .before .before .before .before .before .before .before .before .before .before .before .before .before .if3 .left))) .few))
 
--- src/lib.rt:498:1
+-- src/lib.rt:511:1
 variant-same-length : (t : ℕ) → variant-lts.Need-same-length (
   plain-at-reads.Asked,
   plain-at-reads.Learnt,
@@ -4627,7 +4817,7 @@ variant-same-length : (t : ℕ) → variant-lts.Need-same-length (
 ) (variant-at t) variant.Post
 variant-same-length t c = search needs
 
--- src/lib.rt:498:1
+-- src/lib.rt:511:1
 variant-same-length-2 : (t : ℕ) → variant-lts.Need-same-length-2 (
   plain-at-reads.Asked,
   plain-at-reads.Learnt,
@@ -4648,7 +4838,7 @@ variant-same-length-2 : (t : ℕ) → variant-lts.Need-same-length-2 (
 ) (variant-at t) variant.Post
 variant-same-length-2 t c = search needs
 
--- src/lib.rt:498:1
+-- src/lib.rt:511:1
 variant-returns-5 : (t : ℕ) → variant-lts.Need-returns-5 (
   plain-at-reads.Asked,
   plain-at-reads.Learnt,
@@ -5013,6 +5203,10 @@ pub +array+elements+entries+entry+fields+maybe+structure+value+variant-spec :
     (value-enum-told-4 t)
     (value-structure-requires t)
     (value-enum-told-5 t)
+    (value-array-requires-2 t)
+    (value-enum-told-6 t)
+    (value-structure-requires-2 t)
+    (value-enum-told-7 t)
     (value-variant-requires t)
     (value-variant-requires-2 t)
     (value-same-length t)
@@ -5035,7 +5229,13 @@ pub +array+elements+entries+entry+fields+maybe+structure+value+variant-spec :
     (value-returns-7 t)
     (value-same-length-12 t)
     (value-same-length-13 t)
-    (value-returns-8 t))
+    (value-returns-8 t)
+    (value-same-length-14 t)
+    (value-same-length-15 t)
+    (value-returns-9 t)
+    (value-same-length-16 t)
+    (value-same-length-17 t)
+    (value-returns-10 t))
     λ t. variant-lts.spec (
       plain-at-reads.Asked,
       plain-at-reads.Learnt,

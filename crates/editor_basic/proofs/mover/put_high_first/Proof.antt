@@ -1,0 +1,77 @@
+-- `put_high_first` meets its contract.
+use borrow.Author.Needs.{needs}
+use mathlib.Core.Logic.{⊎-elim}
+use mathlib.Core.Path.{_≡_, refl, sym, ap, _∙_}
+use Prim.Native.Nat.{ℕ, _+_, _-_, _%_, _/_, _≤_}
+use native.Mathlib.Omega.{arith}
+use lib.ListN.{length, drop, getD, drop-of-length-le}
+use Rattle.meaning.specs.Padding.{zeros}
+use Rattle.meaning.specs.Numbers.{bytes}
+use Rattle.editor_basic.proofs.PutLaws.{over-both, Putting, putting-begin, putting-next, putting-end, zeros-next, zeros-done, part-next, bytes-next, bytes-done, less-none, Falling, falling-begin, falling-kept, falling-next, falling-past, falling-end}
+use Rattle.editor_basic.proofs.mover.put_high_first.Statement.{statement}
+use Rattle.editor_basic.proofs.mover.put_high_first.Tie as tie
+use Rattle.editor_basic.proofs.mover.put_high_first.Reads as reads
+use Rattle.editor_basic.proofs.mover.put_high_first.Lts as lts
+
+abbrev Inv-loop : tie.InvT-loop
+Inv-loop out₀ at width number rest₀ i₀ out rest i = (i ≤ width) × Falling out₀ at width number out i rest
+
+abbrev μ-loop : tie.MeasureT-loop
+μ-loop out₀ at width number rest₀ i₀ out rest i = i
+
+-- src/mover.rt:78:5
+loop-holds : tie.Need-loop-holds Inv-loop μ-loop
+loop-holds c = (omega arith, falling-begin _ _ _ _)
+
+-- src/mover.rt:79:13
+sub-i : tie.Need-sub-i Inv-loop μ-loop
+sub-i c = omega arith
+
+-- src/mover.rt:80:12
+add-if1 : tie.Need-add-if1 Inv-loop μ-loop
+add-if1 c = omega arith
+
+-- src/mover.rt:81:27
+cast-out : tie.Need-cast-out Inv-loop μ-loop
+cast-out c = omega arith
+
+-- src/mover.rt:81:17
+add-out : tie.Need-add-out Inv-loop μ-loop
+add-out c = omega arith
+
+-- src/mover.rt:81:13
+slice-write-out : tie.Need-slice-write-out Inv-loop μ-loop
+slice-write-out c = omega arith
+
+-- src/mover.rt:78:5
+loop-less : tie.Need-loop-less Inv-loop μ-loop
+loop-less c = omega arith
+
+-- src/mover.rt:78:5
+loop-again : tie.Need-loop-again Inv-loop μ-loop
+loop-again c = (omega arith, ⊎-elim (λ w. rw (w .1) (falling-next _ _ _ _ _ (c .before .before .loop .i) (c .before .before .loop .i - 1) (c .before .before .loop .rest) (omega arith) (c .before .before .loop .inv .1))) (λ w. rw (w .1) (falling-past _ _ _ _ _ (c .before .before .loop .i) (c .before .before .loop .i - 1) (c .before .before .loop .rest) (omega arith) (w .0 .left) (c .before .before .loop .inv .1))) (c .if1 .came))
+
+-- src/mover.rt:72:1
+same-length : tie.Need-same-length Inv-loop μ-loop
+same-length c = falling-kept _ _ _ _ _ _ _ (c .before .loop .inv .1)
+
+-- src/mover.rt:72:1
+returns : tie.Need-returns Inv-loop μ-loop
+returns c = falling-end _ _ _ _ _ _ _ (c .loop-test .left) (c .before .loop .inv .1)
+
+pub put-high-first-spec : {M : Type 1} → statement M
+put-high-first-spec =
+    tie.close
+    (tie.spec
+    Inv-loop
+    μ-loop
+    loop-holds
+    sub-i
+    add-if1
+    cast-out
+    add-out
+    slice-write-out
+    loop-less
+    loop-again
+    same-length
+    returns)

@@ -1,1 +1,3 @@
 pub mod PutLaws
+pub mod ElementLaws
+pub mod RewriteLaws

@@ -1,2 +1,5 @@
-// What the edit puts into the buffer's tail, below the walk along its path. `mover` has bytes, `rewriter` the children of a container.
+// What the edit puts into the buffer's tail, below the walk along its path. `mover` has bytes, `elements` the children of an array as they
+// stand, `rewriter` the same laid out anew.
+pub mod elements;
 pub mod mover;
+pub mod rewriter;

@@ -1,0 +1,129 @@
+-- The loops of the rewriter: what is left of the elements to move, and of their ends to write, makes the whole. Assumes nothing.
+use mathlib.Core.Path.{_≡_, refl, sym, ap, _∙_, subst}
+use mathlib.Core.List.{List, [], _∷_, _++_, append-assoc}
+use mathlib.Core.Bool.{false}
+use Prim.Native.Nat.{ℕ, zero, suc, _+_, _-_, _*_, _≤_, _<_}
+use native.Mathlib.Omega.{arith}
+use lib.ListN.{length, take, drop, length-append, length-replicate}
+use Rattle.meaning.specs.Numbers.{bytes}
+use Rattle.meaning.specs.Offsets.{table}
+use Rattle.meaning.specs.Padding.{padding, zeros}
+use Rattle.meaning.specs.Written.{Piece, stop, layout, ends}
+use Rattle.meaning.proofs.NumberLaws.{length-bytes}
+use Rattle.meaning.proofs.LayoutLaws.{layout-cons, placed, length-placed, length-layout}
+use Rattle.meaning_writing.specs.Shapes.{part}
+use Rattle.editor_basic.specs.declared.elements.Elements.{Elements}
+use Rattle.editor_basic.specs.declared.elements.Child.{Child}
+use Rattle.editor_basic.specs.Puts.{over}
+use Rattle.editor_basic.specs.Elements.{elementsIn, behindOf, Standing, FirstOf}
+use Rattle.editor_basic.proofs.PutLaws.{over-append, over-none}
+use Rattle.editor_basic.proofs.ElementLaws.{few, elements-none, firstPiece, elements-first, stop-is, first-length, layout-most}
+
+-- elements from the place `to` on: what they end at, not far from where they began
+pub record Reaching (e : Elements) (l : List ℕ) (to end : ℕ) : Type 0 where
+  pub stands : Standing e l
+  pub total : to + length (layout to (elementsIn e l)) ≡ end
+  pub near : end < 2000000000
+
+pub reaching-most : (e : Elements) (l : List ℕ) (to : ℕ) → Standing e l → to + length (layout to (elementsIn e l)) < to + 1000000
+reaching-most e l to s =
+    let h = layout-most (e .count) e l to refl s in
+    let g = few e l s in
+    let k = s .short in
+    omega arith
+
+pub reaching-begin : (e : Elements) (l : List ℕ) (to : ℕ) → Standing e l → to < 1500000000 → Reaching e l to (to + length (layout to (elementsIn e l)))
+reaching-begin e l to s h = record { stands = s; total = refl; near = omega (arith, reaching-most e l to s) }
+
+-- one element: how far it reaches, and what is left
+module _ (e : Elements) (l : List ℕ) (c : Child) (to end : ℕ) (r : Reaching e l to end) (f : FirstOf e l c) (h : 0 < e .count) where
+  abbrev step : ℕ
+  step = padding to (e .alignment) + (c .end - c .start)
+
+  stop-step : stop to (firstPiece e l c) ≡ to + step
+  stop-step = stop-is to (e .alignment) (part (c .start) (c .end) l) ∙ (let a = first-length e l c f in omega arith)
+
+  layout-step : layout to (elementsIn e l) ≡ placed to (firstPiece e l c) ++ layout (to + step) (elementsIn (behindOf e (c .end)) l)
+  layout-step =
+      ap (λ (z : List Piece). layout to z) (elements-first e l c f h) ∙ layout-cons to (firstPiece e l c) (elementsIn (behindOf e (c .end)) l)
+      ∙ sym (append-assoc (zeros (padding to (e .alignment))) (part (c .start) (c .end) l) (layout (stop to (firstPiece e l c)) (elementsIn (behindOf e (c .end)) l)))
+      ∙ ap (λ (k : ℕ). placed to (firstPiece e l c) ++ layout k (elementsIn (behindOf e (c .end)) l)) stop-step
+
+  length-step : length (placed to (firstPiece e l c)) ≡ step
+  length-step = length-placed to (firstPiece e l c) ∙ ap (λ (n : ℕ). padding to (e .alignment) + n) (first-length e l c f)
+
+  pub reaching-next : (k : ℕ) → k ≡ to + step → Reaching (behindOf e (c .end)) l k end
+  reaching-next k q = record {
+    stands = f .behind;
+    total =
+        ap (λ (i : ℕ). i + length (layout i (elementsIn (behindOf e (c .end)) l))) q
+        ∙ (let a = ap length layout-step ∙ length-append (placed to (firstPiece e l c)) (layout (to + step) (elementsIn (behindOf e (c .end)) l)) in
+        let b = length-step in
+        let d = r .total in
+        omega arith);
+    near = r .near;
+  }
+
+  -- no further than the whole
+  pub reaching-step : to + step ≤ end
+  reaching-step = let n = reaching-next (to + step) refl .total in omega arith
+
+  -- what a turn adds up, by the padding that it finds
+  pub turn-most : (pad : ℕ) → pad ≡ padding to (e .alignment) → (c .start ≤ c .end) × (to + (pad + (c .end - c .start)) < 2000000000)
+  turn-most pad q = (f .order, omega (arith, reaching-step, r .near))
+
+  pub moving-next : (out whole : List ℕ) (at next pad : ℕ) → over out at (layout to (elementsIn e l)) ≡ whole → pad ≡ padding to (e .alignment) → next ≡ at + step
+      → over (over out at (zeros pad ++ take (c .end - c .start) (drop (c .start) l))) next (layout (to + step) (elementsIn (behindOf e (c .end)) l)) ≡ whole
+  unfolding part
+  moving-next out whole at next pad g q n =
+      ap (λ (i : ℕ). over (over out at (zeros i ++ part (c .start) (c .end) l)) next (layout (to + step) (elementsIn (behindOf e (c .end)) l))) q
+      ∙ over-append out at (placed to (firstPiece e l c)) (layout (to + step) (elementsIn (behindOf e (c .end)) l)) next (let a = length-step in omega arith)
+      ∙ ap (λ (z : List ℕ). over out at z) (sym layout-step) ∙ g
+
+  table-step : (w : ℕ) → table w (ends to (elementsIn e l)) ≡ bytes w (to + step) ++ table w (ends (to + step) (elementsIn (behindOf e (c .end)) l))
+  unfolding table ends
+  table-step w =
+      ap (λ (z : List Piece). table w (ends to z)) (elements-first e l c f h)
+      ∙ ap (λ (k : ℕ). bytes w k ++ table w (ends k (elementsIn (behindOf e (c .end)) l))) stop-step
+
+  pub listing-next : (out whole : List ℕ) (at w k : ℕ) → over out at (table w (ends to (elementsIn e l))) ≡ whole → k ≡ to + step
+      → over (over out at (bytes w k)) (at + w) (table w (ends k (elementsIn (behindOf e (c .end)) l))) ≡ whole
+  listing-next out whole at w k g q =
+      ap (λ (i : ℕ). over (over out at (bytes w i)) (at + w) (table w (ends i (elementsIn (behindOf e (c .end)) l)))) q
+      ∙ over-append out at (bytes w (to + step)) (table w (ends (to + step) (elementsIn (behindOf e (c .end)) l))) (at + w) (let a = length-bytes w (to + step) in omega arith)
+      ∙ ap (λ (z : List ℕ). over out at z) (sym (table-step w)) ∙ g
+
+  -- a turn of each loop, as it leaves what it goes by
+  module _ (e′ : Elements) (q : e′ ≡ behindOf e (c .end)) (pad : ℕ) (p : pad ≡ padding to (e .alignment)) where
+    pub moving-turn : (out out′ whole : List ℕ) (next : ℕ) → out′ ≡ over out next (zeros pad ++ take (c .end - c .start) (drop (c .start) l))
+        → over out next (layout to (elementsIn e l)) ≡ whole
+        → Reaching e′ l (to + (pad + (c .end - c .start))) end
+        × (over out′ (next + (pad + (c .end - c .start))) (layout (to + (pad + (c .end - c .start))) (elementsIn e′ l)) ≡ whole)
+    moving-turn out out′ whole next o g =
+        let k : to + (pad + (c .end - c .start)) ≡ to + step = rw p in
+        (rw q (reaching-next _ k), rw (q, o, k) (moving-next out whole next (next + (pad + (c .end - c .start))) pad g p (rw p)))
+
+    pub listing-turn : (out out′ whole : List ℕ) (next w : ℕ) → out′ ≡ over out next (bytes w (to + pad + (c .end - c .start)))
+        → over out next (table w (ends to (elementsIn e l))) ≡ whole
+        → Reaching e′ l (to + pad + (c .end - c .start)) end
+        × (over out′ (next + w) (table w (ends (to + pad + (c .end - c .start)) (elementsIn e′ l))) ≡ whole)
+    listing-turn out out′ whole next w o g =
+        let k : to + pad + (c .end - c .start) ≡ to + step = omega arith in
+        (rw q (reaching-next _ k), rw (q, o) (listing-next out whole next w _ g k))
+
+-- none is left
+module _ (e : Elements) (l : List ℕ) (h : e .count ≡ 0) where
+  layout-done : (k : ℕ) → layout k (elementsIn e l) ≡ []
+  unfolding layout
+  layout-done k = ap (λ (z : List Piece). layout k z) (elements-none e l h)
+
+  pub reaching-end : (to end : ℕ) → Reaching e l to end → to ≡ end
+  reaching-end to end r = let a = ap length (layout-done to) in let b = r .total in omega arith
+
+  pub moving-end : (out whole : List ℕ) (at to : ℕ) → over out at (layout to (elementsIn e l)) ≡ whole → out ≡ whole
+  moving-end out whole at to g = sym (over-none out at) ∙ ap (λ (z : List ℕ). over out at z) (sym (layout-done to)) ∙ g
+
+  pub listing-end : (out whole : List ℕ) (at to w : ℕ) → over out at (table w (ends to (elementsIn e l))) ≡ whole → out ≡ whole
+  unfolding table ends
+  listing-end out whole at to w g =
+      sym (over-none out at) ∙ ap (λ (z : List ℕ). over out at z) (sym (ap (λ (z : List Piece). table w (ends to z)) (elements-none e l h))) ∙ g

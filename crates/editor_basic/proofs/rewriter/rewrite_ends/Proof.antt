@@ -1,0 +1,125 @@
+-- `rewrite_ends` meets its contract.
+use borrow.Author.Needs.{needs}
+use mathlib.Core.Path.{_≡_, refl, sym, ap, _∙_}
+use mathlib.Core.List.{List}
+use Prim.Native.Nat.{ℕ, _+_, _-_, _*_, _≤_, _<_}
+use native.Mathlib.Omega.{arith}
+use lib.ListN.{length}
+use Rattle.meaning.specs.Offsets.{table}
+use Rattle.meaning.specs.Written.{layout, ends}
+use Rattle.editor_basic.specs.Puts.{over}
+use Rattle.editor_basic.specs.Elements.{elementsIn, behindOf}
+use Rattle.editor_basic.proofs.PutLaws.{over-beyond}
+use Rattle.editor_basic.proofs.ElementLaws.{few, offset-inside}
+use Rattle.editor_basic.proofs.RewriteLaws.{Reaching, reaching-begin, reaching-most, reaching-next, reaching-step, turn-most, moving-turn, listing-turn, reaching-end, moving-end, listing-end}
+use Rattle.editor_basic.proofs.rewriter.rewrite_ends.Statement.{statement}
+use Rattle.editor_basic.proofs.rewriter.rewrite_ends.Tie as tie
+use Rattle.editor_basic.proofs.rewriter.rewrite_ends.Reads as reads
+use Rattle.editor_basic.proofs.rewriter.rewrite_ends.Lts as lts
+use Rattle.editor_basic.proofs.elements.behind.Reads as behind-reads
+use Rattle.editor_basic.proofs.elements.due.Reads as due-reads
+use Rattle.editor_basic.proofs.elements.first_element.Reads as first-element-reads
+use Rattle.editor_basic.proofs.mover.put_low_first.Reads as put-low-first-reads
+
+abbrev Inv-loop : tie.InvT-loop
+Inv-loop old width out₀ at to rest₀ next₀ place₀ out rest next place =
+    Reaching rest old place (to + length (layout to (elementsIn rest₀ old)))
+    × (over out next (table width (ends place (elementsIn rest old))) ≡ over out₀ at (table width (ends to (elementsIn rest₀ old))))
+    × (next + 8 * rest .count ≤ at + 8 * rest₀ .count)
+    × (length out ≡ length out₀)
+
+abbrev μ-loop : tie.MeasureT-loop
+μ-loop old width out₀ at to rest₀ next₀ place₀ out rest next place = rest .count
+
+-- src/rewriter.rt:55:9
+returns : tie.Need-returns Inv-loop μ-loop
+returns c = sym (over-beyond _ _ _ (c .if1 .taken))
+
+-- src/rewriter.rt:60:5
+loop-holds : tie.Need-loop-holds Inv-loop μ-loop
+loop-holds c = (reaching-begin _ _ _ (c .before .before .before .pre .0) (omega (arith, (c .before .before .before .pre .1))), refl, omega arith, refl)
+
+-- src/rewriter.rt:61:13
+first-element-requires : tie.Need-first-element-requires Inv-loop μ-loop
+first-element-requires c κs = (c .before .before .loop .inv .0 .stands, c .if2 .taken)
+
+-- src/rewriter.rt:63:20
+sub-size : tie.Need-sub-size Inv-loop μ-loop
+sub-size c = omega (arith, (c .before .first-element .ensures .order), (c .before .first-element .ensures .inside))
+
+-- src/rewriter.rt:64:25
+due-requires : tie.Need-due-requires Inv-loop μ-loop
+due-requires c κs = c .before .before .before .before .loop .inv .0 .stands .aligned
+
+-- src/rewriter.rt:64:17
+add-place : tie.Need-add-place Inv-loop μ-loop
+add-place c =
+    let f = c .before .before .first-element in
+    let l = c .before .before .before .before .before .loop in
+    let h = turn-most (l .rest) (c .before .before .before .before .before .before .before .before .before .args .old .now) (f .result) (l .place) _ (l .inv .0) (f .ensures) (c .before .before .before .if2 .taken) _ (c .due .ensures .0) in
+    omega (arith, h .0, h .1)
+
+-- src/rewriter.rt:64:17
+add-place-2 : tie.Need-add-place-2 Inv-loop μ-loop
+add-place-2 c =
+    let f = c .before .before .first-element in
+    let l = c .before .before .before .before .before .loop in
+    let h = turn-most (l .rest) (c .before .before .before .before .before .before .before .before .before .args .old .now) (f .result) (l .place) _ (l .inv .0) (f .ensures) (c .before .before .before .if2 .taken) _ (c .due .ensures .0) in
+    omega (arith, h .0, h .1)
+
+-- src/rewriter.rt:65:9
+put-low-first-requires : tie.Need-put-low-first-requires Inv-loop μ-loop
+put-low-first-requires c κs = search needs
+
+-- src/rewriter.rt:66:16
+add-next : tie.Need-add-next Inv-loop μ-loop
+add-next c = omega (arith, (c .before .before .before .before .before .before .before .before .before .loop .inv .2), (c .before .before .before .before .before .before .before .before .before .before .before .before .before .pre .1), (c .before .before .before .before .before .before .before .before .before .before .before .before .before .pre .2), few (c .before .before .before .before .before .before .before .before .before .before .before .before .before .args .elements) (c .before .before .before .before .before .before .before .before .before .before .before .before .before .args .old .now) (c .before .before .before .before .before .before .before .before .before .before .before .before .before .pre .0))
+
+-- src/rewriter.rt:67:9
+behind-requires : tie.Need-behind-requires Inv-loop μ-loop
+behind-requires c κs =
+    let s = c .before .before .before .before .before .before .before .before .before .loop .inv .0 .stands in
+    (c .before .before .before .before .before .before .before .if2 .taken, omega (arith, offset-inside (c .before .before .before .before .before .before .before .before .before .loop .rest) (c .before .before .before .before .before .before .before .before .before .before .before .before .before .args .old .now) s (c .before .before .before .before .before .before .before .if2 .taken), s .short))
+
+-- src/rewriter.rt:60:5
+loop-less : tie.Need-loop-less Inv-loop μ-loop
+loop-less c = rw (c .behind .ensures) (omega (arith, (c .before .before .before .before .before .before .before .before .if2 .taken)))
+
+-- src/rewriter.rt:60:5
+loop-again : tie.Need-loop-again Inv-loop μ-loop
+loop-again c =
+    let f = c .before .before .before .before .before .before .before .first-element in
+    let l = c .before .before .before .before .before .before .before .before .before .before .loop in
+    let t = listing-turn (l .rest) (c .before .before .before .before .before .before .before .before .before .before .before .before .before .before .args .old .now) (f .result) (l .place) _ (l .inv .0) (f .ensures) (c .before .before .before .before .before .before .before .before .if2 .taken) _ (c .behind .ensures) _ (c .before .before .before .before .before .due .ensures .0) _ _ _ _ _ (c .before .before .before .put-low-first .ensures) (l .inv .1) in
+    (t .0, t .1, rw (c .behind .ensures) (omega (arith, l .inv .2, (c .before .before .before .before .before .before .before .before .before .before .before .before .before .before .pre .2), (c .before .before .before .before .before .before .before .before .if2 .taken))), (c .before .before .before .put-low-first .kept .0) ∙ l .inv .3)
+
+-- src/rewriter.rt:43:1
+same-length : tie.Need-same-length Inv-loop μ-loop
+same-length c = c .before .before .loop .inv .3
+
+-- src/rewriter.rt:43:1
+returns-2 : tie.Need-returns-2 Inv-loop μ-loop
+returns-2 c =
+    let l = c .before .before .loop in
+    listing-end (l .rest) (c .before .before .before .before .before .before .args .old .now) (omega (arith, (c .if2 .left))) _ _ _ _ _ (l .inv .1)
+
+pub rewrite-ends-spec : {M : Type 1} → statement M
+rewrite-ends-spec =
+    tie.close
+    (tie.spec
+    Inv-loop
+    μ-loop
+    returns
+    loop-holds
+    first-element-requires
+    sub-size
+    due-requires
+    add-place
+    add-place-2
+    put-low-first-requires
+    add-next
+    behind-requires
+    loop-less
+    loop-again
+    same-length
+    returns-2)

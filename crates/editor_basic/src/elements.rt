@@ -1,0 +1,84 @@
+// Where the elements of an array stand whose ends are in its table, one after another.
+use framing_offset_size::Fitting;
+use framing_offset_size::FramingOffsetSize;
+use utils::padding_for_n_bytes;
+ghost use mathlib.Core.Path.{_≡_};
+ghost use Prim.Native.Nat.{_+_, _<_, _≤_};
+ghost use lib.ListN.{length};
+ghost use Rattle.meaning.specs.Numbers.{value};
+ghost use Rattle.meaning.specs.Offsets.{writtenWidth};
+ghost use Rattle.meaning.specs.Padding.{Aligns, padding};
+ghost use Rattle.meaning_writing.specs.Shapes.{part as partOf};
+ghost use Rattle.framing_offset_size.specs.Widths.{widthOf};
+ghost use Rattle.editor_basic.specs.Elements.{behindOf, Standing, FirstOf};
+
+// The elements from one of them on: their alignment, how wide their offsets are, how many they are, where their offsets begin, and where
+// the one before them ended.
+pub struct Elements {
+    pub alignment: usize,
+    pub size: FramingOffsetSize,
+    pub count: usize,
+    pub from: usize,
+    pub place: usize,
+}
+
+// Where a child begins behind its padding, and where it ends.
+pub struct Child {
+    pub start: usize,
+    pub end: usize,
+}
+
+// The padding that is due at a place.
+pub fn due(place: usize, alignment: usize) -> usize
+    requires { ⌜ Aligns alignment ⌝ }
+    ensures { λ r. ⌜ (r ≡ padding place alignment) × (r < 8) ⌝ }
+{
+    let found = padding_for_n_bytes(place, alignment);
+    found.value
+}
+
+// The offset at a place.
+fn offset_at(part: &[u8], size: FramingOffsetSize, place: usize) -> usize
+    requires { ⌜ place + widthOf size ≤ length (now part) ⌝ }
+    ensures { λ r. ⌜ r ≡ value (partOf place (place + widthOf size) (now (part .entry))) ⌝ }
+{
+    let found = size.offset_at(part, place);
+    found.value
+}
+
+// The width of the offsets of a body.
+pub fn width_for(body: usize, count: usize) -> FramingOffsetSize
+    ensures { λ r. ⌜ widthOf r ≡ writtenWidth body count ⌝ }
+{
+    match FramingOffsetSize::for_bare_container(body, count) {
+        Fitting::Size(size) => size,
+        Fitting::Nothing => FramingOffsetSize::U64,
+    }
+}
+
+// The first of some elements.
+pub fn first_element(part: &[u8], elements: Elements) -> Child
+    requires { ⌜ Standing elements (now part) × (0 < elements .count) ⌝ }
+    ensures { λ r. ⌜ FirstOf elements (now (part .entry)) r ⌝ }
+{
+    let place = elements.place;
+    let start = place + due(place, elements.alignment);
+    let size = elements.size;
+    let end = offset_at(part, size, elements.from);
+    Child { start, end }
+}
+
+// Those behind the first, which ends at a place.
+pub fn behind(elements: Elements, end: usize) -> Elements
+    requires { ⌜ (0 < elements .count) × (elements .from + widthOf (elements .size) < 1000000) ⌝ }
+    ensures { λ r. ⌜ r ≡ behindOf elements end ⌝ }
+{
+    let size = elements.size;
+    Elements {
+        alignment: elements.alignment,
+        size,
+        count: elements.count - 1,
+        from: elements.from + size.width(),
+        place: end,
+    }
+}

@@ -1,0 +1,69 @@
+// The children of an array behind the one that an edit changed: moved to their new places; and the table of all ends, written anew. Into
+// a slice of no length nothing is written, and the same calls tell how long the array becomes.
+use crate::elements::Elements;
+use crate::elements::behind;
+use crate::elements::due;
+use crate::elements::first_element;
+use crate::elements::width_for;
+use crate::mover::move_part;
+use crate::mover::put_low_first;
+ghost use mathlib.Core.Path.{_≡_};
+ghost use mathlib.Core.List.{_++_};
+ghost use Prim.Native.Nat.{_+_, _-_, _*_, _<_, _≤_, _^_};
+ghost use lib.ListN.{length};
+ghost use Rattle.meaning.specs.Offsets.{table};
+ghost use Rattle.meaning.specs.Written.{layout, ends};
+ghost use Rattle.editor_basic.specs.Puts.{over};
+ghost use Rattle.editor_basic.specs.Elements.{elementsIn, Standing};
+
+// Elements laid out anew from the place `to` of their array, which is the place `at` of the slice. The place where they end.
+pub fn move_elements(old: &[u8], elements: Elements, out: &mut [u8], at: usize, to: usize) -> usize
+    requires { ⌜ Standing elements (now old) × (at + to < 2 ^ 30) ⌝ }
+    ensures bytes { λ r. ⌜ now (out .exit) ≡ over (now (out .entry)) at (layout to (elementsIn elements (now (old .entry)))) ⌝ }
+    ensures end { λ r. ⌜ r ≡ to + length (layout to (elementsIn elements (now (old .entry)))) ⌝ }
+{
+    let mut rest = elements;
+    let mut next = at;
+    let mut place = to;
+    while 0 < rest.count {
+        let child = first_element(old, rest);
+        let start = child.start;
+        let end = child.end;
+        let padding = due(place, rest.alignment);
+        move_part(out, next, padding, &old[start..end]);
+        let moved = padding + (end - start);
+        next = next + moved;
+        place = place + moved;
+        rest = behind(rest, end);
+    }
+    place
+}
+
+// The ends of the same elements, as a table of a width from the place `at` of the slice on.
+pub fn rewrite_ends(
+    old: &[u8],
+    elements: Elements,
+    width: usize,
+    out: &mut [u8],
+    at: usize,
+    to: usize,
+)
+    requires { ⌜ Standing elements (now old) × (at + to < 2 ^ 30) × (width ≤ 8) ⌝ }
+    ensures { λ r. ⌜ now (out .exit) ≡ over (now (out .entry)) at (table width (ends to (elementsIn elements (now (old .entry))))) ⌝ }
+{
+    if out.len() <= at {
+        return;
+    }
+    let mut rest = elements;
+    let mut next = at;
+    let mut place = to;
+    while 0 < rest.count {
+        let child = first_element(old, rest);
+        let end = child.end;
+        let size = end - child.start;
+        place = place + due(place, rest.alignment) + size;
+        put_low_first(out, next, width, place);
+        next = next + width;
+        rest = behind(rest, end);
+    }
+}

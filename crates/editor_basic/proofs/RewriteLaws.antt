@@ -5,18 +5,23 @@ use mathlib.Core.Bool.{false}
 use Prim.Native.Nat.{ℕ, zero, suc, _+_, _-_, _*_, _≤_, _<_}
 use native.Mathlib.Omega.{arith}
 use lib.ListN.{length, take, drop, length-append, length-replicate}
-use Rattle.meaning.specs.Numbers.{bytes}
-use Rattle.meaning.specs.Offsets.{table}
+use Rattle.meaning.specs.Numbers.{bytes, value}
+use Rattle.meaning.specs.Offsets.{writtenWidth, table}
 use Rattle.meaning.specs.Padding.{padding, zeros}
 use Rattle.meaning.specs.Written.{Piece, stop, layout, ends}
 use Rattle.meaning.proofs.NumberLaws.{length-bytes}
-use Rattle.meaning.proofs.LayoutLaws.{layout-cons, placed, length-placed, length-layout}
+use Rattle.meaning.proofs.LayoutLaws.{layout-cons, placed, length-placed, length-table, length-ends}
 use Rattle.meaning_writing.specs.Shapes.{part}
+use Rattle.meaning_writing.specs.Edited.{elementsFrom}
+use Rattle.framing_offset_size.specs.Widths.{widthOf}
+use Rattle.framing_offset_size.specs.declared.FramingOffsetSize.{FramingOffsetSize}
+use Rattle.framing_offset_size.specs.declared.FramingOffsetSize.the-variants.{U8, U16, U32, U64}
+use Rattle.framing_offset_size.proofs.WidthLaws.{width-most}
 use Rattle.editor_basic.specs.declared.elements.Elements.{Elements}
 use Rattle.editor_basic.specs.declared.elements.Child.{Child}
 use Rattle.editor_basic.specs.Puts.{over}
-use Rattle.editor_basic.specs.Elements.{elementsIn, behindOf, Standing, FirstOf}
-use Rattle.editor_basic.proofs.PutLaws.{over-append, over-none}
+use Rattle.editor_basic.specs.Elements.{elementsIn, behindOf, Standing, FirstOf, countNow, bodyNow, widthNow, restNow, lengthNow}
+use Rattle.editor_basic.proofs.PutLaws.{over-append, over-both, over-none}
 use Rattle.editor_basic.proofs.ElementLaws.{few, elements-none, firstPiece, elements-first, stop-is, first-length, layout-most}
 
 -- elements from the place `to` on: what they end at, not far from where they began
@@ -127,3 +132,95 @@ module _ (e : Elements) (l : List ℕ) (h : e .count ≡ 0) where
   unfolding table ends
   listing-end out whole at to w g =
       sym (over-none out at) ∙ ap (λ (z : List ℕ). over out at z) (sym (ap (λ (z : List Piece). table w (ends to z)) (elements-none e l h))) ∙ g
+
+-- ---- an array from the end of its changed element on
+
+pub elements-count : (e : Elements) (l : List ℕ) → length (elementsIn e l) ≡ e .count
+elements-count e l = go (e .count) (e .from) (e .place)
+  where
+    endFrom : ℕ → ℕ
+    endFrom j = value (part j (j + widthOf (e .size)) l)
+
+    more : (n j k : ℕ) → length (elementsFrom (e .alignment) false l (widthOf (e .size)) n (j + widthOf (e .size)) (endFrom j)) ≡ n
+        → length (elementsFrom (e .alignment) false l (widthOf (e .size)) (suc n) j k) ≡ suc n
+    more n j k h = unfold elementsFrom in ap suc h
+
+    go : (n j k : ℕ) → length (elementsFrom (e .alignment) false l (widthOf (e .size)) n j k) ≡ n
+    go zero j k = unfold elementsFrom in refl
+    go (suc n) j k = more n j k (go n (j + widthOf (e .size)) (endFrom j))
+
+table-append : (w : ℕ) (xs ys : List ℕ) → table w (xs ++ ys) ≡ table w xs ++ table w ys
+unfolding table
+table-append w [] ys = refl
+table-append w (x ∷ xs) ys = ap (λ (z : List ℕ). bytes w x ++ z) (table-append w xs ys) ∙ sym (append-assoc (bytes w x) (table w xs) (table w ys))
+
+table-cons : (w x : ℕ) (xs : List ℕ) → table w (x ∷ xs) ≡ bytes w x ++ table w xs
+unfolding table
+table-cons w x xs = refl
+
+module _ (front rest : Elements) (l : List ℕ) (to at w : ℕ) where
+  abbrev moved : List ℕ
+  moved = layout to (elementsIn rest l)
+
+  abbrev before : List ℕ
+  before = table w (ends 0 (elementsIn front l))
+
+  abbrev after : List ℕ
+  after = table w (ends to (elementsIn rest l))
+
+  length-before : length before ≡ front .count * w
+  length-before =
+      length-table w (ends 0 (elementsIn front l))
+      ∙ ap (λ (n : ℕ). n * w) (length-ends 0 (elementsIn front l) ∙ elements-count front l)
+
+  -- one behind another: the elements, the ends in front, the changed one's, those behind
+  pub finished : (out a b c d : List ℕ) (first own next : ℕ) → a ≡ over out at moved → b ≡ over a first before → c ≡ over b own (bytes w to) → d ≡ over c next after
+      → first ≡ at + length moved → own ≡ first + front .count * w → next ≡ own + w
+      → d ≡ over out at (moved ++ table w (ends 0 (elementsIn front l) ++ (to ∷ ends to (elementsIn rest l))))
+  finished out a b c d first own next ha hb hc hd p q r =
+      let x = over-both b c d own next (bytes w to) after hc hd (r ∙ (let z = length-bytes w to in omega arith)) in
+      let y = over-both a b d first own before (bytes w to ++ after) hb x (q ∙ (let z = length-before in omega arith)) in
+      over-both out a d at first moved (before ++ (bytes w to ++ after)) ha y p
+      ∙ ap (λ (z : List ℕ). over out at (moved ++ z)) (sym (table-append w (ends 0 (elementsIn front l)) (to ∷ ends to (elementsIn rest l)) ∙ ap (λ (z : List ℕ). before ++ z) (table-cons w to (ends to (elementsIn rest l)))))
+
+  pub finish-done : (out a b c d : List ℕ) (end first own next : ℕ) → end ≡ bodyNow front rest l to → w ≡ writtenWidth end (countNow front rest l to)
+      → a ≡ over out at moved → b ≡ over a first before → c ≡ over b own (bytes w to) → d ≡ over c next after
+      → first ≡ at + (end - to) → own ≡ first + front .count * w → next ≡ own + w
+      → (d ≡ over out at (restNow front rest l to)) × (end + countNow front rest l to * w ≡ lengthNow front rest l to)
+  finish-done out a b c d end first own next he hw ha hb hc hd p q r =
+      let h : w ≡ widthNow front rest l to = hw ∙ ap (λ (n : ℕ). writtenWidth n (countNow front rest l to)) he in (
+        finished out a b c d first own next ha hb hc hd (omega arith) q r
+            ∙ ap (λ (n : ℕ). over out at (moved ++ table n (ends 0 (elementsIn front l) ++ (to ∷ ends to (elementsIn rest l))))) h,
+        rw (he, h),
+      )
+
+-- what the sums of `finish_array` stay below
+pub record Sizes (front rest : Elements) (to end w : ℕ) : Type 0 where
+  pub few-front : front .count ≤ 65536
+  pub few-rest : rest .count ≤ 65536
+  pub slim : w ≤ 8
+  pub ends-front : front .count * w ≤ 524288
+  pub ends-all : (front .count + (rest .count + 1)) * w ≤ 1048584
+  pub low : to ≤ end
+  pub high : end < to + 1000000
+
+times : (s : FramingOffsetSize) (n m : ℕ) → n ≤ m → n * widthOf s ≤ 8 * m
+times U8 n m h = omega arith
+times U16 n m h = omega arith
+times U32 n m h = omega arith
+times U64 n m h = omega arith
+
+pub finish-sizes : (front rest : Elements) (l : List ℕ) (to end w : ℕ) (s : FramingOffsetSize) → Standing front l → Standing rest l
+    → end ≡ to + length (layout to (elementsIn rest l)) → w ≡ widthOf s → Sizes front rest to end w
+finish-sizes front rest l to end w s f r e q =
+    let a = few front l f in
+    let b = few rest l r in
+    record {
+      few-front = a;
+      few-rest = b;
+      slim = rw q (width-most s);
+      ends-front = rw q (let h = times s (front .count) 65536 a in omega arith);
+      ends-all = rw q (times s (front .count + (rest .count + 1)) 131073 (omega arith));
+      low = omega arith;
+      high = omega (arith, reaching-most rest l to r);
+    }

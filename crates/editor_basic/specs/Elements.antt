@@ -1,7 +1,7 @@
 -- The elements of an array from one of them on, where they are not fixed and their ends stand in a table. Assumes nothing: these are
 -- definitions.
 use mathlib.Core.Path.{_≡_}
-use mathlib.Core.List.{List}
+use mathlib.Core.List.{List, _∷_, _++_}
 use mathlib.Core.Bool.{Bool, true, false, _&&_}
 use Prim.Native.Nat.{ℕ, zero, suc, _+_, _-_, _*_, _≤_}
 use lib.Dec.{leb}
@@ -9,7 +9,8 @@ use lib.ListN.{length}
 use Rattle.meaning.specs.Limits.{largestFrame}
 use Rattle.meaning.specs.Numbers.{value}
 use Rattle.meaning.specs.Padding.{Aligns, padding}
-use Rattle.meaning.specs.Written.{Piece}
+use Rattle.meaning.specs.Offsets.{writtenWidth, table}
+use Rattle.meaning.specs.Written.{Piece, layout, ends}
 use Rattle.meaning_writing.specs.Shapes.{part}
 use Rattle.meaning_writing.specs.Edited.{elementsFrom}
 use Rattle.framing_offset_size.specs.Widths.{widthOf}
@@ -52,3 +53,22 @@ pub record FirstOf (e : Elements) (l : List ℕ) (c : Child) : Type 0 where
   pub order : c .start ≤ c .end
   pub inside : c .end ≤ length l
   pub behind : Standing (behindOf e (c .end)) l
+
+-- An array whose elements in front stay, whose next one ends at the place `to` now, and whose rest is laid out from there: how many elements
+-- it has, where they end, and the width of its offsets.
+module _ (front rest : Elements) (l : List ℕ) (to : ℕ) where
+  abbrev pub countNow : ℕ
+  countNow = front .count + (rest .count + 1)
+
+  abbrev pub bodyNow : ℕ
+  bodyNow = to + length (layout to (elementsIn rest l))
+
+  abbrev pub widthNow : ℕ
+  widthNow = writtenWidth bodyNow countNow
+
+  -- what stands behind that place, and the array's length
+  abbrev pub restNow : List ℕ
+  restNow = layout to (elementsIn rest l) ++ table widthNow (ends 0 (elementsIn front l) ++ (to ∷ ends to (elementsIn rest l)))
+
+  abbrev pub lengthNow : ℕ
+  lengthNow = bodyNow + countNow * widthNow

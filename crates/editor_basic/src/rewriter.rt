@@ -14,7 +14,7 @@ ghost use lib.ListN.{length};
 ghost use Rattle.meaning.specs.Offsets.{table};
 ghost use Rattle.meaning.specs.Written.{layout, ends};
 ghost use Rattle.editor_basic.specs.Puts.{over};
-ghost use Rattle.editor_basic.specs.Elements.{elementsIn, Standing};
+ghost use Rattle.editor_basic.specs.Elements.{elementsIn, Standing, restNow, lengthNow};
 
 // Elements laid out anew from the place `to` of their array, which is the place `at` of the slice. The place where they end.
 pub fn move_elements(old: &[u8], elements: Elements, out: &mut [u8], at: usize, to: usize) -> usize
@@ -66,4 +66,31 @@ pub fn rewrite_ends(
         next = next + width;
         rest = behind(rest, end);
     }
+}
+
+// An array from the end of its changed element on, which is now at the place `to` of the array and at the place `at` of the slice: the
+// elements behind it, and the table. The array's new length.
+pub fn finish_array(
+    old: &[u8],
+    front: Elements,
+    rest: Elements,
+    out: &mut [u8],
+    at: usize,
+    to: usize,
+) -> usize
+    requires { ⌜ Standing front (now old) × Standing rest (now old) × (at + to < 2 ^ 29) ⌝ }
+    ensures bytes { λ r. ⌜ now (out .exit) ≡ over (now (out .entry)) at (restNow front rest (now (old .entry)) to) ⌝ }
+    ensures length { λ r. ⌜ r ≡ lengthNow front rest (now (old .entry)) to ⌝ }
+{
+    let end = move_elements(old, rest, out, at, to);
+    let before = front.count;
+    let count = before + (rest.count + 1);
+    let size = width_for(end, count);
+    let width = size.width();
+    let table = at + (end - to);
+    rewrite_ends(old, front, width, out, table, 0);
+    let own = table + before * width;
+    put_low_first(out, own, width, to);
+    rewrite_ends(old, rest, width, out, own + width, to);
+    end + count * width
 }

@@ -1,3 +1,5 @@
 pub mod PutLaws
 pub mod ElementLaws
+pub mod StepLaws
 pub mod RewriteLaws
+pub mod RowLaws

@@ -1,10 +1,13 @@
-// The children of an array behind the one that an edit changed: moved to their new places; and the table of all ends, written anew. Into
-// a slice of no length nothing is written, and the same calls tell how long the array becomes.
+// The children of an array or a structure behind the one that an edit changed: moved to their new places; and the table of all ends,
+// written anew. Into a slice of no length nothing is written, and the same calls tell how long the container becomes.
 use crate::elements::Elements;
 use crate::elements::behind;
 use crate::elements::due;
 use crate::elements::first_element;
 use crate::elements::width_for;
+use crate::fields::Row;
+use crate::fields::behind_field;
+use crate::fields::first_field;
 use crate::mover::move_part;
 use crate::mover::put_low_first;
 ghost use mathlib.Core.Path.{_≡_};
@@ -15,6 +18,7 @@ ghost use Rattle.meaning.specs.Offsets.{table};
 ghost use Rattle.meaning.specs.Written.{layout, ends};
 ghost use Rattle.editor_basic.specs.Puts.{over};
 ghost use Rattle.editor_basic.specs.Elements.{elementsIn, Standing, restNow, lengthNow};
+ghost use Rattle.editor_basic.specs.Rows.{fieldsIn, StandingRow};
 
 // Elements laid out anew from the place `to` of their array, which is the place `at` of the slice. The place where they end.
 pub fn move_elements(old: &[u8], elements: Elements, out: &mut [u8], at: usize, to: usize) -> usize
@@ -93,4 +97,39 @@ pub fn finish_array(
     put_low_first(out, own, width, to);
     rewrite_ends(old, rest, width, out, own + width, to);
     end + count * width
+}
+
+// Fields laid out anew from the place `to` of their structure, which is the place `at` of the slice. The place where they end.
+pub fn move_fields(
+    text: &[u8],
+    tables: &[u16],
+    old: &[u8],
+    row: Row,
+    out: &mut [u8],
+    at: usize,
+    to: usize,
+) -> usize
+    requires { ⌜ StandingRow (now text) (now tables) row (now old) × (at + to < 2 ^ 30) ⌝ }
+    ensures bytes { λ r. ⌜ now (out .exit) ≡ over (now (out .entry)) at (layout to (fieldsIn (now (text .entry)) row (now (old .entry)))) ⌝ }
+    ensures end { λ r. ⌜ r ≡ to + length (layout to (fieldsIn (now (text .entry)) row (now (old .entry)))) ⌝ }
+    ensures near { λ r. ⌜ r < to + 100000 ⌝ }
+{
+    let mut rest = row;
+    let mut next = at;
+    let mut place = to;
+    loop {
+        let field = first_field(text, tables, old, rest);
+        let start = field.start;
+        let stop = field.stop;
+        let last = field.last;
+        let padding = due(place, field.alignment);
+        move_part(out, next, padding, &old[start..stop]);
+        let moved = padding + (stop - start);
+        next = next + moved;
+        place = place + moved;
+        if last {
+            return place;
+        }
+        rest = behind_field(rest, field);
+    }
 }

@@ -24,7 +24,10 @@ offset-at-requires c κs = offset-inside (c .before .before .args .elements) _ (
 
 -- src/elements.rt:60:1
 returns : tie.Need-returns
-returns c = first-of (c .before .before .before .args .elements) _ _ (c .before .before .before .pre .0) (c .before .before .before .pre .1) (ap (λ (n : ℕ). c .before .before .before .args .elements .place + n) (c .before .due .ensures .0)) (c .offset-at .ensures)
+returns c =
+    let at-due = c .before in
+    let start = at-due .before .before in
+    first-of (start .args .elements) _ _ (start .pre .0) (start .pre .1) (ap (λ (n : ℕ). start .args .elements .place + n) (at-due .due .ensures .0)) (c .offset-at .ensures)
 
 pub first-element-spec : {M : Type 1} → statement M
 first-element-spec = tie.close (tie.spec due-requires add-start offset-at-requires returns)

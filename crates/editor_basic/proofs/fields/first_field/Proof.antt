@@ -44,8 +44,11 @@ enum-told c = search needs
 -- src/fields.rt:68:13
 last-end-requires : tie.Need-last-end-requires
 last-end-requires c κs =
-    let h = placed-lies (here-placed _ _ _ _ (c .before .before .before .before .before .before .before .before .before .pre) _ (c .before .before .before .before .before .shape-in .ensures)) _ (c .before .before .before .before .extent-in .ensures) in
-    (omega (arith, (c .before .before .before .before .before .before .before .before .before .pre .inside), (c .before .before .before .before .before .before .before .before .before .pre .short)), h .laid)
+    let at-extent-in = c .before .before .before .before in
+    let at-shape-in = at-extent-in .before in
+    let start = at-shape-in .before .before .before .before in
+    let h = placed-lies (here-placed _ _ _ _ (start .pre) _ (at-shape-in .shape-in .ensures)) _ (at-extent-in .extent-in .ensures) in
+    (omega (arith, (start .pre .inside), (start .pre .short)), h .laid)
 
 -- src/fields.rt:69:9
 field-as-requires : tie.Need-field-as-requires
@@ -54,24 +57,40 @@ field-as-requires c κs = search needs
 -- src/fields.rt:69:9
 returns : tie.Need-returns
 returns c =
-    let h = placed-lies (here-placed _ _ _ _ (c .before .before .before .before .before .before .before .before .before .before .before .pre) _ (c .before .before .before .before .before .before .before .shape-in .ensures)) _ (c .before .before .before .before .before .before .extent-in .ensures) in
-    let f = last-field-of _ _ _ (c .before .before .before .before .before .before .before .before .before .before .before .pre .rowed) (c .before .before .before .before .before .before .before .before .before .before .before .pre .table .shapes) _ (c .before .before .before .before .before .before .before .shape-in .ensures) _ (c .before .before .before .before .letter-at .ensures) (c .before .before .enum-told .given .1) in
-    rw (c .field-as .ensures) (field-last _ _ _ _ (c .before .before .before .before .before .before .before .before .before .before .before .pre) _ _ h _ (c .before .before .before .before .before .aligned .ensures) _ _ f (c .before .last-end .ensures))
+    let at-last-end = c .before in
+    let at-enum-told = at-last-end .before in
+    let at-letter-at = at-enum-told .before .before in
+    let at-aligned = at-letter-at .before in
+    let at-extent-in = at-aligned .before in
+    let at-shape-in = at-extent-in .before in
+    let start = at-shape-in .before .before .before .before in
+    let h = placed-lies (here-placed _ _ _ _ (start .pre) _ (at-shape-in .shape-in .ensures)) _ (at-extent-in .extent-in .ensures) in
+    let f = last-field-of _ _ _ (start .pre .rowed) (start .pre .table .shapes) _ (at-shape-in .shape-in .ensures) _ (at-letter-at .letter-at .ensures) (at-enum-told .enum-told .given .1) in
+    rw (c .field-as .ensures) (field-last _ _ _ _ (start .pre) _ _ h _ (at-aligned .aligned .ensures) _ _ f (at-last-end .last-end .ensures))
 
 -- src/fields.rt:71:9
 field-end-requires : tie.Need-field-end-requires
 field-end-requires c κs =
-    let h = placed-lies (here-placed _ _ _ _ (c .before .before .before .before .before .before .before .before .pre) _ (c .before .before .before .before .shape-in .ensures)) _ (c .before .before .before .extent-in .ensures) in
-    let f = next-field-of _ _ _ (c .before .before .before .before .before .before .before .before .pre .rowed) (c .before .before .before .before .before .before .before .before .pre .table .shapes) _ (c .before .before .before .before .shape-in .ensures) _ (c .before .letter-at .ensures) (apart-from CloseStructure _ (c .match .keys2)) in
-    let z = c .before .before .before .before .before .before .before .before .pre in
+    let at-letter-at = c .before in
+    let at-extent-in = at-letter-at .before .before in
+    let at-shape-in = at-extent-in .before in
+    let start = at-shape-in .before .before .before .before in
+    let h = placed-lies (here-placed _ _ _ _ (start .pre) _ (at-shape-in .shape-in .ensures)) _ (at-extent-in .extent-in .ensures) in
+    let f = next-field-of _ _ _ (start .pre .rowed) (start .pre .table .shapes) _ (at-shape-in .shape-in .ensures) _ (at-letter-at .letter-at .ensures) (apart-from CloseStructure _ (c .match .keys2)) in
+    let z = start .pre in
     (omega (arith, z .inside, z .short), h .laid, z .end-inside, z .wide, λ q. offset-room _ _ _ _ _ _ (f .fields) (h .same-fixed) (z .room) q)
 
 -- src/fields.rt:72:9
 offsets-left-requires : tie.Need-offsets-left-requires
 offsets-left-requires c κs =
-    let h = placed-lies (here-placed _ _ _ _ (c .before .before .before .before .before .before .before .before .before .pre) _ (c .before .before .before .before .before .shape-in .ensures)) _ (c .before .before .before .before .extent-in .ensures) in
-    let f = next-field-of _ _ _ (c .before .before .before .before .before .before .before .before .before .pre .rowed) (c .before .before .before .before .before .before .before .before .before .pre .table .shapes) _ (c .before .before .before .before .before .shape-in .ensures) _ (c .before .before .letter-at .ensures) (apart-from CloseStructure _ (c .before .match .keys2)) in
-    λ q. offset-room _ _ _ _ _ _ (f .fields) (h .same-fixed) (c .before .before .before .before .before .before .before .before .before .pre .room) q
+    let at-match = c .before in
+    let at-letter-at = at-match .before in
+    let at-extent-in = at-letter-at .before .before in
+    let at-shape-in = at-extent-in .before in
+    let start = at-shape-in .before .before .before .before in
+    let h = placed-lies (here-placed _ _ _ _ (start .pre) _ (at-shape-in .shape-in .ensures)) _ (at-extent-in .extent-in .ensures) in
+    let f = next-field-of _ _ _ (start .pre .rowed) (start .pre .table .shapes) _ (at-shape-in .shape-in .ensures) _ (at-letter-at .letter-at .ensures) (apart-from CloseStructure _ (at-match .match .keys2)) in
+    λ q. offset-room _ _ _ _ _ _ (f .fields) (h .same-fixed) (start .pre .room) q
 
 -- src/fields.rt:73:5
 field-as-requires-2 : tie.Need-field-as-requires-2
@@ -80,9 +99,17 @@ field-as-requires-2 c κs = search needs
 -- src/fields.rt:58:1
 returns-2 : tie.Need-returns-2
 returns-2 c =
-    let h = placed-lies (here-placed _ _ _ _ (c .before .before .before .before .before .before .before .before .before .before .before .pre) _ (c .before .before .before .before .before .before .before .shape-in .ensures)) _ (c .before .before .before .before .before .before .extent-in .ensures) in
-    let f = next-field-of _ _ _ (c .before .before .before .before .before .before .before .before .before .before .before .pre .rowed) (c .before .before .before .before .before .before .before .before .before .before .before .pre .table .shapes) _ (c .before .before .before .before .before .before .before .shape-in .ensures) _ (c .before .before .before .before .letter-at .ensures) (apart-from CloseStructure _ (c .before .before .before .match .keys2)) in
-    rw (c .field-as2 .ensures) (field-next _ _ _ _ (c .before .before .before .before .before .before .before .before .before .before .before .pre) _ _ h _ (c .before .before .before .before .before .aligned .ensures) _ _ f (c .before .before .field-end .ensures) (c .before .offsets-left .ensures))
+    let at-offsets-left = c .before in
+    let at-field-end = at-offsets-left .before in
+    let at-match = at-field-end .before in
+    let at-letter-at = at-match .before in
+    let at-aligned = at-letter-at .before in
+    let at-extent-in = at-aligned .before in
+    let at-shape-in = at-extent-in .before in
+    let start = at-shape-in .before .before .before .before in
+    let h = placed-lies (here-placed _ _ _ _ (start .pre) _ (at-shape-in .shape-in .ensures)) _ (at-extent-in .extent-in .ensures) in
+    let f = next-field-of _ _ _ (start .pre .rowed) (start .pre .table .shapes) _ (at-shape-in .shape-in .ensures) _ (at-letter-at .letter-at .ensures) (apart-from CloseStructure _ (at-match .match .keys2)) in
+    rw (c .field-as2 .ensures) (field-next _ _ _ _ (start .pre) _ _ h _ (at-aligned .aligned .ensures) _ _ f (at-field-end .field-end .ensures) (at-offsets-left .offsets-left .ensures))
 
 pub first-field-spec : {M : Type 1} → statement M
 first-field-spec =

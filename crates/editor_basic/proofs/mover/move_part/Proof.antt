@@ -33,7 +33,11 @@ same-length c = search needs
 
 -- src/mover.rt:49:1
 returns : tie.Need-returns
-returns c = over-both _ _ _ _ _ _ _ (c .before .before .before .before .before .before .put-zeros .ensures) (c .before .before .put-part .ensures) (let e = length-replicate {A = ℕ} (c .before .before .before .before .before .before .before .before .before .before .args .padding) 0 in omega arith)
+returns c =
+    let at-put-part = c .before .before in
+    let at-put-zeros = at-put-part .before .before .before .before in
+    let start = at-put-zeros .before .before .before .before in
+    over-both _ _ _ _ _ _ _ (at-put-zeros .put-zeros .ensures) (at-put-part .put-part .ensures) (let e = length-replicate {A = ℕ} (start .args .padding) 0 in omega arith)
 
 pub move-part-spec : {M : Type 1} → statement M
 move-part-spec =

@@ -49,7 +49,15 @@ loop-less c = omega arith
 
 -- src/mover.rt:78:5
 loop-again : tie.Need-loop-again Inv-loop μ-loop
-loop-again c = (omega arith, ⊎-elim (λ w. rw (w .1) (falling-next _ _ _ _ _ (c .before .before .loop .i) (c .before .before .loop .i - 1) (c .before .before .loop .rest) (omega arith) (c .before .before .loop .inv .1))) (λ w. rw (w .1) (falling-past _ _ _ _ _ (c .before .before .loop .i) (c .before .before .loop .i - 1) (c .before .before .loop .rest) (omega arith) (w .0 .left) (c .before .before .loop .inv .1))) (c .if1 .came))
+loop-again c =
+    let at-loop = c .before .before in
+    let l = at-loop .loop in (
+      omega arith,
+      ⊎-elim
+          (λ w. rw (w .1) (falling-next _ _ _ _ _ (l .i) (l .i - 1) (l .rest) (omega arith) (l .inv .1)))
+          (λ w. rw (w .1) (falling-past _ _ _ _ _ (l .i) (l .i - 1) (l .rest) (omega arith) (w .0 .left) (l .inv .1)))
+          (c .if1 .came),
+    )
 
 -- src/mover.rt:72:1
 same-length : tie.Need-same-length Inv-loop μ-loop

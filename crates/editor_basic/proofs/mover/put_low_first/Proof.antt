@@ -49,7 +49,11 @@ loop-less c = omega arith
 
 -- src/mover.rt:64:5
 loop-again : tie.Need-loop-again Inv-loop μ-loop
-loop-again c = (omega arith, putting-next _ _ _ _ _ _ _ _ (c .before .loop .inv .1) (bytes-next (c .before .before .before .before .args .width) (c .before .loop .i) (c .before .loop .rest) (omega (arith, (c .before .before .room .ensures)))))
+loop-again c =
+    let at-loop = c .before in
+    let at-room = at-loop .before in
+    let start = at-room .before .before in
+    (omega arith, putting-next _ _ _ _ _ _ _ _ (at-loop .loop .inv .1) (bytes-next (start .args .width) (at-loop .loop .i) (at-loop .loop .rest) (omega (arith, (at-room .room .ensures)))))
 
 -- src/mover.rt:58:1
 same-length : tie.Need-same-length Inv-loop μ-loop
@@ -57,7 +61,11 @@ same-length c = c .before .loop .inv .1 .kept
 
 -- src/mover.rt:58:1
 returns : tie.Need-returns Inv-loop μ-loop
-returns c = putting-end _ _ _ _ _ _ _ (c .before .before .before .before .args .width) (c .before .loop .inv .1) (c .before .before .room .ensures) (c .loop-test .left) (λ h. bytes-done (c .before .before .before .before .args .width) (c .before .loop .i) (c .before .loop .rest) h)
+returns c =
+    let at-loop = c .before in
+    let at-room = at-loop .before in
+    let start = at-room .before .before in
+    putting-end _ _ _ _ _ _ _ (start .args .width) (at-loop .loop .inv .1) (at-room .room .ensures) (c .loop-test .left) (λ h. bytes-done (start .args .width) (at-loop .loop .i) (at-loop .loop .rest) h)
 
 pub put-low-first-spec : {M : Type 1} → statement M
 put-low-first-spec =

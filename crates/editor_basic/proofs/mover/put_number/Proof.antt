@@ -26,7 +26,11 @@ same-length c = search needs
 
 -- src/mover.rt:94:9
 returns : tie.Need-returns
-returns c = (c .before .before .put-high-first .ensures) ∙ ap (λ (b : Bool). over (c .before .before .before .before .before .before .args .out .now) (c .before .before .before .before .before .before .args .at) (ordered b (bytes (c .before .before .before .before .before .before .args .width) (c .before .before .before .before .before .before .args .number)))) (sym (c .before .before .before .before .if1 .taken))
+returns c =
+    let at-put-high-first = c .before .before in
+    let at-if1 = at-put-high-first .before .before in
+    let start = at-if1 .before .before in
+    (at-put-high-first .put-high-first .ensures) ∙ ap (λ (b : Bool). over (start .args .out .now) (start .args .at) (ordered b (bytes (start .args .width) (start .args .number)))) (sym (at-if1 .if1 .taken))
 
 -- src/mover.rt:96:5
 put-low-first-requires : tie.Need-put-low-first-requires
@@ -38,7 +42,11 @@ same-length-2 c = search needs
 
 -- src/mover.rt:88:1
 returns-2 : tie.Need-returns-2
-returns-2 c = (c .before .before .put-low-first .ensures) ∙ ap (λ (b : Bool). over (c .before .before .before .before .before .before .args .out .now) (c .before .before .before .before .before .before .args .at) (ordered b (bytes (c .before .before .before .before .before .before .args .width) (c .before .before .before .before .before .before .args .number)))) (sym (c .before .before .before .before .if1 .left))
+returns-2 c =
+    let at-put-low-first = c .before .before in
+    let at-if1 = at-put-low-first .before .before in
+    let start = at-if1 .before .before in
+    (at-put-low-first .put-low-first .ensures) ∙ ap (λ (b : Bool). over (start .args .out .now) (start .args .at) (ordered b (bytes (start .args .width) (start .args .number)))) (sym (at-if1 .if1 .left))
 
 pub put-number-spec : {M : Type 1} → statement M
 put-number-spec =

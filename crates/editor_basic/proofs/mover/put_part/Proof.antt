@@ -49,7 +49,11 @@ loop-less c = omega arith
 
 -- src/mover.rt:42:5
 loop-again : tie.Need-loop-again Inv-loop μ-loop
-loop-again c = (omega arith, putting-next _ _ _ _ _ _ _ _ (c .before .before .loop .inv .1) (part-next (c .before .before .before .before .before .before .args .part .now) (c .before .before .loop .i) (omega (arith, (c .before .before .before .room .ensures)))))
+loop-again c =
+    let at-loop = c .before .before in
+    let at-room = at-loop .before in
+    let start = at-room .before .before .before in
+    (omega arith, putting-next _ _ _ _ _ _ _ _ (at-loop .loop .inv .1) (part-next (start .args .part .now) (at-loop .loop .i) (omega (arith, (at-room .room .ensures)))))
 
 -- src/mover.rt:37:1
 same-length : tie.Need-same-length Inv-loop μ-loop
@@ -57,7 +61,11 @@ same-length c = c .before .loop .inv .1 .kept
 
 -- src/mover.rt:37:1
 returns : tie.Need-returns Inv-loop μ-loop
-returns c = putting-end _ _ _ _ _ _ _ (length (c .before .before .before .before .before .args .part .now)) (c .before .loop .inv .1) (c .before .before .room .ensures) (c .loop-test .left) (λ h. drop-of-length-le (c .before .before .before .before .before .args .part .now) h)
+returns c =
+    let at-loop = c .before in
+    let at-room = at-loop .before in
+    let start = at-room .before .before .before in
+    putting-end _ _ _ _ _ _ _ (length (start .args .part .now)) (at-loop .loop .inv .1) (at-room .room .ensures) (c .loop-test .left) (λ h. drop-of-length-le (start .args .part .now) h)
 
 pub put-part-spec : {M : Type 1} → statement M
 put-part-spec =

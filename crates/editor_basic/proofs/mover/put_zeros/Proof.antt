@@ -45,7 +45,11 @@ loop-less c = omega arith
 
 -- src/mover.rt:30:5
 loop-again : tie.Need-loop-again Inv-loop μ-loop
-loop-again c = (omega arith, putting-next _ _ _ _ _ _ _ _ (c .before .loop .inv .1) (zeros-next (c .before .before .before .before .args .count) (c .before .loop .i) (omega (arith, (c .before .before .room .ensures)))))
+loop-again c =
+    let at-loop = c .before in
+    let at-room = at-loop .before in
+    let start = at-room .before .before in
+    (omega arith, putting-next _ _ _ _ _ _ _ _ (at-loop .loop .inv .1) (zeros-next (start .args .count) (at-loop .loop .i) (omega (arith, (at-room .room .ensures)))))
 
 -- src/mover.rt:25:1
 same-length : tie.Need-same-length Inv-loop μ-loop
@@ -53,7 +57,11 @@ same-length c = c .before .loop .inv .1 .kept
 
 -- src/mover.rt:25:1
 returns : tie.Need-returns Inv-loop μ-loop
-returns c = putting-end _ _ _ _ _ _ _ (c .before .before .before .before .args .count) (c .before .loop .inv .1) (c .before .before .room .ensures) (c .loop-test .left) (λ h. zeros-done (c .before .before .before .before .args .count) (c .before .loop .i) h)
+returns c =
+    let at-loop = c .before in
+    let at-room = at-loop .before in
+    let start = at-room .before .before in
+    putting-end _ _ _ _ _ _ _ (start .args .count) (at-loop .loop .inv .1) (at-room .room .ensures) (c .loop-test .left) (λ h. zeros-done (start .args .count) (at-loop .loop .i) h)
 
 pub put-zeros-spec : {M : Type 1} → statement M
 put-zeros-spec =

@@ -42,26 +42,41 @@ sub-table c = search needs
 -- src/rewriter.rt:90:17
 add-table : tie.Need-add-table
 add-table c =
-    let s = finish-sizes (c .before .before .before .before .before .before .before .before .before .args .front) (c .before .before .before .before .before .before .before .before .before .args .rest) (c .before .before .before .before .before .before .before .before .before .args .old .now) (c .before .before .before .before .before .before .before .before .before .args .to) _ _ (c .before .width-for .result) (c .before .before .before .before .before .before .before .before .before .pre .0) (c .before .before .before .before .before .before .before .before .before .pre .1) (c .before .before .before .before .before .move-elements .ensures .1) (c .width .ensures) in
-    omega (arith, s .few-front, s .few-rest, s .slim, s .ends-front, s .ends-all, s .low, s .high, (c .before .before .before .before .before .before .before .before .before .pre .2))
+    let at-width-for = c .before in
+    let at-move-elements = at-width-for .before .before .before .before in
+    let start = at-move-elements .before .before .before .before in
+    let s = finish-sizes (start .args .front) (start .args .rest) (start .args .old .now) (start .args .to) _ _ (at-width-for .width-for .result) (start .pre .0) (start .pre .1) (at-move-elements .move-elements .ensures .1) (c .width .ensures) in
+    omega (arith, s .few-front, s .few-rest, s .slim, s .ends-front, s .ends-all, s .low, s .high, (start .pre .2))
 
 -- src/rewriter.rt:91:5
 rewrite-ends-requires : tie.Need-rewrite-ends-requires
 rewrite-ends-requires c κs =
-    let s = finish-sizes (c .before .before .before .before .before .before .before .before .before .before .args .front) (c .before .before .before .before .before .before .before .before .before .before .args .rest) (c .before .before .before .before .before .before .before .before .before .before .args .old .now) (c .before .before .before .before .before .before .before .before .before .before .args .to) _ _ (c .before .before .width-for .result) (c .before .before .before .before .before .before .before .before .before .before .pre .0) (c .before .before .before .before .before .before .before .before .before .before .pre .1) (c .before .before .before .before .before .before .move-elements .ensures .1) (c .before .width .ensures) in
-    (c .before .before .before .before .before .before .before .before .before .before .pre .0, omega (arith, s .few-front, s .few-rest, s .slim, s .ends-front, s .ends-all, s .low, s .high, (c .before .before .before .before .before .before .before .before .before .before .pre .2)), s .slim)
+    let at-width = c .before in
+    let at-width-for = at-width .before in
+    let at-move-elements = at-width-for .before .before .before .before in
+    let start = at-move-elements .before .before .before .before in
+    let s = finish-sizes (start .args .front) (start .args .rest) (start .args .old .now) (start .args .to) _ _ (at-width-for .width-for .result) (start .pre .0) (start .pre .1) (at-move-elements .move-elements .ensures .1) (at-width .width .ensures) in
+    (start .pre .0, omega (arith, s .few-front, s .few-rest, s .slim, s .ends-front, s .ends-all, s .low, s .high, (start .pre .2)), s .slim)
 
 -- src/rewriter.rt:92:23
 mul-own : tie.Need-mul-own
 mul-own c =
-    let s = finish-sizes (c .before .before .before .before .before .before .before .before .before .before .before .before .before .args .front) (c .before .before .before .before .before .before .before .before .before .before .before .before .before .args .rest) (c .before .before .before .before .before .before .before .before .before .before .before .before .before .args .old .now) (c .before .before .before .before .before .before .before .before .before .before .before .before .before .args .to) _ _ (c .before .before .before .before .before .width-for .result) (c .before .before .before .before .before .before .before .before .before .before .before .before .before .pre .0) (c .before .before .before .before .before .before .before .before .before .before .before .before .before .pre .1) (c .before .before .before .before .before .before .before .before .before .move-elements .ensures .1) (c .before .before .before .before .width .ensures) in
-    omega (arith, s .few-front, s .few-rest, s .slim, s .ends-front, s .ends-all, s .low, s .high, (c .before .before .before .before .before .before .before .before .before .before .before .before .before .pre .2))
+    let at-width = c .before .before .before .before in
+    let at-width-for = at-width .before in
+    let at-move-elements = at-width-for .before .before .before .before in
+    let start = at-move-elements .before .before .before .before in
+    let s = finish-sizes (start .args .front) (start .args .rest) (start .args .old .now) (start .args .to) _ _ (at-width-for .width-for .result) (start .pre .0) (start .pre .1) (at-move-elements .move-elements .ensures .1) (at-width .width .ensures) in
+    omega (arith, s .few-front, s .few-rest, s .slim, s .ends-front, s .ends-all, s .low, s .high, (start .pre .2))
 
 -- src/rewriter.rt:92:15
 add-own : tie.Need-add-own
 add-own c =
-    let s = finish-sizes (c .before .before .before .before .before .before .before .before .before .before .before .before .before .args .front) (c .before .before .before .before .before .before .before .before .before .before .before .before .before .args .rest) (c .before .before .before .before .before .before .before .before .before .before .before .before .before .args .old .now) (c .before .before .before .before .before .before .before .before .before .before .before .before .before .args .to) _ _ (c .before .before .before .before .before .width-for .result) (c .before .before .before .before .before .before .before .before .before .before .before .before .before .pre .0) (c .before .before .before .before .before .before .before .before .before .before .before .before .before .pre .1) (c .before .before .before .before .before .before .before .before .before .move-elements .ensures .1) (c .before .before .before .before .width .ensures) in
-    omega (arith, s .few-front, s .few-rest, s .slim, s .ends-front, s .ends-all, s .low, s .high, (c .before .before .before .before .before .before .before .before .before .before .before .before .before .pre .2))
+    let at-width = c .before .before .before .before in
+    let at-width-for = at-width .before in
+    let at-move-elements = at-width-for .before .before .before .before in
+    let start = at-move-elements .before .before .before .before in
+    let s = finish-sizes (start .args .front) (start .args .rest) (start .args .old .now) (start .args .to) _ _ (at-width-for .width-for .result) (start .pre .0) (start .pre .1) (at-move-elements .move-elements .ensures .1) (at-width .width .ensures) in
+    omega (arith, s .few-front, s .few-rest, s .slim, s .ends-front, s .ends-all, s .low, s .high, (start .pre .2))
 
 -- src/rewriter.rt:93:5
 put-low-first-requires : tie.Need-put-low-first-requires
@@ -70,26 +85,42 @@ put-low-first-requires c κs = search needs
 -- src/rewriter.rt:94:41
 add-rewrite-ends : tie.Need-add-rewrite-ends
 add-rewrite-ends c =
-    let s = finish-sizes (c .before .before .before .before .before .before .before .before .before .before .before .before .before .before .before .before .before .before .args .front) (c .before .before .before .before .before .before .before .before .before .before .before .before .before .before .before .before .before .before .args .rest) (c .before .before .before .before .before .before .before .before .before .before .before .before .before .before .before .before .before .before .args .old .now) (c .before .before .before .before .before .before .before .before .before .before .before .before .before .before .before .before .before .before .args .to) _ _ (c .before .before .before .before .before .before .before .before .before .before .width-for .result) (c .before .before .before .before .before .before .before .before .before .before .before .before .before .before .before .before .before .before .pre .0) (c .before .before .before .before .before .before .before .before .before .before .before .before .before .before .before .before .before .before .pre .1) (c .before .before .before .before .before .before .before .before .before .before .before .before .before .before .move-elements .ensures .1) (c .before .before .before .before .before .before .before .before .before .width .ensures) in
-    omega (arith, s .few-front, s .few-rest, s .slim, s .ends-front, s .ends-all, s .low, s .high, (c .before .before .before .before .before .before .before .before .before .before .before .before .before .before .before .before .before .before .pre .2))
+    let at-width = c .before .before .before .before .before .before .before .before .before in
+    let at-width-for = at-width .before in
+    let at-move-elements = at-width-for .before .before .before .before in
+    let start = at-move-elements .before .before .before .before in
+    let s = finish-sizes (start .args .front) (start .args .rest) (start .args .old .now) (start .args .to) _ _ (at-width-for .width-for .result) (start .pre .0) (start .pre .1) (at-move-elements .move-elements .ensures .1) (at-width .width .ensures) in
+    omega (arith, s .few-front, s .few-rest, s .slim, s .ends-front, s .ends-all, s .low, s .high, (start .pre .2))
 
 -- src/rewriter.rt:94:5
 rewrite-ends-requires-2 : tie.Need-rewrite-ends-requires-2
 rewrite-ends-requires-2 c κs =
-    let s = finish-sizes (c .before .before .before .before .before .before .before .before .before .before .before .before .before .before .before .before .before .before .args .front) (c .before .before .before .before .before .before .before .before .before .before .before .before .before .before .before .before .before .before .args .rest) (c .before .before .before .before .before .before .before .before .before .before .before .before .before .before .before .before .before .before .args .old .now) (c .before .before .before .before .before .before .before .before .before .before .before .before .before .before .before .before .before .before .args .to) _ _ (c .before .before .before .before .before .before .before .before .before .before .width-for .result) (c .before .before .before .before .before .before .before .before .before .before .before .before .before .before .before .before .before .before .pre .0) (c .before .before .before .before .before .before .before .before .before .before .before .before .before .before .before .before .before .before .pre .1) (c .before .before .before .before .before .before .before .before .before .before .before .before .before .before .move-elements .ensures .1) (c .before .before .before .before .before .before .before .before .before .width .ensures) in
-    (c .before .before .before .before .before .before .before .before .before .before .before .before .before .before .before .before .before .before .pre .1, omega (arith, s .few-front, s .few-rest, s .slim, s .ends-front, s .ends-all, s .low, s .high, (c .before .before .before .before .before .before .before .before .before .before .before .before .before .before .before .before .before .before .pre .2)), s .slim)
+    let at-width = c .before .before .before .before .before .before .before .before .before in
+    let at-width-for = at-width .before in
+    let at-move-elements = at-width-for .before .before .before .before in
+    let start = at-move-elements .before .before .before .before in
+    let s = finish-sizes (start .args .front) (start .args .rest) (start .args .old .now) (start .args .to) _ _ (at-width-for .width-for .result) (start .pre .0) (start .pre .1) (at-move-elements .move-elements .ensures .1) (at-width .width .ensures) in
+    (start .pre .1, omega (arith, s .few-front, s .few-rest, s .slim, s .ends-front, s .ends-all, s .low, s .high, (start .pre .2)), s .slim)
 
 -- src/rewriter.rt:95:11
 mul-result : tie.Need-mul-result
 mul-result c =
-    let s = finish-sizes (c .before .before .before .before .before .before .before .before .before .before .before .before .before .before .before .before .before .before .before .before .before .args .front) (c .before .before .before .before .before .before .before .before .before .before .before .before .before .before .before .before .before .before .before .before .before .args .rest) (c .before .before .before .before .before .before .before .before .before .before .before .before .before .before .before .before .before .before .before .before .before .args .old .now) (c .before .before .before .before .before .before .before .before .before .before .before .before .before .before .before .before .before .before .before .before .before .args .to) _ _ (c .before .before .before .before .before .before .before .before .before .before .before .before .before .width-for .result) (c .before .before .before .before .before .before .before .before .before .before .before .before .before .before .before .before .before .before .before .before .before .pre .0) (c .before .before .before .before .before .before .before .before .before .before .before .before .before .before .before .before .before .before .before .before .before .pre .1) (c .before .before .before .before .before .before .before .before .before .before .before .before .before .before .before .before .before .move-elements .ensures .1) (c .before .before .before .before .before .before .before .before .before .before .before .before .width .ensures) in
-    omega (arith, s .few-front, s .few-rest, s .slim, s .ends-front, s .ends-all, s .low, s .high, (c .before .before .before .before .before .before .before .before .before .before .before .before .before .before .before .before .before .before .before .before .before .pre .2))
+    let at-width = c .before .before .before .before .before .before .before .before .before .before .before .before in
+    let at-width-for = at-width .before in
+    let at-move-elements = at-width-for .before .before .before .before in
+    let start = at-move-elements .before .before .before .before in
+    let s = finish-sizes (start .args .front) (start .args .rest) (start .args .old .now) (start .args .to) _ _ (at-width-for .width-for .result) (start .pre .0) (start .pre .1) (at-move-elements .move-elements .ensures .1) (at-width .width .ensures) in
+    omega (arith, s .few-front, s .few-rest, s .slim, s .ends-front, s .ends-all, s .low, s .high, (start .pre .2))
 
 -- src/rewriter.rt:95:5
 add-result : tie.Need-add-result
 add-result c =
-    let s = finish-sizes (c .before .before .before .before .before .before .before .before .before .before .before .before .before .before .before .before .before .before .before .before .before .args .front) (c .before .before .before .before .before .before .before .before .before .before .before .before .before .before .before .before .before .before .before .before .before .args .rest) (c .before .before .before .before .before .before .before .before .before .before .before .before .before .before .before .before .before .before .before .before .before .args .old .now) (c .before .before .before .before .before .before .before .before .before .before .before .before .before .before .before .before .before .before .before .before .before .args .to) _ _ (c .before .before .before .before .before .before .before .before .before .before .before .before .before .width-for .result) (c .before .before .before .before .before .before .before .before .before .before .before .before .before .before .before .before .before .before .before .before .before .pre .0) (c .before .before .before .before .before .before .before .before .before .before .before .before .before .before .before .before .before .before .before .before .before .pre .1) (c .before .before .before .before .before .before .before .before .before .before .before .before .before .before .before .before .before .move-elements .ensures .1) (c .before .before .before .before .before .before .before .before .before .before .before .before .width .ensures) in
-    omega (arith, s .few-front, s .few-rest, s .slim, s .ends-front, s .ends-all, s .low, s .high, (c .before .before .before .before .before .before .before .before .before .before .before .before .before .before .before .before .before .before .before .before .before .pre .2))
+    let at-width = c .before .before .before .before .before .before .before .before .before .before .before .before in
+    let at-width-for = at-width .before in
+    let at-move-elements = at-width-for .before .before .before .before in
+    let start = at-move-elements .before .before .before .before in
+    let s = finish-sizes (start .args .front) (start .args .rest) (start .args .old .now) (start .args .to) _ _ (at-width-for .width-for .result) (start .pre .0) (start .pre .1) (at-move-elements .move-elements .ensures .1) (at-width .width .ensures) in
+    omega (arith, s .few-front, s .few-rest, s .slim, s .ends-front, s .ends-all, s .low, s .high, (start .pre .2))
 
 -- src/rewriter.rt:73:1
 same-length : tie.Need-same-length
@@ -98,9 +129,17 @@ same-length c = search needs
 -- src/rewriter.rt:73:1
 returns : tie.Need-returns
 returns c =
-    let a = c .before .before .before .before .before .before .before .before .before .before .before .before .before .before .before .before .before .before .before .before .before .args in
-    let m = c .before .before .before .before .before .before .before .before .before .before .before .before .before .before .before .before .before .move-elements .ensures in
-    finish-done (a .front) (a .rest) (a .old .now) (a .to) (a .at) _ _ _ _ _ _ _ _ _ _ (m .1) (c .before .before .before .before .before .before .before .before .before .before .before .before .width .ensures ∙ c .before .before .before .before .before .before .before .before .before .before .before .before .before .width-for .ensures) (m .0) (c .before .before .before .before .before .before .before .before .before .before .rewrite-ends .ensures) (c .before .before .before .before .before .before .put-low-first .ensures) (c .before .before .rewrite-ends2 .ensures) refl refl refl
+    let at-rewrite-ends2 = c .before .before in
+    let at-put-low-first = at-rewrite-ends2 .before .before .before .before in
+    let at-rewrite-ends = at-put-low-first .before .before .before .before in
+    let at-width = at-rewrite-ends .before .before in
+    let at-width-for = at-width .before in
+    let at-move-elements = at-width-for .before .before .before .before in
+    let start = at-move-elements .before .before .before .before in
+    let a = start .args in
+    let m = at-move-elements .move-elements .ensures in
+    finish-done (a .front) (a .rest) (a .old .now) (a .to) (a .at) _ _ _ _ _ _ _ _ _ _ (m .1) (at-width .width .ensures ∙ at-width-for .width-for .ensures) (m .0)
+    (at-rewrite-ends .rewrite-ends .ensures) (at-put-low-first .put-low-first .ensures) (at-rewrite-ends2 .rewrite-ends2 .ensures) refl refl refl
 
 pub finish-array-spec : {M : Type 1} → statement M
 finish-array-spec =

@@ -58,10 +58,15 @@ part-move-part-end c = omega (arith, (c .before .before .first-element .ensures 
 -- src/rewriter.rt:33:9
 move-part-requires : tie.Need-move-part-requires Inv-loop μ-loop
 move-part-requires c κs =
-    let f = c .before .before .before .first-element in
-    let l = c .before .before .before .before .before .before .loop in
-    let h = turn-most (l .rest) (c .before .before .before .before .before .before .before .before .before .args .old .now) (f .result) (l .place) _ (l .inv .0) (f .ensures) (c .before .before .before .before .if1 .taken) _ (c .before .before .due .ensures .0) in
-    omega (arith, h .0, h .1, l .inv .2, (c .before .before .before .before .before .before .before .before .before .pre .1))
+    let at-due = c .before .before in
+    let at-first-element = at-due .before in
+    let at-if1 = at-first-element .before in
+    let at-loop = at-if1 .before .before in
+    let start = at-loop .before .before .before in
+    let f = at-first-element .first-element in
+    let l = at-loop .loop in
+    let h = turn-most (l .rest) (start .args .old .now) (f .result) (l .place) _ (l .inv .0) (f .ensures) (at-if1 .if1 .taken) _ (at-due .due .ensures .0) in
+    omega (arith, h .0, h .1, l .inv .2, (start .pre .1))
 
 -- src/rewriter.rt:34:32
 sub-moved : tie.Need-sub-moved Inv-loop μ-loop
@@ -70,32 +75,50 @@ sub-moved c = omega (arith, (c .before .before .before .before .before .before .
 -- src/rewriter.rt:34:21
 add-moved : tie.Need-add-moved Inv-loop μ-loop
 add-moved c =
-    let f = c .before .before .before .before .before .before .first-element in
-    let l = c .before .before .before .before .before .before .before .before .before .loop in
-    let h = turn-most (l .rest) (c .before .before .before .before .before .before .before .before .before .before .before .before .args .old .now) (f .result) (l .place) _ (l .inv .0) (f .ensures) (c .before .before .before .before .before .before .before .if1 .taken) _ (c .before .before .before .before .before .due .ensures .0) in
-    omega (arith, h .0, h .1, l .inv .2, (c .before .before .before .before .before .before .before .before .before .before .before .before .pre .1))
+    let at-due = c .before .before .before .before .before in
+    let at-first-element = at-due .before in
+    let at-if1 = at-first-element .before in
+    let at-loop = at-if1 .before .before in
+    let start = at-loop .before .before .before in
+    let f = at-first-element .first-element in
+    let l = at-loop .loop in
+    let h = turn-most (l .rest) (start .args .old .now) (f .result) (l .place) _ (l .inv .0) (f .ensures) (at-if1 .if1 .taken) _ (at-due .due .ensures .0) in
+    omega (arith, h .0, h .1, l .inv .2, (start .pre .1))
 
 -- src/rewriter.rt:35:16
 add-next : tie.Need-add-next Inv-loop μ-loop
 add-next c =
-    let f = c .before .before .before .before .before .before .first-element in
-    let l = c .before .before .before .before .before .before .before .before .before .loop in
-    let h = turn-most (l .rest) (c .before .before .before .before .before .before .before .before .before .before .before .before .args .old .now) (f .result) (l .place) _ (l .inv .0) (f .ensures) (c .before .before .before .before .before .before .before .if1 .taken) _ (c .before .before .before .before .before .due .ensures .0) in
-    omega (arith, h .0, h .1, l .inv .2, (c .before .before .before .before .before .before .before .before .before .before .before .before .pre .1))
+    let at-due = c .before .before .before .before .before in
+    let at-first-element = at-due .before in
+    let at-if1 = at-first-element .before in
+    let at-loop = at-if1 .before .before in
+    let start = at-loop .before .before .before in
+    let f = at-first-element .first-element in
+    let l = at-loop .loop in
+    let h = turn-most (l .rest) (start .args .old .now) (f .result) (l .place) _ (l .inv .0) (f .ensures) (at-if1 .if1 .taken) _ (at-due .due .ensures .0) in
+    omega (arith, h .0, h .1, l .inv .2, (start .pre .1))
 
 -- src/rewriter.rt:36:17
 add-place : tie.Need-add-place Inv-loop μ-loop
 add-place c =
-    let f = c .before .before .before .before .before .before .first-element in
-    let l = c .before .before .before .before .before .before .before .before .before .loop in
-    let h = turn-most (l .rest) (c .before .before .before .before .before .before .before .before .before .before .before .before .args .old .now) (f .result) (l .place) _ (l .inv .0) (f .ensures) (c .before .before .before .before .before .before .before .if1 .taken) _ (c .before .before .before .before .before .due .ensures .0) in
-    omega (arith, h .0, h .1, l .inv .2, (c .before .before .before .before .before .before .before .before .before .before .before .before .pre .1))
+    let at-due = c .before .before .before .before .before in
+    let at-first-element = at-due .before in
+    let at-if1 = at-first-element .before in
+    let at-loop = at-if1 .before .before in
+    let start = at-loop .before .before .before in
+    let f = at-first-element .first-element in
+    let l = at-loop .loop in
+    let h = turn-most (l .rest) (start .args .old .now) (f .result) (l .place) _ (l .inv .0) (f .ensures) (at-if1 .if1 .taken) _ (at-due .due .ensures .0) in
+    omega (arith, h .0, h .1, l .inv .2, (start .pre .1))
 
 -- src/rewriter.rt:37:9
 behind-requires : tie.Need-behind-requires Inv-loop μ-loop
 behind-requires c κs =
-    let s = c .before .before .before .before .before .before .before .before .before .loop .inv .0 .stands in
-    (c .before .before .before .before .before .before .before .if1 .taken, omega (arith, offset-inside (c .before .before .before .before .before .before .before .before .before .loop .rest) (c .before .before .before .before .before .before .before .before .before .before .before .before .args .old .now) s (c .before .before .before .before .before .before .before .if1 .taken), s .short))
+    let at-if1 = c .before .before .before .before .before .before .before in
+    let at-loop = at-if1 .before .before in
+    let start = at-loop .before .before .before in
+    let s = at-loop .loop .inv .0 .stands in
+    (at-if1 .if1 .taken, omega (arith, offset-inside (at-loop .loop .rest) (start .args .old .now) s (at-if1 .if1 .taken), s .short))
 
 -- src/rewriter.rt:28:5
 loop-less : tie.Need-loop-less Inv-loop μ-loop
@@ -104,10 +127,16 @@ loop-less c = rw (c .behind .ensures) (omega (arith, (c .before .before .before 
 -- src/rewriter.rt:28:5
 loop-again : tie.Need-loop-again Inv-loop μ-loop
 loop-again c =
-    let f = c .before .before .before .before .before .before .before .first-element in
-    let l = c .before .before .before .before .before .before .before .before .before .before .loop in
-    let t = moving-turn (l .rest) (c .before .before .before .before .before .before .before .before .before .before .before .before .before .args .old .now) (f .result) (l .place) _ (l .inv .0) (f .ensures) (c .before .before .before .before .before .before .before .before .if1 .taken) _ (c .behind .ensures) _ (c .before .before .before .before .before .before .due .ensures .0) _ _ _ _ (c .before .before .before .move-part .ensures) (l .inv .1) in
-    (t .0, t .1, omega (arith, l .inv .2), (c .before .before .before .move-part .kept .0) ∙ l .inv .3)
+    let at-move-part = c .before .before .before in
+    let at-due = at-move-part .before .before .before in
+    let at-first-element = at-due .before in
+    let at-if1 = at-first-element .before in
+    let at-loop = at-if1 .before .before in
+    let start = at-loop .before .before .before in
+    let f = at-first-element .first-element in
+    let l = at-loop .loop in
+    let t = moving-turn (l .rest) (start .args .old .now) (f .result) (l .place) _ (l .inv .0) (f .ensures) (at-if1 .if1 .taken) _ (c .behind .ensures) _ (at-due .due .ensures .0) _ _ _ _ (at-move-part .move-part .ensures) (l .inv .1) in
+    (t .0, t .1, omega (arith, l .inv .2), (at-move-part .move-part .kept .0) ∙ l .inv .3)
 
 -- src/rewriter.rt:20:1
 same-length : tie.Need-same-length Inv-loop μ-loop
@@ -116,9 +145,11 @@ same-length c = c .before .before .loop .inv .3
 -- src/rewriter.rt:20:1
 returns : tie.Need-returns Inv-loop μ-loop
 returns c =
-    let l = c .before .before .loop in
+    let at-loop = c .before .before in
+    let start = at-loop .before .before .before in
+    let l = at-loop .loop in
     let z : l .rest .count ≡ 0 = omega (arith, (c .if1 .left)) in
-    (moving-end (l .rest) (c .before .before .before .before .before .args .old .now) z _ _ _ _ (l .inv .1), reaching-end (l .rest) (c .before .before .before .before .before .args .old .now) z _ _ (l .inv .0))
+    (moving-end (l .rest) (start .args .old .now) z _ _ _ _ (l .inv .1), reaching-end (l .rest) (start .args .old .now) z _ _ (l .inv .0))
 
 pub move-elements-spec : {M : Type 1} → statement M
 move-elements-spec =

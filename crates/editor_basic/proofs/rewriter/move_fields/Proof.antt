@@ -57,23 +57,35 @@ sub-moved c = omega (arith, (c .before .before .before .before .before .before .
 -- src/rewriter.rt:127:21
 add-moved : tie.Need-add-moved Inv-loop μ-loop
 add-moved c =
-    let w = c .before .before .before .before .before .before .before .loop .inv in
-    let h = row-most w (c .before .before .before .before .before .before .first-field .ensures) _ (c .before .before .before .before .before .due .ensures .0) in
-    omega (arith, h, w .even, (c .before .before .before .before .before .before .first-field .ensures .order), (c .before .before .before .before .before .before .before .before .before .before .before .before .pre .1))
+    let at-due = c .before .before .before .before .before in
+    let at-first-field = at-due .before in
+    let at-loop = at-first-field .before in
+    let start = at-loop .before .before .before .before .before in
+    let w = at-loop .loop .inv in
+    let h = row-most w (at-first-field .first-field .ensures) _ (at-due .due .ensures .0) in
+    omega (arith, h, w .even, (at-first-field .first-field .ensures .order), (start .pre .1))
 
 -- src/rewriter.rt:128:16
 add-next : tie.Need-add-next Inv-loop μ-loop
 add-next c =
-    let w = c .before .before .before .before .before .before .before .loop .inv in
-    let h = row-most w (c .before .before .before .before .before .before .first-field .ensures) _ (c .before .before .before .before .before .due .ensures .0) in
-    omega (arith, h, w .even, (c .before .before .before .before .before .before .first-field .ensures .order), (c .before .before .before .before .before .before .before .before .before .before .before .before .pre .1))
+    let at-due = c .before .before .before .before .before in
+    let at-first-field = at-due .before in
+    let at-loop = at-first-field .before in
+    let start = at-loop .before .before .before .before .before in
+    let w = at-loop .loop .inv in
+    let h = row-most w (at-first-field .first-field .ensures) _ (at-due .due .ensures .0) in
+    omega (arith, h, w .even, (at-first-field .first-field .ensures .order), (start .pre .1))
 
 -- src/rewriter.rt:129:17
 add-place : tie.Need-add-place Inv-loop μ-loop
 add-place c =
-    let w = c .before .before .before .before .before .before .before .loop .inv in
-    let h = row-most w (c .before .before .before .before .before .before .first-field .ensures) _ (c .before .before .before .before .before .due .ensures .0) in
-    omega (arith, h, w .even, (c .before .before .before .before .before .before .first-field .ensures .order), (c .before .before .before .before .before .before .before .before .before .before .before .before .pre .1))
+    let at-due = c .before .before .before .before .before in
+    let at-first-field = at-due .before in
+    let at-loop = at-first-field .before in
+    let start = at-loop .before .before .before .before .before in
+    let w = at-loop .loop .inv in
+    let h = row-most w (at-first-field .first-field .ensures) _ (at-due .due .ensures .0) in
+    omega (arith, h, w .even, (at-first-field .first-field .ensures .order), (start .pre .1))
 
 -- src/rewriter.rt:131:13
 same-length : tie.Need-same-length Inv-loop μ-loop
@@ -82,7 +94,11 @@ same-length c = (c .before .before .before .move-part .kept .0) ∙ (c .before .
 -- src/rewriter.rt:131:13
 returns : tie.Need-returns Inv-loop μ-loop
 returns c =
-    let t = row-last (c .before .before .before .before .before .before .before .before .loop .inv) (c .before .before .before .before .before .before .before .first-field .ensures) _ (c .before .before .before .before .before .before .due .ensures .0) _ (c .before .before .before .move-part .ensures) (c .if1 .taken) in
+    let at-move-part = c .before .before .before in
+    let at-due = at-move-part .before .before .before in
+    let at-first-field = at-due .before in
+    let at-loop = at-first-field .before in
+    let t = row-last (at-loop .loop .inv) (at-first-field .first-field .ensures) _ (at-due .due .ensures .0) _ (at-move-part .move-part .ensures) (c .if1 .taken) in
     (t .0, (t .1, t .2))
 
 -- src/rewriter.rt:133:9
@@ -97,7 +113,13 @@ loop-less c =
 
 -- src/rewriter.rt:120:5
 loop-again : tie.Need-loop-again Inv-loop μ-loop
-loop-again c = row-next (c .before .before .before .before .before .before .before .before .before .loop .inv) (c .before .before .before .before .before .before .before .before .first-field .ensures) _ (c .before .before .before .before .before .before .before .due .ensures .0) _ (c .before .before .before .before .move-part .ensures) _ (c .before .if1 .left) (c .behind-field .ensures) (c .before .before .before .before .move-part .kept .0)
+loop-again c =
+    let at-if1 = c .before in
+    let at-move-part = at-if1 .before .before .before in
+    let at-due = at-move-part .before .before .before in
+    let at-first-field = at-due .before in
+    let at-loop = at-first-field .before in
+    row-next (at-loop .loop .inv) (at-first-field .first-field .ensures) _ (at-due .due .ensures .0) _ (at-move-part .move-part .ensures) _ (at-if1 .if1 .left) (c .behind-field .ensures) (at-move-part .move-part .kept .0)
 
 pub move-fields-spec : {M : Type 1} → statement M
 move-fields-spec =

@@ -54,17 +54,25 @@ due-requires c κs = c .before .before .before .before .loop .inv .0 .stands .al
 -- src/rewriter.rt:64:17
 add-place : tie.Need-add-place Inv-loop μ-loop
 add-place c =
-    let f = c .before .before .first-element in
-    let l = c .before .before .before .before .before .loop in
-    let h = turn-most (l .rest) (c .before .before .before .before .before .before .before .before .before .args .old .now) (f .result) (l .place) _ (l .inv .0) (f .ensures) (c .before .before .before .if2 .taken) _ (c .due .ensures .0) in
+    let at-first-element = c .before .before in
+    let at-if2 = at-first-element .before in
+    let at-loop = at-if2 .before .before in
+    let start = at-loop .before .before .before .before in
+    let f = at-first-element .first-element in
+    let l = at-loop .loop in
+    let h = turn-most (l .rest) (start .args .old .now) (f .result) (l .place) _ (l .inv .0) (f .ensures) (at-if2 .if2 .taken) _ (c .due .ensures .0) in
     omega (arith, h .0, h .1)
 
 -- src/rewriter.rt:64:17
 add-place-2 : tie.Need-add-place-2 Inv-loop μ-loop
 add-place-2 c =
-    let f = c .before .before .first-element in
-    let l = c .before .before .before .before .before .loop in
-    let h = turn-most (l .rest) (c .before .before .before .before .before .before .before .before .before .args .old .now) (f .result) (l .place) _ (l .inv .0) (f .ensures) (c .before .before .before .if2 .taken) _ (c .due .ensures .0) in
+    let at-first-element = c .before .before in
+    let at-if2 = at-first-element .before in
+    let at-loop = at-if2 .before .before in
+    let start = at-loop .before .before .before .before in
+    let f = at-first-element .first-element in
+    let l = at-loop .loop in
+    let h = turn-most (l .rest) (start .args .old .now) (f .result) (l .place) _ (l .inv .0) (f .ensures) (at-if2 .if2 .taken) _ (c .due .ensures .0) in
     omega (arith, h .0, h .1)
 
 -- src/rewriter.rt:65:9
@@ -73,13 +81,19 @@ put-low-first-requires c κs = search needs
 
 -- src/rewriter.rt:66:16
 add-next : tie.Need-add-next Inv-loop μ-loop
-add-next c = omega (arith, (c .before .before .before .before .before .before .before .before .before .loop .inv .2), (c .before .before .before .before .before .before .before .before .before .before .before .before .before .pre .1), (c .before .before .before .before .before .before .before .before .before .before .before .before .before .pre .2), few (c .before .before .before .before .before .before .before .before .before .before .before .before .before .args .elements) (c .before .before .before .before .before .before .before .before .before .before .before .before .before .args .old .now) (c .before .before .before .before .before .before .before .before .before .before .before .before .before .pre .0))
+add-next c =
+    let at-loop = c .before .before .before .before .before .before .before .before .before in
+    let start = at-loop .before .before .before .before in
+    omega (arith, (at-loop .loop .inv .2), (start .pre .1), (start .pre .2), few (start .args .elements) (start .args .old .now) (start .pre .0))
 
 -- src/rewriter.rt:67:9
 behind-requires : tie.Need-behind-requires Inv-loop μ-loop
 behind-requires c κs =
-    let s = c .before .before .before .before .before .before .before .before .before .loop .inv .0 .stands in
-    (c .before .before .before .before .before .before .before .if2 .taken, omega (arith, offset-inside (c .before .before .before .before .before .before .before .before .before .loop .rest) (c .before .before .before .before .before .before .before .before .before .before .before .before .before .args .old .now) s (c .before .before .before .before .before .before .before .if2 .taken), s .short))
+    let at-if2 = c .before .before .before .before .before .before .before in
+    let at-loop = at-if2 .before .before in
+    let start = at-loop .before .before .before .before in
+    let s = at-loop .loop .inv .0 .stands in
+    (at-if2 .if2 .taken, omega (arith, offset-inside (at-loop .loop .rest) (start .args .old .now) s (at-if2 .if2 .taken), s .short))
 
 -- src/rewriter.rt:60:5
 loop-less : tie.Need-loop-less Inv-loop μ-loop
@@ -88,10 +102,16 @@ loop-less c = rw (c .behind .ensures) (omega (arith, (c .before .before .before 
 -- src/rewriter.rt:60:5
 loop-again : tie.Need-loop-again Inv-loop μ-loop
 loop-again c =
-    let f = c .before .before .before .before .before .before .before .first-element in
-    let l = c .before .before .before .before .before .before .before .before .before .before .loop in
-    let t = listing-turn (l .rest) (c .before .before .before .before .before .before .before .before .before .before .before .before .before .before .args .old .now) (f .result) (l .place) _ (l .inv .0) (f .ensures) (c .before .before .before .before .before .before .before .before .if2 .taken) _ (c .behind .ensures) _ (c .before .before .before .before .before .due .ensures .0) _ _ _ _ _ (c .before .before .before .put-low-first .ensures) (l .inv .1) in
-    (t .0, t .1, rw (c .behind .ensures) (omega (arith, l .inv .2, (c .before .before .before .before .before .before .before .before .before .before .before .before .before .before .pre .2), (c .before .before .before .before .before .before .before .before .if2 .taken))), (c .before .before .before .put-low-first .kept .0) ∙ l .inv .3)
+    let at-put-low-first = c .before .before .before in
+    let at-due = at-put-low-first .before .before in
+    let at-first-element = at-due .before .before in
+    let at-if2 = at-first-element .before in
+    let at-loop = at-if2 .before .before in
+    let start = at-loop .before .before .before .before in
+    let f = at-first-element .first-element in
+    let l = at-loop .loop in
+    let t = listing-turn (l .rest) (start .args .old .now) (f .result) (l .place) _ (l .inv .0) (f .ensures) (at-if2 .if2 .taken) _ (c .behind .ensures) _ (at-due .due .ensures .0) _ _ _ _ _ (at-put-low-first .put-low-first .ensures) (l .inv .1) in
+    (t .0, t .1, rw (c .behind .ensures) (omega (arith, l .inv .2, (start .pre .2), (at-if2 .if2 .taken))), (at-put-low-first .put-low-first .kept .0) ∙ l .inv .3)
 
 -- src/rewriter.rt:43:1
 same-length : tie.Need-same-length Inv-loop μ-loop

@@ -3,3 +3,4 @@ pub mod ElementLaws
 pub mod StepLaws
 pub mod RewriteLaws
 pub mod RowLaws
+pub mod BackLaws

@@ -109,7 +109,7 @@ less-none n = omega arith
 
 -- ---- a loop that puts a number's bytes from its last place down to its first
 
-set-over : (out : List ℕ) (at i b : ℕ) (x : List ℕ) → i < at → set (over out at x) i b ≡ over (set out i b) at x
+pub set-over : (out : List ℕ) (at i b : ℕ) (x : List ℕ) → i < at → set (over out at x) i b ≡ over (set out i b) at x
 unfolding over
 set-over out at i b [] h = refl
 set-over out at i b (y ∷ x) h = set-over (set out at y) (at + 1) i b x (omega arith) ∙ ap (λ (z : List ℕ). over z (at + 1) x) (set-comm out at i y b (λ e. omega arith))

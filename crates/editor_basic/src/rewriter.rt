@@ -11,11 +11,11 @@ use crate::fields::first_field;
 use crate::mover::move_part;
 use crate::mover::put_low_first;
 ghost use mathlib.Core.Path.{_≡_};
-ghost use mathlib.Core.List.{_++_};
+ghost use mathlib.Core.List.{[], _++_};
 ghost use Prim.Native.Nat.{_+_, _-_, _*_, _<_, _≤_, _^_};
 ghost use lib.ListN.{length};
-ghost use Rattle.meaning.specs.Offsets.{table};
-ghost use Rattle.meaning.specs.Written.{layout, ends};
+ghost use Rattle.meaning.specs.Offsets.{table, backTable};
+ghost use Rattle.meaning.specs.Written.{layout, ends, unless, fieldEnds};
 ghost use Rattle.editor_basic.specs.Puts.{over};
 ghost use Rattle.editor_basic.specs.Elements.{elementsIn, Standing, restNow, lengthNow};
 ghost use Rattle.editor_basic.specs.Rows.{fieldsIn, StandingRow};
@@ -130,6 +130,53 @@ pub fn move_fields(
         if last {
             return place;
         }
+        rest = behind_field(rest, field);
+    }
+}
+
+// The end of a field in front of the offsets that are written already, which begin at a place; none where the field is fixed. Where they
+// begin then.
+fn put_end(out: &mut [u8], fixed: bool, below: usize, width: usize, end: usize) -> usize
+    requires { ⌜ length (unless fixed end []) * width ≤ below ⌝ }
+    ensures bytes { λ r. ⌜ now (out .exit) ≡ over (now (out .entry)) r (backTable width (unless fixed end [])) ⌝ }
+    ensures place { λ r. ⌜ r + length (unless fixed end []) * width ≡ below ⌝ }
+{
+    if fixed {
+        return below;
+    }
+    let first = below - width;
+    put_low_first(out, first, width, end);
+    first
+}
+
+// The ends of fields that lie from the place `to` of their structure on, as offsets in front of those that begin at a place. Where they
+// begin then.
+pub fn rewrite_field_ends(
+    text: &[u8],
+    tables: &[u16],
+    old: &[u8],
+    row: Row,
+    width: usize,
+    out: &mut [u8],
+    below: usize,
+    to: usize,
+) -> usize
+    requires { ⌜ StandingRow (now text) (now tables) row (now old) × (to < 2 ^ 30) × (length (fieldEnds to (fieldsIn (now text) row (now old))) * width ≤ below) ⌝ }
+    ensures bytes { λ r. ⌜ now (out .exit) ≡ over (now (out .entry)) r (backTable width (fieldEnds to (fieldsIn (now (text .entry)) row (now (old .entry))))) ⌝ }
+    ensures place { λ r. ⌜ r + length (fieldEnds to (fieldsIn (now (text .entry)) row (now (old .entry)))) * width ≡ below ⌝ }
+{
+    let mut rest = row;
+    let mut first = below;
+    let mut place = to;
+    loop {
+        let field = first_field(text, tables, old, rest);
+        let last = field.last;
+        if last {
+            return first;
+        }
+        let size = field.stop - field.start;
+        place = place + due(place, field.alignment) + size;
+        first = put_end(out, field.fixed, first, width, place);
         rest = behind_field(rest, field);
     }
 }

@@ -10,7 +10,7 @@ use Rattle.meaning.specs.Offsets.{writtenWidth, table}
 use Rattle.meaning.specs.Padding.{padding, zeros}
 use Rattle.meaning.specs.Written.{Piece, stop, layout, ends}
 use Rattle.meaning.proofs.NumberLaws.{length-bytes}
-use Rattle.meaning.proofs.LayoutLaws.{layout-cons, placed, length-placed, length-table, length-ends}
+use Rattle.meaning.proofs.LayoutLaws.{length-table, length-ends}
 use Rattle.meaning_writing.specs.Shapes.{part}
 use Rattle.meaning_writing.specs.Edited.{elementsFrom}
 use Rattle.framing_offset_size.specs.Widths.{widthOf}
@@ -22,7 +22,8 @@ use Rattle.editor_basic.specs.declared.elements.Child.{Child}
 use Rattle.editor_basic.specs.Puts.{over}
 use Rattle.editor_basic.specs.Elements.{elementsIn, behindOf, Standing, FirstOf, countNow, bodyNow, widthNow, restNow, lengthNow}
 use Rattle.editor_basic.proofs.PutLaws.{over-append, over-both, over-none}
-use Rattle.editor_basic.proofs.ElementLaws.{few, elements-none, firstPiece, elements-first, stop-is, first-length, layout-most}
+use Rattle.editor_basic.proofs.ElementLaws.{few, elements-none, firstPiece, elements-first, layout-most}
+use Rattle.editor_basic.proofs.StepLaws.{stop-stride, total-next, bytes-next}
 
 -- elements from the place `to` on: what they end at, not far from where they began
 pub record Reaching (e : Elements) (l : List ℕ) (to end : ℕ) : Type 0 where
@@ -45,27 +46,19 @@ module _ (e : Elements) (l : List ℕ) (c : Child) (to end : ℕ) (r : Reaching 
   abbrev step : ℕ
   step = padding to (e .alignment) + (c .end - c .start)
 
+  abbrev others : List Piece
+  others = elementsIn (behindOf e (c .end)) l
+
   stop-step : stop to (firstPiece e l c) ≡ to + step
-  stop-step = stop-is to (e .alignment) (part (c .start) (c .end) l) ∙ (let a = first-length e l c f in omega arith)
-
-  layout-step : layout to (elementsIn e l) ≡ placed to (firstPiece e l c) ++ layout (to + step) (elementsIn (behindOf e (c .end)) l)
-  layout-step =
-      ap (λ (z : List Piece). layout to z) (elements-first e l c f h) ∙ layout-cons to (firstPiece e l c) (elementsIn (behindOf e (c .end)) l)
-      ∙ sym (append-assoc (zeros (padding to (e .alignment))) (part (c .start) (c .end) l) (layout (stop to (firstPiece e l c)) (elementsIn (behindOf e (c .end)) l)))
-      ∙ ap (λ (k : ℕ). placed to (firstPiece e l c) ++ layout k (elementsIn (behindOf e (c .end)) l)) stop-step
-
-  length-step : length (placed to (firstPiece e l c)) ≡ step
-  length-step = length-placed to (firstPiece e l c) ∙ ap (λ (n : ℕ). padding to (e .alignment) + n) (first-length e l c f)
+  stop-step = stop-stride l (e .alignment) false (c .start) (c .end) (elementsIn e l) others (elements-first e l c f h) (f .inside) to
 
   pub reaching-next : (k : ℕ) → k ≡ to + step → Reaching (behindOf e (c .end)) l k end
   reaching-next k q = record {
     stands = f .behind;
     total =
-        ap (λ (i : ℕ). i + length (layout i (elementsIn (behindOf e (c .end)) l))) q
-        ∙ (let a = ap length layout-step ∙ length-append (placed to (firstPiece e l c)) (layout (to + step) (elementsIn (behindOf e (c .end)) l)) in
-        let b = length-step in
-        let d = r .total in
-        omega arith);
+        ap (λ (i : ℕ). i + length (layout i others)) q
+        ∙ total-next l (e .alignment) false (c .start) (c .end) (elementsIn e l) others (elements-first e l c f h) (f .inside) to
+        ∙ r .total;
     near = r .near;
   }
 
@@ -76,14 +69,6 @@ module _ (e : Elements) (l : List ℕ) (c : Child) (to end : ℕ) (r : Reaching 
   -- what a turn adds up, by the padding that it finds
   pub turn-most : (pad : ℕ) → pad ≡ padding to (e .alignment) → (c .start ≤ c .end) × (to + (pad + (c .end - c .start)) < 2000000000)
   turn-most pad q = (f .order, omega (arith, reaching-step, r .near))
-
-  pub moving-next : (out whole : List ℕ) (at next pad : ℕ) → over out at (layout to (elementsIn e l)) ≡ whole → pad ≡ padding to (e .alignment) → next ≡ at + step
-      → over (over out at (zeros pad ++ take (c .end - c .start) (drop (c .start) l))) next (layout (to + step) (elementsIn (behindOf e (c .end)) l)) ≡ whole
-  unfolding part
-  moving-next out whole at next pad g q n =
-      ap (λ (i : ℕ). over (over out at (zeros i ++ part (c .start) (c .end) l)) next (layout (to + step) (elementsIn (behindOf e (c .end)) l))) q
-      ∙ over-append out at (placed to (firstPiece e l c)) (layout (to + step) (elementsIn (behindOf e (c .end)) l)) next (let a = length-step in omega arith)
-      ∙ ap (λ (z : List ℕ). over out at z) (sym layout-step) ∙ g
 
   table-step : (w : ℕ) → table w (ends to (elementsIn e l)) ≡ bytes w (to + step) ++ table w (ends (to + step) (elementsIn (behindOf e (c .end)) l))
   unfolding table ends
@@ -106,7 +91,7 @@ module _ (e : Elements) (l : List ℕ) (c : Child) (to end : ℕ) (r : Reaching 
         × (over out′ (next + (pad + (c .end - c .start))) (layout (to + (pad + (c .end - c .start))) (elementsIn e′ l)) ≡ whole)
     moving-turn out out′ whole next o g =
         let k : to + (pad + (c .end - c .start)) ≡ to + step = rw p in
-        (rw q (reaching-next _ k), rw (q, o, k) (moving-next out whole next (next + (pad + (c .end - c .start))) pad g p (rw p)))
+        (rw q (reaching-next _ k), rw (q, o, k) (bytes-next l (e .alignment) false (c .start) (c .end) (elementsIn e l) others (elements-first e l c f h) (f .inside) to out whole next (next + (pad + (c .end - c .start))) pad g p (rw p)))
 
     pub listing-turn : (out out′ whole : List ℕ) (next w : ℕ) → out′ ≡ over out next (bytes w (to + pad + (c .end - c .start)))
         → over out next (table w (ends to (elementsIn e l))) ≡ whole

@@ -4,3 +4,4 @@ pub mod StepLaws
 pub mod RewriteLaws
 pub mod RowLaws
 pub mod BackLaws
+pub mod WrittenLaws

@@ -14,6 +14,7 @@ use Rattle.meaning.specs.Reading.{within}
 use Rattle.container_depths.specs.Opening.{depthsOf, Raises}
 use Rattle.container_depths.specs.declared.ContainerDepths.{ContainerDepths}
 use Rattle.container_depths.specs.declared.Raised.{Raised}
+use Rattle.container_depths.proofs.Levels.{total-most, total-opened, level}
 use Rattle.reader_basic.specs.Answers.{Done}
 use Rattle.reader_basic.specs.Parts.{Within, Inside}
 use Rattle.reader_basic.specs.declared.Answer.{Answer}
@@ -30,22 +31,8 @@ told {o} {end} {len} {n} {l} {l′} e d = subst⁻¹ (λ (x : Answer). Done o en
 pub arrived : {o : Outcome} {end len n : ℕ} {l l′ l″ : List ℕ} {r s : Answer} → l′ ≡ l″ → r ≡ s → Done o end len n l l″ s → Done o end len n l l′ r
 arrived e f d = rw (e, f) d
 
-pub total-most : (d : Depths) → depthRefusal d ≡ 0 → total d ≤ 64
-unfolding depthRefusal
-total-most d h = go (ltb 32 (d .structure)) (ltb 32 (d .array)) (ltb 64 (total d)) refl h
-  where
-    go : (x y z : Bool) → ltb 64 (total d) ≡ z → _≡_ {A = ℕ} (pick x 10 (pick y 11 (pick z 12 0))) 0 → total d ≤ 64
-    go true y z e h = absurd (omega arith)
-    go false true z e h = absurd (omega arith)
-    go false false true e h = absurd (omega arith)
-    go false false false e h = ltb-false 64 (total d) e
-
 pub few-variants : {len place position : ℕ} {d : ContainerDepths} → Within len place position d → d .variant ≤ 64
 few-variants {d = d} w = omega (arith, total-most (depthsOf d) (w .shallow))
-
--- what is left of the depth
-abbrev pub level : ContainerDepths → ℕ
-level d = 64 - total (depthsOf d)
 
 -- ---- a raise of the depths, as a context
 
@@ -79,12 +66,6 @@ module _ {x : Opened} {c c′ : Context} (d : Deeper x c c′) where
 
   pub level-falls : level (c′ .depths) + 1 ≡ level (c .depths)
   level-falls = omega (arith, ap total (d .depths), total-opened x (depthsOf (c .depths)), total-most (depthsOf (c′ .depths)) (d .shallow))
-    where
-      total-opened : (x : Opened) (d : Depths) → total (opened x d) ≡ total d + 1
-      total-opened Depth.structure d = omega arith
-      total-opened Depth.array d = omega arith
-      total-opened Depth.variant d = omega arith
-      total-opened Depth.maybe d = omega arith
 
   pub inside-deeper : {len place : ℕ} → Inside len place c → Inside len place c′
   inside-deeper w = record { in-frame = w .in-frame; near = omega (arith, d .position, w .near); shallow = d .shallow }

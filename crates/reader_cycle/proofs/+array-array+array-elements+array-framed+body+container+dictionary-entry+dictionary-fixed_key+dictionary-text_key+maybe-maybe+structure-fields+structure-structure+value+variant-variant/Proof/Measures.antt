@@ -1,6 +1,6 @@
 -- What falls, for each member; what each is given at a measure t, and what a call of it asks below t.
 use Prim.Native.Nat.{_*_, _+_, _<_, ℕ}
-use Rattle.reader_cycle.proofs.Deepening.{level}
+use Rattle.container_depths.proofs.Levels.{level}
 use borrow.Fn.Kinds.{In}
 use borrow.Fn.PlainCycle.{Measures, and, falls, is}
 use Rattle.reader_cycle.proofs as of

@@ -1,3 +1,4 @@
+-- `writer::whole` meets its contract. Assumes nothing.
 use native.Mathlib.Omega.{arith}
 use mathlib.Core.Path.{refl, ap, sym, _∙_}
 use Rattle.signature.proofs.TreeLaws.{described-as, front, front-described}

@@ -1,3 +1,4 @@
+-- `writer::write` meets its contract. Assumes nothing.
 use lib.Seq.{length-take-le}
 use native.Mathlib.Omega.{arith}
 use mathlib.Core.Path.{refl, ap, sym, _∙_}

@@ -1,3 +1,5 @@
+-- The writers, which call each other as containers nest, meet their contracts. What falls: the containers that may still be opened,
+-- and then the writers in order. Assumes nothing.
 use borrow.Author.Needs.{needs}
 use native.Mathlib.Omega.{arith}
 use mathlib.Core.List.{[]}

@@ -1,3 +1,4 @@
+-- `writer_basic::basic::basic_value` meets its contract. Assumes nothing.
 use Rattle.writer_basic.proofs.Answers.{key-aligned, key-as, basic-number, basic-text, basic-bool}
 use native.Mathlib.Omega.{arith}
 use borrow.Author.Needs.{needs}

@@ -1,3 +1,4 @@
+-- `writer_basic::basic::boolean` meets its contract. Assumes nothing.
 use Rattle.writer_basic.proofs.Answers.{bool-short, bool-other, bool-large, bool-made}
 use native.Mathlib.Omega.{arith}
 use borrow.Author.Needs.{needs}

@@ -1,3 +1,4 @@
+-- `writer_basic::basic::number` meets its contract. Assumes nothing.
 use Rattle.writer_basic.proofs.Answers.{number-short, number-other, number-large, number-made, aligns-small}
 use native.Mathlib.Omega.{arith}
 use mathlib.Core.Path.{refl, sym, _∙_}

@@ -1,3 +1,4 @@
+-- `writer_basic::basic::plain_at` meets its contract. Assumes nothing.
 use Rattle.writer_basic.proofs.Answers.{opens-short, opens-other, opens-carrying, opens-true}
 use native.Mathlib.Omega.{arith}
 use borrow.Author.Needs.{needs}

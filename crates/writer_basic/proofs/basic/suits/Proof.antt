@@ -1,3 +1,4 @@
+-- `writer_basic::basic::suits` meets its contract. Assumes nothing.
 use Rattle.writer_basic.proofs.Answers.{eight-fits}
 use Rattle.writer_basic.proofs.Puts.{eight-left}
 use native.Mathlib.Omega.{arith}

@@ -1,3 +1,4 @@
+-- `writer_basic::basic::text_at` meets its contract. Assumes nothing.
 use Rattle.writer_basic.proofs.Answers.{viewed-short, viewed-other, viewed-outside, viewed-unsound, viewed-right}
 use native.Mathlib.Omega.{arith}
 use borrow.Author.Needs.{needs}

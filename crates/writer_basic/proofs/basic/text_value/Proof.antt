@@ -1,3 +1,4 @@
+-- `writer_basic::basic::text_value` meets its contract. Assumes nothing.
 use Rattle.writer_basic.proofs.Answers.{text-wrong, text-made}
 use native.Mathlib.Omega.{arith}
 use mathlib.Core.Path.{refl, sym, _∙_}

@@ -1,3 +1,4 @@
+-- `writer_basic::closing::array_end` meets its contract. Assumes nothing.
 use Rattle.writer_basic.proofs.Rounds.{array-stop, array-fixed, array-table, product}
 use native.Mathlib.Omega.{arith}
 use borrow.Author.Needs.{needs}

@@ -1,3 +1,4 @@
+-- `writer_basic::closing::ended` meets its contract. Assumes nothing.
 use Rattle.writer_basic.proofs.Rounds.{ended-stop, ended-shut, ended-open}
 use native.Mathlib.Omega.{arith}
 use borrow.Author.Needs.{needs}

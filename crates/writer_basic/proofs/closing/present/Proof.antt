@@ -1,3 +1,4 @@
+-- `writer_basic::closing::present` meets its contract. Assumes nothing.
 use Rattle.writer_basic.proofs.Rounds.{present-stop, present-fixed, present-other}
 use native.Mathlib.Omega.{arith}
 use borrow.Author.Needs.{needs}

@@ -1,3 +1,4 @@
+-- `writer_basic::closing::structure_end` meets its contract. Assumes nothing.
 use Rattle.writer_basic.proofs.Rounds.{structure-stop, structure-padded, structure-table, product}
 use native.Mathlib.Omega.{arith}
 use borrow.Author.Needs.{needs}

@@ -1,3 +1,4 @@
+-- `writer_basic::closing::variant_end` meets its contract. Assumes nothing.
 use Rattle.writer_basic.proofs.Rounds.{value-stop, value-shut, value-open, part-length}
 use native.Mathlib.Omega.{arith}
 use borrow.Author.Needs.{needs}

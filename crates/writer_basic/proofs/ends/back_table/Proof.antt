@@ -1,3 +1,4 @@
+-- `writer_basic::ends::back_table` meets its contract. Assumes nothing.
 use Rattle.writer_basic.proofs.TableLaws.{BackLeft, back-begin, back-next, back-done, table-past}
 use native.Mathlib.Omega.{arith}
 use mathlib.Core.Path.{refl, sym, _∙_}

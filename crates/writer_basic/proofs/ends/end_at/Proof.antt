@@ -1,3 +1,4 @@
+-- `writer_basic::ends::end_at` meets its contract. Assumes nothing.
 use Rattle.writer_basic.proofs.EndLaws.{look-near, look-far}
 use native.Mathlib.Omega.{arith}
 use mathlib.Core.Path.{refl, sym, _∙_}

@@ -1,3 +1,4 @@
+-- `writer_basic::ends::keep` meets its contract. Assumes nothing.
 use Rattle.writer_basic.proofs.EndLaws.{kept-not, kept-one}
 use native.Mathlib.Omega.{arith}
 use borrow.Author.Needs.{needs}

@@ -1,3 +1,4 @@
+-- `writer_basic::ends::put_end` meets its contract. Assumes nothing.
 use lib.ListN.{length-set}
 use Rattle.writer_basic.proofs.EndLaws.{put-near, put-far}
 use native.Mathlib.Omega.{arith}

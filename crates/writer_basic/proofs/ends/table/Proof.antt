@@ -1,3 +1,4 @@
+-- `writer_basic::ends::table` meets its contract. Assumes nothing.
 use Rattle.writer_basic.proofs.TableLaws.{table-past, table-turned}
 use native.Mathlib.Omega.{arith}
 use borrow.Author.Needs.{needs}

@@ -1,3 +1,4 @@
+-- `writer_basic::ends::turn_ends` meets its contract. Assumes nothing.
 use Rattle.writer_basic.proofs.TableLaws.{TurnLeft, turn-begin, turn-next, turn-done}
 use native.Mathlib.Omega.{arith}
 use mathlib.Core.Path.{refl, sym, _∙_}

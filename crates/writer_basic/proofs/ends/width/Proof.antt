@@ -1,3 +1,4 @@
+-- `writer_basic::ends::width` meets its contract. Assumes nothing.
 use Rattle.writer_basic.proofs.Puts.{width-1, width-2, width-4}
 use native.Mathlib.Omega.{arith}
 use borrow.Author.Needs.{needs}

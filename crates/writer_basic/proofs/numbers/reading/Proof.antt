@@ -1,3 +1,4 @@
+-- `writer_basic::numbers::reading` meets its contract. Assumes nothing.
 use native.Mathlib.Omega.{arith}
 use borrow.Author.Tests.{not-true, not-false}
 use Rattle.writer_basic.proofs.Openings.{maybe-empty, maybe-neither, maybe-deep}

@@ -1,3 +1,4 @@
+-- `writer_basic::store::copy` meets its contract. Assumes nothing.
 use native.Mathlib.Omega.{arith}
 use borrow.Author.Needs.{needs}
 use native.Mathlib.Nat.{add-zero}

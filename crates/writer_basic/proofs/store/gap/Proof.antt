@@ -1,3 +1,4 @@
+-- `writer_basic::store::gap` meets its contract. Assumes nothing.
 use Rattle.writer_basic.proofs.Puts.{gap-1, gap-2, gap-4, gap-8, eight-left}
 use native.Mathlib.Omega.{arith}
 use borrow.Author.Needs.{needs}

@@ -1,3 +1,4 @@
+-- `writer_basic::store::number_bytes` meets its contract. Assumes nothing.
 use mathlib.Core.Path.{sym}
 use Rattle.writer_basic.proofs.Puts.{puts-out}
 use borrow.Author.Needs.{needs}

@@ -1,3 +1,4 @@
+-- `writer_basic::store::pad` meets its contract. Assumes nothing.
 use native.Mathlib.Omega.{arith}
 use borrow.Author.Needs.{needs}
 use Rattle.writer_basic.proofs.store.pad.Statement.{statement}

@@ -1,9 +1,12 @@
-// Reads frames and answers them as the oracle does. A question is a line `TYPE l|b POSITION HEX`, parted by single blanks, `-` for no
-// bytes; the last line may have no line end. Its answer is a line `REFUSAL USED NEVENTS kind:place:payload ..`, without the events where
-// there are more than 73,728 of them. A line that is not understood, or is longer than 2,097,152 bytes, ends the program with a message.
+// Answers lines of standard input: frames as the oracle does (`frame`), and questions of writing (`write`). A line's words are parted by single
+// blanks; the last line may have no line end. A line that is not understood, or is longer than 2,097,152 bytes, ends the program with a
+// message.
+mod frame;
 mod print;
 mod words;
+mod write;
 
+use crate::print::Step;
 use lines::front;
 use lines::gather;
 use std::num::wrapping_add_u64;
@@ -18,36 +21,7 @@ pub struct Progress {
     going: bool,
 }
 
-// Whether a line was understood, and how many bytes of the output are filled.
-pub struct Step {
-    understood: bool,
-    at: usize,
-}
-
-// The answer to a frame.
-fn read(
-    signature: &[u8],
-    big: bool,
-    position: usize,
-    frame: &[u8],
-    room: &mut [u64; 221184],
-    out: &mut [u8; 65536],
-    at: usize,
-) -> usize
-    requires { ⌜ at ≤ 65536 ⌝ }
-    ensures { λ r. ⌜ r ≤ 65536 ⌝ }
-{
-    let r = reader::read(signature, big, position, frame, room);
-    let refusal = r.refusal;
-    if refusal == 13 {
-        let s = reader::size(signature, big, position, frame);
-        return print::counts(out, at, s.refusal, s.used, s.count, b'\n');
-    }
-    let count = r.count;
-    let next = print::counts(out, at, refusal, r.used, count, print::behind(0, count));
-    print::events(out, next, room, count)
-}
-
+// The answer to a line. A line of writing has its name in front.
 fn answer(
     line: &[u8],
     frame: &mut [u8],
@@ -58,36 +32,11 @@ fn answer(
     requires { ⌜ (length (now frame) ≡ 131072) × (at ≤ 65536) ⌝ }
     ensures { λ r. ⌜ r .at ≤ 65536 ⌝ }
 {
-    let question = words::understand(line);
-    let signature = question.signature;
-    let bytes = question.bytes;
-    if !question.understood {
-        return Step {
-            understood: false,
-            at,
-        };
+    let named = words::named(line, b"write: ");
+    if 0 < named {
+        return write::answer(&line[named..], frame, room, out, at);
     }
-    let spelt = words::bytes(&line[bytes..], frame);
-    let n = spelt.value;
-    if !spelt.understood {
-        return Step {
-            understood: false,
-            at,
-        };
-    }
-    let next = read(
-        &line[..signature],
-        question.big,
-        question.position,
-        &frame[..n],
-        room,
-        out,
-        at,
-    );
-    Step {
-        understood: true,
-        at: next,
-    }
+    frame::answer(line, frame, room, out, at)
 }
 
 // What goes before a line that is not understood is answered all the same.
@@ -153,7 +102,10 @@ fn answer_block(
 fn complain(number: u64) {
     io::write_all(2, b"line ");
     io::print_decimal(2, number);
-    io::write_all(2, b": a frame is TYPE l|b POSITION HEX\n");
+    io::write_all(
+        2,
+        b": a line is TYPE l|b POSITION HEX, or write: TYPE l|b TEXTS ROOM NUMBER ..\n",
+    );
 }
 
 // The answer to a last line that has no line end.

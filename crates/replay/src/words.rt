@@ -1,17 +1,16 @@
-// The words of a question, and the number and the bytes that they spell.
+// The words of a question, and the numbers and the bytes that they spell.
 use lines::decimal;
 use lines::find;
 ghost use mathlib.Core.Path.{_≡_};
 ghost use Prim.Native.Nat.{_≤_};
 ghost use lib.ListN.{length};
 
-// The length of the type, the byte order, the position, and where the bytes stand.
-pub struct Question {
+// The type and the byte order in front of a question: the length of the type, and where the words behind them stand.
+pub struct Head {
     pub understood: bool,
     pub signature: usize,
     pub big: bool,
-    pub position: usize,
-    pub bytes: usize,
+    pub rest: usize,
 }
 
 // Whether a word spells bytes, and how many.
@@ -29,16 +28,32 @@ fn nothing() -> Spelt
     }
 }
 
-fn unclear() -> Question
-    ensures { λ r. ⌜ (r .signature ≤ 0) × (r .bytes ≤ 0) ⌝ }
+fn headless() -> Head
+    ensures { λ r. ⌜ (r .signature ≤ 0) × (r .rest ≤ 0) ⌝ }
 {
-    Question {
+    Head {
         understood: false,
         signature: 0,
         big: false,
-        position: 0,
-        bytes: 0,
+        rest: 0,
     }
+}
+
+// The length of a name, if the line begins with it, or 0.
+pub fn named(line: &[u8], name: &[u8]) -> usize
+    ensures { λ r. ⌜ r ≤ length (now (line .entry)) ⌝ }
+{
+    if line.len() < name.len() {
+        return 0;
+    }
+    let mut i = 0;
+    while i < name.len() {
+        if line[i] != name[i] {
+            return 0;
+        }
+        i += 1;
+    }
+    i
 }
 
 // A byte order, and the blank behind it.
@@ -52,29 +67,22 @@ fn ordered(order: u8, next: u8) -> bool {
     order == b'b'
 }
 
-pub fn understand(line: &[u8]) -> Question
-    ensures { λ r. ⌜ (r .signature ≤ length (now (line .entry))) × (r .bytes ≤ length (now (line .entry))) ⌝ }
+pub fn understand(line: &[u8]) -> Head
+    ensures { λ r. ⌜ (r .signature ≤ length (now (line .entry))) × (r .rest ≤ length (now (line .entry))) ⌝ }
 {
     let signature = find(line, b' ');
-    if line.len() - signature < 6 {
-        return unclear();
+    if line.len() - signature < 3 {
+        return headless();
     }
     let order = line[signature + 1];
-    let start = signature + 3;
     if !ordered(order, line[signature + 2]) {
-        return unclear();
+        return headless();
     }
-    let end = start + find(&line[start..], b' ');
-    if line.len() <= end {
-        return unclear();
-    }
-    let position = decimal(&line[start..end]);
-    Question {
-        understood: position.understood,
+    Head {
+        understood: true,
         signature,
         big: order == b'b',
-        position: position.value as usize,
-        bytes: end + 1,
+        rest: signature + 3,
     }
 }
 
@@ -97,4 +105,27 @@ pub fn bytes(word: &[u8], frame: &mut [u8]) -> Spelt
         understood: spelt.understood,
         value: spelt.count,
     }
+}
+
+// The numbers of a text, each with a blank before it, put into a row: how many there are, or 0 if it is not understood.
+pub fn numbers(text: &[u8], row: &mut [u64; 221184]) -> usize
+    ensures { λ r. ⌜ r ≤ 221184 ⌝ }
+{
+    let mut count = 0;
+    let mut blank = 0;
+    while blank < text.len() {
+        let start = blank + 1;
+        let end = start + find(&text[start..], b' ');
+        let number = decimal(&text[start..end]);
+        if !number.understood {
+            return 0;
+        }
+        if 221184 <= count {
+            return 0;
+        }
+        row[count] = number.value;
+        count += 1;
+        blank = end;
+    }
+    count
 }

@@ -1,12 +1,15 @@
--- `replay::answer` is safe and ends: what a question and its bytes say lies within the line and the frame. Assumes nothing.
+-- `replay::frame::answer` is safe and ends: what a question and its bytes say lies within the line and the frame. Assumes nothing.
 use mathlib.Core.Path.{sym}
 use native.Mathlib.Omega.{arith}
 use lib.Seq.{length-take-le}
-use Rattle.replay.proofs.answer.Statement.{statement}
-use Rattle.replay.proofs.answer.Tie as tie
+use Rattle.replay.proofs.frame.answer.Statement.{statement}
+use Rattle.replay.proofs.frame.answer.Tie as tie
 
 understand-requires : tie.Need-understand-requires
 understand-requires c κs = omega arith
+
+not-understood-requires : tie.Need-not-understood-requires
+not-understood-requires c κs = omega arith
 
 returns : tie.Need-returns
 returns c = omega arith
@@ -22,6 +25,9 @@ part-bytes-end c = omega arith
 
 bytes-requires : tie.Need-bytes-requires
 bytes-requires c κs = omega arith
+
+not-understood-requires-2 : tie.Need-not-understood-requires-2
+not-understood-requires-2 c κs = omega arith
 
 same-length : tie.Need-same-length
 same-length c = omega arith
@@ -41,6 +47,9 @@ slice-aggregate-read-2 c = sym (length-take-le _ _ (slice-reshare-prefix-read (c
 read-requires : tie.Need-read-requires
 read-requires c κs = omega arith
 
+understood-requires : tie.Need-understood-requires
+understood-requires c κs = omega arith
+
 same-length-2 : tie.Need-same-length-2
 same-length-2 c = omega arith
 
@@ -52,16 +61,19 @@ answer-spec =
     tie.close
     (tie.spec
     understand-requires
+    not-understood-requires
     returns
     sub-bytes
     part-bytes-start
     part-bytes-end
     bytes-requires
+    not-understood-requires-2
     same-length
     returns-2
     slice-aggregate-read
     slice-reshare-prefix-read
     slice-aggregate-read-2
     read-requires
+    understood-requires
     same-length-2
     returns-3)

@@ -10,7 +10,7 @@ ghost use mathlib.Core.Path.{_≡_};
 ghost use Prim.Native.Nat.{_≤_};
 ghost use lib.ListN.{length};
 
-// The answer to a question whose events have the numbers from 1 to `count`.
+// The answer to a question. Of the first `count` numbers all but the room, which stands in front, are those of the events.
 fn write(
     signature: &[u8],
     big: bool,

@@ -11,6 +11,10 @@ use Rattle.framing_offsets.proofs.next.Kinds as next-kinds
 use Rattle.framing_offsets.proofs.next.Reads as next
 use Rattle.framing_offsets.proofs.first.Kinds as first-kinds
 use Rattle.framing_offsets.proofs.first.Reads as first
+use Rattle.framing_offsets.proofs.table.next_in.Kinds as next-in-kinds
+use Rattle.framing_offsets.proofs.table.next_in.Reads as next-in
+use Rattle.framing_offsets.proofs.table.last_in.Kinds as last-in-kinds
+use Rattle.framing_offsets.proofs.table.last_in.Reads as last-in
 use Rattle.framing_offsets.proofs.from_encoded_array.Kinds as from-encoded-array-kinds
 use Rattle.framing_offsets.proofs.from_encoded_array.Reads as from-encoded-array
 
@@ -22,6 +26,12 @@ next-unique κs a z z′ w w′ p q = (p ∙ sym q, refl)
 
 pub first-unique : OneAnswer first-kinds.ps first-kinds.r first.Learnt
 first-unique κs a z z′ w w′ p q = (p ∙ sym q, refl)
+
+pub next-in-unique : OneAnswer next-in-kinds.ps next-in-kinds.r next-in.Learnt
+next-in-unique κs a z z′ w w′ p q = (p ∙ sym q, refl)
+
+pub last-in-unique : OneAnswer last-in-kinds.ps last-in-kinds.r last-in.Learnt
+last-in-unique κs a z z′ w w′ p q = (p ∙ sym q, refl)
 
 same-table : {x : Table} (t u : FramingOffsets) → tableIn t ≡ x → tableIn u ≡ x → t ≡ u
 same-table t u p q =

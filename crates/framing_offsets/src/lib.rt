@@ -1,4 +1,7 @@
 // The table of framing offsets at the end of a container, read where it stands. Ports framing_offsets.rs.
+pub mod table;
+
+use crate::table::next_in;
 use framing_offset_size::FramingOffsetSize;
 use meaning::refusals::MISSING_FRAMING_OFFSET;
 use meaning::refusals::OUT_OF_BOUNDS;
@@ -90,10 +93,14 @@ pub fn next(container: &[u8], offsets: FramingOffsets, i: usize) -> Checked
     if offsets.count <= i {
         return Checked::failed(MISSING_FRAMING_OFFSET);
     }
-    if count(container, start, size) <= i {
+    if container.len() < start {
         return Checked::failed(OUT_OF_BOUNDS);
     }
-    size.offset_at(container, start + i * size.width())
+    let entry = next_in(&container[start..], size, i);
+    if entry.refusal != 0 {
+        return Checked::failed(OUT_OF_BOUNDS);
+    }
+    entry
 }
 
 pub fn first(container: &[u8], offsets: FramingOffsets) -> Checked

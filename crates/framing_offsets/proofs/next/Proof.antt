@@ -1,42 +1,55 @@
--- `framing_offsets::next` gives the i-th offset of a table, as `offsetIn` says. Assumes nothing.
-use Rattle.framing_offset_size.proofs.WidthLaws.{width-positive}
-use Rattle.framing_offsets.proofs.TableLaws.{offset-behind, offset-past, offset-inside, offset-there}
-use Rattle.framing_offsets.specs.Tables.{tableIn}
-use native.Mathlib.Omega.{arith}
+-- That `next` gives what the table says of a number, by the table's own bytes. Assumes nothing.
 use mathlib.Core.Path.{_∙_}
+use Rattle.framing_offset_size.proofs.WidthLaws.{width-positive}
+use Rattle.framing_offsets.specs.Tables.{tableIn}
+use Rattle.framing_offsets.proofs.TableLaws.{offset-behind}
+use Rattle.framing_offsets.proofs.HeldLaws.{offset-beyond, offset-short, offset-held}
 use borrow.Author.Needs.{needs}
 use Rattle.framing_offsets.proofs.next.Statement.{statement}
 use Rattle.framing_offsets.proofs.next.Tie as tie
+use Rattle.framing_offsets.proofs.next.Reads as reads
+use Rattle.framing_offsets.proofs.next.Lts as lts
+use Rattle.framing_offsets.proofs.table.next_in.Reads as next-in-reads
+use Rattle.utils.proofs.Checked.failed.Reads as failed-reads
 
 failed-requires : tie.Need-failed-requires
 failed-requires c κs = search needs
 
 returns : tie.Need-returns
-returns c = c .failed .ensures ∙ offset-behind (tableIn (c .before .before .before .before .args .offsets)) _ (c .before .before .before .before .args .container .now) (c .before .if1 .taken)
-
-count-requires : tie.Need-count-requires
-count-requires c κs = search needs
+returns c = (c .failed .ensures) ∙ offset-behind (tableIn (c .before .before .before .before .args .offsets)) _ (c .before .before .before .before .args .container .now) (c .before .if1 .taken)
 
 failed-requires-2 : tie.Need-failed-requires-2
 failed-requires-2 c κs = search needs
 
 returns-2 : tie.Need-returns-2
-returns-2 c = c .failed2 .ensures ∙ offset-past (tableIn (c .before .before .before .before .before .before .args .offsets)) _ (c .before .before .before .before .before .before .args .container .now) (c .before .before .before .if1 .left) (c .before .before .count .ensures) (width-positive (c .before .before .before .before .before .before .args .offsets .size)) (c .before .if2 .taken)
+returns-2 c =
+    let a = c .before .before .before .before .before .args in
+    (c .failed2 .ensures) ∙ offset-beyond (tableIn (a .offsets)) (a .i) (a .container .now) (c .before .before .if1 .left) (width-positive (a .offsets .size)) (c .before .if2 .taken)
 
-width-requires : tie.Need-width-requires
-width-requires c κs = search needs
+sub-next-in : tie.Need-sub-next-in
+sub-next-in c = search needs
 
-mul-offset-at : tie.Need-mul-offset-at
-mul-offset-at c = rw (c .width .ensures) (omega (arith, offset-inside (tableIn (c .before .before .before .before .before .before .args .offsets)) (c .before .before .before .before .before .before .args .i) (c .before .before .before .before .before .before .args .container .now) (c .before .before .before .if1 .left) (c .before .before .count .ensures) (width-positive (c .before .before .before .before .before .before .args .offsets .size)) (c .before .if2 .left)))
+part-next-in-start : tie.Need-part-next-in-start
+part-next-in-start c = search needs
 
-add-offset-at : tie.Need-add-offset-at
-add-offset-at c = rw (c .width .ensures) (omega (arith, offset-inside (tableIn (c .before .before .before .before .before .before .args .offsets)) (c .before .before .before .before .before .before .args .i) (c .before .before .before .before .before .before .args .container .now) (c .before .before .before .if1 .left) (c .before .before .count .ensures) (width-positive (c .before .before .before .before .before .before .args .offsets .size)) (c .before .if2 .left)))
+part-next-in-end : tie.Need-part-next-in-end
+part-next-in-end c = search needs
 
-offset-at-requires : tie.Need-offset-at-requires
-offset-at-requires c κs = search needs
+next-in-requires : tie.Need-next-in-requires
+next-in-requires c κs = search needs
+
+failed-requires-3 : tie.Need-failed-requires-3
+failed-requires-3 c κs = search needs
 
 returns-3 : tie.Need-returns-3
-returns-3 c = c .offset-at .ensures ∙ rw (c .before .width .ensures) (offset-there (tableIn (c .before .before .before .before .before .before .before .args .offsets)) _ (c .before .before .before .before .before .before .before .args .container .now) (c .before .before .before .before .if1 .left) (c .before .before .before .count .ensures) (width-positive (c .before .before .before .before .before .before .before .args .offsets .size)) (c .before .before .if2 .left))
+returns-3 c =
+    let a = c .before .before .before .before .before .before .before .before .before .args in
+    (c .failed3 .ensures) ∙ offset-short (tableIn (a .offsets)) (a .i) (a .container .now) (c .before .before .before .before .before .before .if1 .left) (width-positive (a .offsets .size)) (c .before .before .before .next-in .ensures) (c .before .if3 .taken)
+
+returns-4 : tie.Need-returns-4
+returns-4 c =
+    let a = c .before .before .before .before .before .before .before .before .args in
+    offset-held (tableIn (a .offsets)) (a .i) (a .container .now) (c .before .before .before .before .before .if1 .left) (width-positive (a .offsets .size)) (c .before .before .next-in .ensures) (c .if3 .left)
 
 pub next-spec : {M : Type 1} → statement M
 next-spec =
@@ -44,11 +57,12 @@ next-spec =
     (tie.spec
     failed-requires
     returns
-    count-requires
     failed-requires-2
     returns-2
-    width-requires
-    mul-offset-at
-    add-offset-at
-    offset-at-requires
-    returns-3)
+    sub-next-in
+    part-next-in-start
+    part-next-in-end
+    next-in-requires
+    failed-requires-3
+    returns-3
+    returns-4)

@@ -1,0 +1,18 @@
+-- That `count_of` counts the offsets that a table's own bytes hold. Assumes nothing.
+use Rattle.framing_offset_size.specs.Widths.{widthOf}
+use Rattle.framing_offsets.proofs.HeldLaws.{count-held}
+use borrow.Author.Needs.{needs}
+use Rattle.framing_offsets.proofs.table.count_of.Statement.{statement}
+use Rattle.framing_offsets.proofs.table.count_of.Tie as tie
+use Rattle.framing_offsets.proofs.table.count_of.Reads as reads
+use Rattle.framing_offsets.proofs.table.count_of.Lts as lts
+use Rattle.framing_offset_size.proofs.FramingOffsetSize.count_in.Reads as count-in-reads
+
+count-in-requires : tie.Need-count-in-requires
+count-in-requires c κs = search needs
+
+returns : tie.Need-returns
+returns c = count-held (widthOf (c .before .before .args .size)) (c .before .before .args .table .now) (c .count-in .ensures)
+
+pub count-of-spec : {M : Type 1} → statement M
+count-of-spec = tie.close (tie.spec count-in-requires returns)

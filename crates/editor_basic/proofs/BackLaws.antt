@@ -22,7 +22,7 @@ use Rattle.meaning.specs.Types.{Fields, last, next}
 use Rattle.signature.specs.Trees.{fieldsAt}
 use Rattle.strict_basic.proofs.TableLaws.{field-place}
 
-mul-add : (a b w : ℕ) → (a + b) * w ≡ a * w + b * w
+pub mul-add : (a b w : ℕ) → (a + b) * w ≡ a * w + b * w
 mul-add a b w = omega arith
 
 -- ---- in front of what is put already
@@ -69,7 +69,7 @@ unfolding backTable
 back-append w true e es = sym (append-nil (backTable w es))
 back-append w false e es = refl
 
-more-length : (fx : Bool) (e : ℕ) (es : List ℕ) → length (unless fx e es) ≡ length es + length (unless fx e [])
+pub more-length : (fx : Bool) (e : ℕ) (es : List ℕ) → length (unless fx e es) ≡ length es + length (unless fx e [])
 more-length true e es = omega arith
 more-length false e es = omega arith
 
@@ -114,7 +114,7 @@ pub ends-begin : (text tables : List ℕ) (row : Row) (l before : List ℕ) (w b
 ends-begin text tables row l before w below to z =
     record { stands = z; near = omega arith; sinks = sinking-begin before w below (fieldEnds to (fieldsIn text row l)) }
 
-some-pieces : (l : List ℕ) (b w : ℕ) (ts : Fields) (k e : ℕ) → 0 < length (rowPieces l b w ts k e)
+pub some-pieces : (l : List ℕ) (b w : ℕ) (ts : Fields) (k e : ℕ) → 0 < length (rowPieces l b w ts k e)
 unfolding rowPieces
 some-pieces l b w (last t) k e = omega arith
 some-pieces l b w (next t ts) k e = omega arith

@@ -4,4 +4,5 @@ pub mod StepLaws
 pub mod RewriteLaws
 pub mod RowLaws
 pub mod BackLaws
+pub mod FinishLaws
 pub mod WrittenLaws

@@ -189,7 +189,7 @@ pub record Sizes (front rest : Elements) (to end w : ℕ) : Type 0 where
   pub low : to ≤ end
   pub high : end < to + 1000000
 
-times : (s : FramingOffsetSize) (n m : ℕ) → n ≤ m → n * widthOf s ≤ 8 * m
+pub times : (s : FramingOffsetSize) (n m : ℕ) → n ≤ m → n * widthOf s ≤ 8 * m
 times U8 n m h = omega arith
 times U16 n m h = omega arith
 times U32 n m h = omega arith

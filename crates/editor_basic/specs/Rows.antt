@@ -1,14 +1,15 @@
 -- The fields of a structure from one of them on. Assumes nothing: these are definitions.
 use mathlib.Core.Path.{_≡_}
-use mathlib.Core.List.{List, [], _∷_}
+use mathlib.Core.List.{List, [], _∷_, _++_, reverse}
 use mathlib.Core.Bool.{Bool, true, false, _&&_}
-use Prim.Native.Nat.{ℕ, _+_, _*_, _≤_, _<_}
+use Prim.Native.Nat.{ℕ, _+_, _-_, _*_, _/_, _≤_, _<_}
 use lib.Dec.{leb}
-use lib.ListN.{length}
+use lib.ListN.{length, drop}
 use Rattle.meaning.specs.Limits.{largestFrame}
 use Rattle.meaning.specs.Padding.{Aligns}
+use Rattle.meaning.specs.Offsets.{writtenWidth, backTable, entries}
 use Rattle.meaning.specs.Types.{Tree, Fields, last, next, alignment, fixed, fixedSize}
-use Rattle.meaning.specs.Written.{Piece}
+use Rattle.meaning.specs.Written.{Piece, layout, fieldEnds}
 use Rattle.meaning_writing.specs.Shapes.{Shape, shapeOf, part, behindPadding, fixedEnd, lastEnd, fieldEnd, offsetsLeft}
 use Rattle.meaning_writing.specs.Edited.{foundPiece}
 use Rattle.signature.specs.Trees.{fieldsAt, Rowed}
@@ -86,3 +87,35 @@ pub record FirstField (text tables : List ℕ) (r : Row) (l : List ℕ) (f : Fie
   pub inside : f .stop ≤ length l
   pub alone : f .last ≡ true → fieldsIn text r l ≡ foundField f l ∷ []
   pub rest : f .last ≡ false → RestOf text tables r l f
+
+-- The ends of the fields in front of one whose offset ends at e, if it has one: their offsets stand from there on, the last in front.
+abbrev pub keptEnds : ℕ → ℕ → List ℕ → List ℕ
+keptEnds e w l = reverse (entries ((length l - e) / w) w (drop e l))
+
+-- A structure whose last field ends at the place `to` now: the width of its offsets, what stands behind that place, and its length.
+module _ (e w : ℕ) (l : List ℕ) (to : ℕ) where
+  abbrev pub lastWidth : ℕ
+  lastWidth = writtenWidth to (length (keptEnds e w l))
+
+  abbrev pub lastNow : List ℕ
+  lastNow = backTable lastWidth (keptEnds e w l)
+
+  abbrev pub lastLengthNow : ℕ
+  lastLengthNow = to + length (keptEnds e w l) * lastWidth
+
+-- The same of a structure whose changed field has others behind it, which are laid out from there.
+module _ (text : List ℕ) (rest : Row) (l : List ℕ) (to : ℕ) where
+  abbrev pub rowEnds : List ℕ
+  rowEnds = keptEnds (rest .end + rest .width) (rest .width) l ++ (to ∷ fieldEnds to (fieldsIn text rest l))
+
+  abbrev pub rowBody : ℕ
+  rowBody = to + length (layout to (fieldsIn text rest l))
+
+  abbrev pub rowWidth : ℕ
+  rowWidth = writtenWidth rowBody (length rowEnds)
+
+  abbrev pub rowNow : List ℕ
+  rowNow = layout to (fieldsIn text rest l) ++ backTable rowWidth rowEnds
+
+  abbrev pub rowLengthNow : ℕ
+  rowLengthNow = rowBody + length rowEnds * rowWidth

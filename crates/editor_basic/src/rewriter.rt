@@ -85,6 +85,7 @@ pub fn finish_array(
     requires { ⌜ Standing front (now old) × Standing rest (now old) × (at + to < 2 ^ 29) ⌝ }
     ensures bytes { λ r. ⌜ now (out .exit) ≡ over (now (out .entry)) at (restNow front rest (now (old .entry)) to) ⌝ }
     ensures length { λ r. ⌜ r ≡ lengthNow front rest (now (old .entry)) to ⌝ }
+    ensures near { λ r. ⌜ r < to + 3000000 ⌝ }
 {
     let end = move_elements(old, rest, out, at, to);
     let before = front.count;

@@ -138,8 +138,10 @@ returns c =
     let start = at-move-elements .before .before .before .before in
     let a = start .args in
     let m = at-move-elements .move-elements .ensures in
-    finish-done (a .front) (a .rest) (a .old .now) (a .to) (a .at) _ _ _ _ _ _ _ _ _ _ (m .1) (at-width .width .ensures ∙ at-width-for .width-for .ensures) (m .0)
-    (at-rewrite-ends .rewrite-ends .ensures) (at-put-low-first .put-low-first .ensures) (at-rewrite-ends2 .rewrite-ends2 .ensures) refl refl refl
+    let s = finish-sizes (a .front) (a .rest) (a .old .now) (a .to) _ _ (at-width-for .width-for .result) (start .pre .0) (start .pre .1) (m .1) (at-width .width .ensures) in
+    let d = finish-done (a .front) (a .rest) (a .old .now) (a .to) (a .at) _ _ _ _ _ _ _ _ _ _ (m .1) (at-width .width .ensures ∙ at-width-for .width-for .ensures) (m .0)
+    (at-rewrite-ends .rewrite-ends .ensures) (at-put-low-first .put-low-first .ensures) (at-rewrite-ends2 .rewrite-ends2 .ensures) refl refl refl in
+    (d .0, (d .1, omega (arith, s .ends-all, s .high)))
 
 pub finish-array-spec : {M : Type 1} → statement M
 finish-array-spec =

@@ -1,0 +1,175 @@
+-- `finish_structure` meets its contract.
+use mathlib.Core.Path.{_≡_, refl, sym, ap, _∙_}
+use Prim.Native.Nat.{_+_, _-_, _*_, _≤_}
+use native.Mathlib.Omega.{arith}
+use lib.ListN.{length}
+use Rattle.meaning.proofs.PaddingLaws.{aligns-positive}
+use Rattle.editor_basic.proofs.FinishLaws.{filling, row-counts, row-sizes, own-room, behind-count, structure-done}
+use borrow.Author.Needs.{needs}
+use Rattle.editor_basic.proofs.finisher.finish_structure.Statement.{statement}
+use Rattle.editor_basic.proofs.finisher.finish_structure.Tie as tie
+use Rattle.editor_basic.proofs.finisher.finish_structure.Reads as reads
+use Rattle.editor_basic.proofs.finisher.finish_structure.Lts as lts
+use Rattle.editor_basic.proofs.elements.width_for.Reads as width-for-reads
+use Rattle.editor_basic.proofs.finisher.widen.Reads as widen-reads
+use Rattle.editor_basic.proofs.mover.put_low_first.Reads as put-low-first-reads
+use Rattle.editor_basic.proofs.rewriter.move_fields.Reads as move-fields-reads
+use Rattle.editor_basic.proofs.rewriter.rewrite_field_ends.Reads as rewrite-field-ends-reads
+use Rattle.framing_offset_size.proofs.FramingOffsetSize.width.Reads as width-reads
+
+-- src/finisher.rt:84:9
+move-fields-requires : tie.Need-move-fields-requires
+move-fields-requires c κs = search needs
+
+-- src/finisher.rt:86:16
+add-from : tie.Need-add-from
+add-from c = search needs
+
+-- src/finisher.rt:87:19
+sub-before : tie.Need-sub-before
+sub-before c = search needs
+
+-- src/finisher.rt:87:18
+div-before : tie.Need-div-before
+div-before c = aligns-positive (c .before .before .before .before .before .before .before .before .before .pre .0 .wide)
+
+-- src/finisher.rt:88:19
+sub-behind : tie.Need-sub-behind
+sub-behind c = search needs
+
+-- src/finisher.rt:88:18
+div-behind : tie.Need-div-behind
+div-behind c = aligns-positive (c .before .before .before .before .before .before .before .before .before .before .pre .0 .wide)
+
+-- src/finisher.rt:89:27
+add-count : tie.Need-add-count
+add-count c = omega (arith, row-counts _ _ _ _ (c .before .before .before .before .before .before .before .before .before .before .pre .0) .1)
+
+-- src/finisher.rt:89:17
+add-count-2 : tie.Need-add-count-2
+add-count-2 c = let n = row-counts _ _ _ _ (c .before .before .before .before .before .before .before .before .before .before .pre .0) in omega (arith, n .0, n .1)
+
+-- src/finisher.rt:90:9
+width-for-requires : tie.Need-width-for-requires
+width-for-requires c κs = search needs
+
+-- src/finisher.rt:91:9
+width-requires : tie.Need-width-requires
+width-requires c κs = search needs
+
+-- src/finisher.rt:92:21
+sub-own : tie.Need-sub-own
+sub-own c = search needs
+
+-- src/finisher.rt:92:15
+add-own : tie.Need-add-own
+add-own c = search needs
+
+-- src/finisher.rt:92:33
+mul-own : tie.Need-mul-own
+mul-own c =
+    let a = c .before .before .before .before .before .before .before .before .before .before .before .before .args in
+    let p = c .before .before .before .before .before .before .before .before .before .before .before .before .pre in
+    let m = c .before .before .before .before .before .before .move-fields .ensures in
+    let s = row-sizes _ _ (a .rest) (a .old .now) _ (c .before .width-for .result) (p .0) (c .width .ensures) in
+    omega (arith, s .few-before, s .few-behind, s .slim, s .ends-behind, s .ends-all, m .1 .1, p .3)
+
+-- src/finisher.rt:92:15
+add-own-2 : tie.Need-add-own-2
+add-own-2 c =
+    let a = c .before .before .before .before .before .before .before .before .before .before .before .before .args in
+    let p = c .before .before .before .before .before .before .before .before .before .before .before .before .pre in
+    let m = c .before .before .before .before .before .before .move-fields .ensures in
+    let s = row-sizes _ _ (a .rest) (a .old .now) _ (c .before .width-for .result) (p .0) (c .width .ensures) in
+    omega (arith, s .few-before, s .few-behind, s .slim, s .ends-behind, s .ends-all, m .1 .1, p .3)
+
+-- src/finisher.rt:93:5
+put-low-first-requires : tie.Need-put-low-first-requires
+put-low-first-requires c κs = search needs
+
+-- src/finisher.rt:94:50
+add-widen : tie.Need-add-widen
+add-widen c =
+    let a = c .before .before .before .before .before .before .before .before .before .before .before .before .before .before .before .before .before .args in
+    let p = c .before .before .before .before .before .before .before .before .before .before .before .before .before .before .before .before .before .pre in
+    let m = c .before .before .before .before .before .before .before .before .before .before .before .move-fields .ensures in
+    let s = row-sizes _ _ (a .rest) (a .old .now) _ (c .before .before .before .before .before .before .width-for .result) (p .0) (c .before .before .before .before .before .width .ensures) in
+    omega (arith, s .few-before, s .few-behind, s .slim, s .ends-behind, s .ends-all, m .1 .1, p .3)
+
+-- src/finisher.rt:94:5
+widen-requires : tie.Need-widen-requires
+widen-requires c κs =
+    let a = c .before .before .before .before .before .before .before .before .before .before .before .before .before .before .before .before .before .args in
+    let p = c .before .before .before .before .before .before .before .before .before .before .before .before .before .before .before .before .before .pre in
+    let m = c .before .before .before .before .before .before .before .before .before .before .before .move-fields .ensures in
+    let s = row-sizes _ _ (a .rest) (a .old .now) _ (c .before .before .before .before .before .before .width-for .result) (p .0) (c .before .before .before .before .before .width .ensures) in
+    let f = filling (a .old .now) _ _ (p .1) (p .0 .short) in
+    (f .stand, p .0 .short, p .0 .wide, s .slim, omega (arith, s .few-before, s .few-behind, s .slim, s .ends-behind, s .ends-all, m .1 .1, p .3))
+
+-- src/finisher.rt:95:5
+rewrite-field-ends-requires : tie.Need-rewrite-field-ends-requires
+rewrite-field-ends-requires c κs =
+    let a = c .before .before .before .before .before .before .before .before .before .before .before .before .before .before .before .before .before .before .before .before .before .args in
+    let p = c .before .before .before .before .before .before .before .before .before .before .before .before .before .before .before .before .before .before .before .before .before .pre in
+    (p .0, omega (arith, p .3), own-room _ (a .rest) (a .old .now) (a .to) _ _ (behind-count _ (a .rest) (a .old .now) (a .to) (p .0 .wide) (p .2)))
+
+-- src/finisher.rt:96:11
+mul-result : tie.Need-mul-result
+mul-result c =
+    let a = c .before .before .before .before .before .before .before .before .before .before .before .before .before .before .before .before .before .before .before .before .before .before .before .before .args in
+    let p = c .before .before .before .before .before .before .before .before .before .before .before .before .before .before .before .before .before .before .before .before .before .before .before .before .pre in
+    let m = c .before .before .before .before .before .before .before .before .before .before .before .before .before .before .before .before .before .before .move-fields .ensures in
+    let s = row-sizes _ _ (a .rest) (a .old .now) _ (c .before .before .before .before .before .before .before .before .before .before .before .before .before .width-for .result) (p .0) (c .before .before .before .before .before .before .before .before .before .before .before .before .width .ensures) in
+    omega (arith, s .few-before, s .few-behind, s .slim, s .ends-behind, s .ends-all, m .1 .1, p .3)
+
+-- src/finisher.rt:96:5
+add-result : tie.Need-add-result
+add-result c =
+    let a = c .before .before .before .before .before .before .before .before .before .before .before .before .before .before .before .before .before .before .before .before .before .before .before .before .args in
+    let p = c .before .before .before .before .before .before .before .before .before .before .before .before .before .before .before .before .before .before .before .before .before .before .before .before .pre in
+    let m = c .before .before .before .before .before .before .before .before .before .before .before .before .before .before .before .before .before .before .move-fields .ensures in
+    let s = row-sizes _ _ (a .rest) (a .old .now) _ (c .before .before .before .before .before .before .before .before .before .before .before .before .before .width-for .result) (p .0) (c .before .before .before .before .before .before .before .before .before .before .before .before .width .ensures) in
+    omega (arith, s .few-before, s .few-behind, s .slim, s .ends-behind, s .ends-all, m .1 .1, p .3)
+
+-- src/finisher.rt:70:1
+same-length : tie.Need-same-length
+same-length c = search needs
+
+-- src/finisher.rt:70:1
+returns : tie.Need-returns
+returns c =
+    let a = c .before .before .before .before .before .before .before .before .before .before .before .before .before .before .before .before .before .before .before .before .before .before .before .before .args in
+    let p = c .before .before .before .before .before .before .before .before .before .before .before .before .before .before .before .before .before .before .before .before .before .before .before .before .pre in
+    let m = c .before .before .before .before .before .before .before .before .before .before .before .before .before .before .before .before .before .before .move-fields .ensures in
+    let e = c .before .before .rewrite-field-ends .ensures in
+    let s = row-sizes _ _ (a .rest) (a .old .now) _ (c .before .before .before .before .before .before .before .before .before .before .before .before .before .width-for .result) (p .0) (c .before .before .before .before .before .before .before .before .before .before .before .before .width .ensures) in
+    let d = structure-done _ (a .rest) (a .old .now) (a .to) (a .at) _ _ _ _ _ _ _ _ _ (behind-count _ (a .rest) (a .old .now) (a .to) (p .0 .wide) (p .2)) (m .1 .0) (c .before .before .before .before .before .before .before .before .before .before .before .before .width .ensures ∙ c .before .before .before .before .before .before .before .before .before .before .before .before .before .width-for .ensures)
+    (m .0) (c .before .before .before .before .before .before .before .before .before .before .put-low-first .ensures) (c .before .before .before .before .before .before .widen .ensures) (e .0) (e .1) refl in
+    (d .0, (d .1, omega (arith, s .ends-all, m .1 .1)))
+
+pub finish-structure-spec : {M : Type 1} → statement M
+finish-structure-spec =
+    tie.close
+    (tie.spec
+    move-fields-requires
+    add-from
+    sub-before
+    div-before
+    sub-behind
+    div-behind
+    add-count
+    add-count-2
+    width-for-requires
+    width-requires
+    sub-own
+    add-own
+    mul-own
+    add-own-2
+    put-low-first-requires
+    add-widen
+    widen-requires
+    rewrite-field-ends-requires
+    mul-result
+    add-result
+    same-length
+    returns)

@@ -13,10 +13,10 @@ use Rattle.meaning.specs.Numbers.{bytes, value}
 use Rattle.meaning.specs.Offsets.{writtenWidth, table, backTable, entries}
 use Rattle.meaning.specs.Padding.{Aligns}
 use Rattle.meaning.specs.Types.{Fields, last, next, fixed}
-use Rattle.meaning.specs.Written.{Piece, stop, layout, unless, fieldEnds}
+use Rattle.meaning.specs.Written.{Piece, stop, layout, ends, unless, fieldEnds}
 use Rattle.meaning.proofs.NumberLaws.{length-bytes}
 use Rattle.meaning.proofs.PaddingLaws.{by-alignment, aligns-positive}
-use Rattle.meaning.proofs.LayoutLaws.{length-backTable, fieldEnds-one}
+use Rattle.meaning.proofs.LayoutLaws.{length-table, length-backTable, length-ends, fieldEnds-one}
 use Rattle.meaning_writing.specs.Shapes.{part, oneMore, offsetsLeft}
 use Rattle.meaning_writing.proofs.PieceLaws.{fieldEnds-more}
 use Rattle.signature.specs.Trees.{fieldsAt}
@@ -25,10 +25,12 @@ use Rattle.framing_offset_size.specs.Widths.{widthOf}
 use Rattle.framing_offset_size.specs.declared.FramingOffsetSize.{FramingOffsetSize}
 use Rattle.framing_offset_size.proofs.WidthLaws.{width-most}
 use Rattle.editor_basic.specs.Puts.{over}
+use Rattle.editor_basic.specs.declared.elements.Elements.{Elements}
 use Rattle.editor_basic.specs.declared.fields.Row.{Row}
-use Rattle.editor_basic.specs.Rows.{rowPieces, fieldPiece, nextStop, lastStop, fieldsIn, StandingRow, keptEnds, lastNow, lastLengthNow, rowEnds, rowBody, rowWidth, rowNow, rowLengthNow}
+use Rattle.editor_basic.specs.Elements.{elementsIn, countNow, widthNow, restNow, lengthNow}
+use Rattle.editor_basic.specs.Rows.{rowPieces, fieldPiece, nextStop, lastStop, fieldsIn, StandingRow, keptEnds, lastWidth, lastNow, lastLengthNow, rowEnds, rowBody, rowWidth, rowNow, rowLengthNow}
 use Rattle.editor_basic.proofs.PutLaws.{over-none, over-append, over-both}
-use Rattle.editor_basic.proofs.RewriteLaws.{times}
+use Rattle.editor_basic.proofs.RewriteLaws.{times, elements-count}
 use Rattle.editor_basic.proofs.BackLaws.{over-front, more-length, some-pieces}
 
 -- ---- offsets read and written again
@@ -211,3 +213,26 @@ row-sizes text tables rest l v s z q =
       ends-behind = table-most behind v s q j .1;
       ends-all = rw q (times s (before + (behind + 1)) 131073 (omega arith));
     }
+
+-- ---- how long what stands behind the changed child is
+
+pub array-rest-length : (front rest : Elements) (l : List ℕ) (to : ℕ) → to + length (restNow front rest l to) ≡ lengthNow front rest l to
+array-rest-length front rest l to =
+    let w : ℕ = widthNow front rest l to in
+    let es : List ℕ = ends 0 (elementsIn front l) ++ (to ∷ ends to (elementsIn rest l)) in
+    let a = length-append (layout to (elementsIn rest l)) (table w es) in
+    let n : length es ≡ countNow front rest l to =
+    length-append (ends 0 (elementsIn front l)) (to ∷ ends to (elementsIn rest l))
+    ∙ ap (λ (i : ℕ). i + suc (length (ends to (elementsIn rest l)))) (length-ends 0 (elementsIn front l) ∙ elements-count front l)
+    ∙ ap (λ (i : ℕ). front .count + suc i) (length-ends to (elementsIn rest l) ∙ elements-count rest l) ∙ omega arith in
+    let b : length (table w es) ≡ countNow front rest l to * w = length-table w es ∙ ap (λ (i : ℕ). i * w) n in
+    omega arith
+
+pub last-rest-length : (e w : ℕ) (l : List ℕ) (to : ℕ) → to + length (lastNow e w l to) ≡ lastLengthNow e w l to
+last-rest-length e w l to = ap (λ (n : ℕ). to + n) (length-backTable (lastWidth e w l to) (keptEnds e w l))
+
+pub structure-rest-length : (text : List ℕ) (rest : Row) (l : List ℕ) (to : ℕ) → to + length (rowNow text rest l to) ≡ rowLengthNow text rest l to
+structure-rest-length text rest l to =
+    let a = length-append (layout to (fieldsIn text rest l)) (backTable (rowWidth text rest l to) (rowEnds text rest l to)) in
+    let b = length-backTable (rowWidth text rest l to) (rowEnds text rest l to) in
+    omega arith

@@ -2,7 +2,10 @@ pub mod PutLaws
 pub mod ElementLaws
 pub mod StepLaws
 pub mod RewriteLaws
+pub mod ShapeLaws
 pub mod RowLaws
 pub mod BackLaws
 pub mod FinishLaws
 pub mod WrittenLaws
+pub mod FoundLaws
+pub mod PassedLaws

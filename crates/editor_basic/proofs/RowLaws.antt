@@ -18,7 +18,7 @@ use Rattle.signature.specs.Trees.{treeAt, fieldsAt, Rowed, Described}
 use Rattle.signature.specs.Shapes.{shapeIn}
 use Rattle.signature.specs.declared.shapes.Shape as shapes
 use Rattle.signature.proofs.TreeLaws.{described-alignment, described-fixed, described-aligned, LastField, NextField}
-use Rattle.strict_basic.specs.Ends.{Laid, endOf}
+use Rattle.strict_basic.specs.Ends.{Laid, shaped, endOf}
 use Rattle.strict_basic.specs.Sizes.{offsetsIn, Tabled, extentIn}
 use Rattle.strict_basic.specs.Items.{Placed}
 use Rattle.strict_basic.specs.declared.ends.Extent.{Extent}
@@ -26,10 +26,11 @@ use Rattle.strict_basic.proofs.TableLaws.{placed-at, placed-known, field-descri
 use Rattle.editor_basic.specs.Puts.{over}
 use Rattle.editor_basic.proofs.PutLaws.{over-none}
 use Rattle.editor_basic.proofs.ElementLaws.{padding-most}
+use Rattle.editor_basic.proofs.ShapeLaws.{Same, same-last, same-next}
 use Rattle.editor_basic.proofs.StepLaws.{stride, total-next, bytes-next}
 use Rattle.editor_basic.specs.declared.fields.Row.{Row}
 use Rattle.editor_basic.specs.declared.fields.Field.{Field}
-use Rattle.editor_basic.specs.Rows.{typeShape, fieldPiece, lastStop, nextStop, rowPieces, between, rowRises, fieldsIn, StandingRow, behindField, fieldOf, foundField, RestOf, FirstField}
+use Rattle.editor_basic.specs.Rows.{typeShape, fieldPiece, lastStop, nextStop, rowPieces, between, rowRises, fieldsIn, StandingRow, behindField, fieldOf, foundField, typeAt, LastOf, RestOf, FirstField}
 
 -- ---- a field by its shape and the table
 
@@ -56,23 +57,14 @@ placed-lies {text} {tables} {s} p x e =
     })
 
 module _ (t : Tree) (x : Extent) (h : Lies t x) where
-  end-is : (k : ℕ) → x .fixed ≡ true → endOf x k ≡ fixedEnd k (typeShape t)
-  end-is k f = rw (h .same-alignment, h .same-size f)
+  lies-same : Same (shaped x) (typeShape t)
+  lies-same = record { same-alignment = h .same-alignment; same-fixed = h .same-fixed; same-size = h .same-size }
 
   pub last-stop : (b k : ℕ) → lastEnd (x .fixed) (endOf x k) b ≡ lastStop t b k
-  last-stop b k = go (x .fixed) refl
-    where
-      go : (y : Bool) → x .fixed ≡ y → lastEnd (x .fixed) (endOf x k) b ≡ lastStop t b k
-      go true e = ap (λ (n : ℕ). lastEnd (x .fixed) n b) (end-is k e) ∙ ap (λ (y : Bool). lastEnd y (fixedEnd k (typeShape t)) b) (h .same-fixed)
-      go false e = ap (λ (y : Bool). lastEnd y (endOf x k) b) e ∙ ap (λ (y : Bool). lastEnd y (fixedEnd k (typeShape t)) b) (sym e ∙ h .same-fixed)
+  last-stop = same-last lies-same
 
   pub next-stop : (l : List ℕ) (w e k : ℕ) → fieldEnd (x .fixed) l w e (endOf x k) ≡ nextStop t l w e k
-  unfolding fieldEnd
-  next-stop l w e k = go (x .fixed) refl
-    where
-      go : (y : Bool) → x .fixed ≡ y → fieldEnd (x .fixed) l w e (endOf x k) ≡ nextStop t l w e k
-      go true q = ap (λ (n : ℕ). fieldEnd (x .fixed) l w e n) (end-is k q) ∙ ap (λ (y : Bool). fieldEnd y l w e (fixedEnd k (typeShape t))) (h .same-fixed)
-      go false q = ap (λ (y : Bool). fieldEnd y l w e (endOf x k)) q ∙ ap (λ (y : Bool). fieldEnd y l w e (fixedEnd k (typeShape t))) (sym q ∙ h .same-fixed)
+  next-stop = same-next lies-same
 
 -- ---- the first of some fields
 
@@ -81,7 +73,7 @@ left-room : (fx : Bool) (n w e : ℕ) {m : ℕ} → m ≡ oneMore fx n → m * w
 left-room true n w e h g = (omega arith, rw h at g)
 left-room false n w e h g = let q = rw h at g in (omega arith, omega arith)
 
-count-is : (ts : Fields) (t : Tree) (us : Fields) → ts ≡ next t us → offsetsIn ts ≡ oneMore (fixed t) (offsetsIn us)
+pub count-is : (ts : Fields) (t : Tree) (us : Fields) → ts ≡ next t us → offsetsIn ts ≡ oneMore (fixed t) (offsetsIn us)
 unfolding offsetsIn
 count-is ts t us q = ap (λ (z : Fields). offsetsIn z) q
 
@@ -92,9 +84,12 @@ offset-room ts t us fx w e q p g f =
     let y : suc (offsetsIn us) * w ≤ e = rw n at g in
     omega arith
 
-module _ (text tables : List ℕ) (r : Row) (l : List ℕ) (z : StandingRow text tables r l) (s : shapes.Shape) (x : Extent) (h : Lies (treeAt text (s .at)) x) (start : ℕ) (hs : start ≡ r .place + padding (r .place) (x .alignment)) where
+module _ (text tables : List ℕ) (r : Row) (l : List ℕ) (z : StandingRow text tables r l) (s : shapes.Shape) (here : s .at ≡ r .at) (x : Extent) (h : Lies (treeAt text (s .at)) x) (start : ℕ) (hs : start ≡ r .place + padding (r .place) (x .alignment)) where
   abbrev its : Tree
   its = treeAt text (s .at)
+
+  its-is : its ≡ typeAt text r
+  its-is = ap (treeAt text) here
 
   start-is : start ≡ behindPadding (r .place) (typeShape its)
   start-is = hs ∙ ap (λ (a : ℕ). r .place + padding (r .place) a) (h .same-alignment)
@@ -117,9 +112,16 @@ module _ (text tables : List ℕ) (r : Row) (l : List ℕ) (z : StandingRow text
       let m = low-high stop (ap (λ (n : ℕ). between l (r .body) (r .width) its (r .place) n) q ∙ u) in
       record {
         aligned = h .laid .aligned;
+        same-alignment = h .same-alignment ∙ ap alignment its-is;
+        same-fixed = h .same-fixed ∙ ap fixed its-is;
+        start-is = start-is ∙ ap (λ (t : Tree). behindPadding (r .place) (typeShape t)) its-is;
         after = omega (arith, hs);
         order = m .0;
         inside = m .1;
+        final = λ y. record {
+          fields = f .fields ∙ ap (λ (t : Tree). last t) its-is;
+          stop-is = q ∙ ap (λ (t : Tree). lastStop t (r .body) (r .place)) its-is;
+        };
         alone = λ y. ap (λ (ts : Fields). rowPieces l (r .body) (r .width) ts (r .place) (r .end)) (f .fields)
             ∙ ap (λ (c : Piece). c ∷ []) (ap (λ (n : ℕ). fieldPiece its l (r .place) n) (sym q) ∙ piece-is stop);
         rest = λ y. absurd (false≢true (sym y));
@@ -139,11 +141,18 @@ module _ (text tables : List ℕ) (r : Row) (l : List ℕ) (z : StandingRow text
       let n = left-room (fixed its) (offsetsIn (fieldsAt text (s .next))) (r .width) (r .end) (count-is (fieldsAt text (r .at)) its (fieldsAt text (s .next)) (f .fields)) (z .room) in
       record {
         aligned = h .laid .aligned;
+        same-alignment = h .same-alignment ∙ ap alignment its-is;
+        same-fixed = h .same-fixed ∙ ap fixed its-is;
+        start-is = start-is ∙ ap (λ (t : Tree). behindPadding (r .place) (typeShape t)) its-is;
         after = omega (arith, hs);
         order = m .0;
         inside = m .1;
+        final = λ y. absurd (false≢true y);
         alone = λ y. absurd (false≢true y);
         rest = λ y. record {
+          fields = f .fields ∙ ap (λ (t : Tree). next t (fieldsAt text (s .next))) its-is;
+          stop-is = q ∙ ap (λ (t : Tree). nextStop t l (r .width) (r .end) (r .place)) its-is;
+          left-is = o ∙ ap (λ (t : Tree). offsetsLeft (fixed t) (r .width) (r .end)) its-is;
           pieces = ap (λ (ts : Fields). rowPieces l (r .body) (r .width) ts (r .place) (r .end)) (f .fields)
               ∙ rw (← q, ← o) (ap (λ (c : Piece). c ∷ rowPieces l (r .body) (r .width) (fieldsAt text (s .next)) stop left) (piece-is stop));
           stands = record {

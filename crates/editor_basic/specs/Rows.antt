@@ -12,7 +12,7 @@ use Rattle.meaning.specs.Types.{Tree, Fields, last, next, alignment, fixed, fix
 use Rattle.meaning.specs.Written.{Piece, layout, fieldEnds}
 use Rattle.meaning_writing.specs.Shapes.{Shape, shapeOf, part, behindPadding, fixedEnd, lastEnd, fieldEnd, offsetsLeft}
 use Rattle.meaning_writing.specs.Edited.{foundPiece}
-use Rattle.signature.specs.Trees.{fieldsAt, Rowed}
+use Rattle.signature.specs.Trees.{treeAt, fieldsAt, Rowed}
 use Rattle.strict_basic.specs.Sizes.{offsetsIn, Tabled}
 use Rattle.strict_basic.specs.declared.ends.Extent.{Extent}
 use Rattle.editor_basic.specs.declared.fields.Row.{Row}
@@ -72,8 +72,20 @@ fieldOf final x start stop behind left =
 abbrev pub foundField : Field → List ℕ → Piece
 foundField f l = foundPiece (f .alignment) (f .fixed) (part (f .start) (f .stop) l)
 
+-- the type of the first of them
+abbrev pub typeAt : List ℕ → Row → Tree
+typeAt text r = treeAt text (r .at)
+
+-- a field that is the last
+pub record LastOf (text : List ℕ) (r : Row) (f : Field) : Type 0 where
+  pub fields : fieldsAt text (r .at) ≡ last (typeAt text r)
+  pub stop-is : f .stop ≡ lastStop (typeAt text r) (r .body) (r .place)
+
 -- those behind a field that is not the last
 pub record RestOf (text tables : List ℕ) (r : Row) (l : List ℕ) (f : Field) : Type 0 where
+  pub fields : fieldsAt text (r .at) ≡ next (typeAt text r) (fieldsAt text (f .next))
+  pub stop-is : f .stop ≡ nextStop (typeAt text r) l (r .width) (r .end) (r .place)
+  pub left-is : f .left ≡ offsetsLeft (fixed (typeAt text r)) (r .width) (r .end)
   pub pieces : fieldsIn text r l ≡ foundField f l ∷ fieldsIn text (behindField r f) l
   pub stands : StandingRow text tables (behindField r f) l
   pub onward : r .at < f .next
@@ -82,9 +94,13 @@ pub record RestOf (text tables : List ℕ) (r : Row) (l : List ℕ) (f : Field) 
 -- the first of them
 pub record FirstField (text tables : List ℕ) (r : Row) (l : List ℕ) (f : Field) : Type 0 where
   pub aligned : Aligns (f .alignment)
+  pub same-alignment : f .alignment ≡ alignment (typeAt text r)
+  pub same-fixed : f .fixed ≡ fixed (typeAt text r)
+  pub start-is : f .start ≡ behindPadding (r .place) (typeShape (typeAt text r))
   pub after : r .place ≤ f .start
   pub order : f .start ≤ f .stop
   pub inside : f .stop ≤ length l
+  pub final : f .last ≡ true → LastOf text r f
   pub alone : f .last ≡ true → fieldsIn text r l ≡ foundField f l ∷ []
   pub rest : f .last ≡ false → RestOf text tables r l f
 

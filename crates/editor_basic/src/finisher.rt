@@ -58,7 +58,7 @@ pub fn finish_last(
     requires { ⌜ (end ≤ length (now old)) × (length (now old) ≤ largestFrame) × Aligns narrow × (at + to < 2 ^ 29) ⌝ }
     ensures bytes { λ r. ⌜ now (out .exit) ≡ over (now (out .entry)) at (lastNow end narrow (now (old .entry)) to) ⌝ }
     ensures length { λ r. ⌜ r ≡ lastLengthNow end narrow (now (old .entry)) to ⌝ }
-    ensures near { λ r. ⌜ r < to + 3000000 ⌝ }
+    ensures near { λ r. ⌜ r < to + 600000 ⌝ }
 {
     let count = (old.len() - end) / narrow;
     let size = width_for(to, count);

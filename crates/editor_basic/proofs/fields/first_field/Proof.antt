@@ -1,6 +1,7 @@
 -- `first_field` meets its contract.
 use Rattle.signature.proofs.Letters.{apart-from}
 use Rattle.signature.specs.declared.Letter.the-variants.{CloseStructure}
+use mathlib.Core.Path.{ap}
 use native.Mathlib.Omega.{arith}
 use Rattle.signature.proofs.TreeLaws.{last-field-of, next-field-of}
 use Rattle.strict_basic.proofs.TableLaws.{placed-at}
@@ -66,7 +67,7 @@ returns c =
     let start = at-shape-in .before .before .before .before in
     let h = placed-lies (here-placed _ _ _ _ (start .pre) _ (at-shape-in .shape-in .ensures)) _ (at-extent-in .extent-in .ensures) in
     let f = last-field-of _ _ _ (start .pre .rowed) (start .pre .table .shapes) _ (at-shape-in .shape-in .ensures) _ (at-letter-at .letter-at .ensures) (at-enum-told .enum-told .given .1) in
-    rw (c .field-as .ensures) (field-last _ _ _ _ (start .pre) _ _ h _ (at-aligned .aligned .ensures) _ _ f (at-last-end .last-end .ensures))
+    rw (c .field-as .ensures) (field-last _ _ _ _ (start .pre) _ (ap (λ s. s .at) (at-shape-in .shape-in .ensures)) _ h _ (at-aligned .aligned .ensures) _ _ f (at-last-end .last-end .ensures))
 
 -- src/fields.rt:71:9
 field-end-requires : tie.Need-field-end-requires
@@ -109,7 +110,7 @@ returns-2 c =
     let start = at-shape-in .before .before .before .before in
     let h = placed-lies (here-placed _ _ _ _ (start .pre) _ (at-shape-in .shape-in .ensures)) _ (at-extent-in .extent-in .ensures) in
     let f = next-field-of _ _ _ (start .pre .rowed) (start .pre .table .shapes) _ (at-shape-in .shape-in .ensures) _ (at-letter-at .letter-at .ensures) (apart-from CloseStructure _ (at-match .match .keys2)) in
-    rw (c .field-as2 .ensures) (field-next _ _ _ _ (start .pre) _ _ h _ (at-aligned .aligned .ensures) _ _ f (at-field-end .field-end .ensures) (at-offsets-left .offsets-left .ensures))
+    rw (c .field-as2 .ensures) (field-next _ _ _ _ (start .pre) _ (ap (λ s. s .at) (at-shape-in .shape-in .ensures)) _ h _ (at-aligned .aligned .ensures) _ _ f (at-field-end .field-end .ensures) (at-offsets-left .offsets-left .ensures))
 
 pub first-field-spec : {M : Type 1} → statement M
 first-field-spec =

@@ -1,13 +1,20 @@
 -- A container whose changed child was put into the slice, and then what stands behind it: that is the container, from the changed reading
 -- on. Of what stands in front of the child only its length matters. Assumes nothing.
 use mathlib.Core.Path.{_≡_, refl, sym, ap, _∙_}
-use mathlib.Core.List.{List, _++_, append-assoc}
-use Prim.Native.Nat.{ℕ, _+_, _-_, _≤_}
+use mathlib.Core.List.{List, _∷_, _++_, append-assoc}
+use mathlib.Core.Bool.{false}
+use Prim.Native.Nat.{ℕ, suc, _+_, _-_, _≤_}
 use native.Mathlib.Omega.{arith}
-use lib.ListN.{length, drop, length-append, length-drop}
+use lib.ListN.{length, drop, length-append, length-drop, length-replicate}
 use lib.Seq.{drop-append-le, drop-append-add}
+use Rattle.meaning.specs.Padding.{padding, zeros}
+use Rattle.meaning.specs.Written.{Piece, stop, layout, arrayBytes}
+use Rattle.meaning_writing.proofs.EditedSteps.{endOf, upTo, upToEnd, array-rewritten, array-length}
+use Rattle.editor_basic.specs.declared.elements.Elements.{Elements}
+use Rattle.editor_basic.specs.Elements.{elementsIn, countNow, restNow, lengthNow}
 use Rattle.editor_basic.specs.Puts.{over}
 use Rattle.editor_basic.proofs.PutLaws.{over-append}
+use Rattle.editor_basic.proofs.RewriteLaws.{elements-count}
 
 -- the container begins at p, the child at `start` in it, the reading at `spot`
 module _ (p start spot : ℕ) (front child rest : List ℕ) (from : length front ≡ start) (after : p + start ≤ spot) (within : spot ≤ p + start + length child) where
@@ -32,3 +39,49 @@ module _ (p start spot : ℕ) (front child rest : List ℕ) (from : length front
 
   pub found-within : (p ≤ spot) × (spot ≤ p + length ((front ++ child) ++ rest))
   found-within = let n = found-length in (omega arith, omega arith)
+
+-- the same of children as pieces: xs in front, c the changed one, ys behind it
+module _ (xs : List Piece) (c : Piece) (ys : List Piece) where
+  abbrev pub startAt : ℕ
+  startAt = endOf 0 xs + padding (endOf 0 xs) (c .alignment)
+
+  pub up-to-end : upToEnd xs c ys ≡ startAt + length (c .bytes)
+  unfolding stop
+  up-to-end = refl
+
+  abbrev ahead : List ℕ
+  ahead = layout 0 xs ++ zeros (padding (endOf 0 xs) (c .alignment))
+
+  ahead-length : length ahead ≡ startAt
+  ahead-length =
+      let a = length-append (layout 0 xs) (zeros (padding (endOf 0 xs) (c .alignment))) in
+      let b = length-replicate {A = ℕ} (padding (endOf 0 xs) (c .alignment)) 0 in
+      omega arith
+
+  up-to-is : upTo xs c ys ≡ ahead ++ c .bytes
+  up-to-is = sym (append-assoc (layout 0 xs) (zeros (padding (endOf 0 xs) (c .alignment))) (c .bytes))
+
+  module _ (whole rest : List ℕ) (is : whole ≡ upTo xs c ys ++ rest) where
+    whole-is : whole ≡ (ahead ++ c .bytes) ++ rest
+    whole-is = is ∙ ap (λ (z : List ℕ). z ++ rest) up-to-is
+
+    pub child-length : length whole ≡ startAt + length (c .bytes) + length rest
+    child-length =
+        ap length whole-is ∙ (let a = length-append (ahead ++ c .bytes) rest in let b = length-append ahead (c .bytes) in let d = ahead-length in omega arith)
+
+    pub child-found : (p spot : ℕ) (out out′ out″ : List ℕ) (at : ℕ) → p + startAt ≤ spot → spot ≤ p + startAt + length (c .bytes)
+        → out′ ≡ over out 0 (drop (spot - (p + startAt)) (c .bytes)) → out″ ≡ over out′ at rest → at ≡ startAt + length (c .bytes) - (spot - p)
+        → out″ ≡ over out 0 (drop (spot - p) whole)
+    child-found p spot out out′ out″ at after within h g e =
+        found-composed p startAt spot ahead (c .bytes) rest ahead-length after within out out′ out″ at h g e ∙ ap (λ (z : List ℕ). over out 0 (drop (spot - p) z)) (sym whole-is)
+
+-- an array, from the definition to what its finish writes
+pub array-now : (front rest : Elements) (l : List ℕ) (c : Piece)
+    → (arrayBytes false (elementsIn front l ++ (c ∷ elementsIn rest l)) ≡ upTo (elementsIn front l) c (elementsIn rest l) ++ restNow front rest l (upToEnd (elementsIn front l) c (elementsIn rest l)))
+    × (length (arrayBytes false (elementsIn front l ++ (c ∷ elementsIn rest l))) ≡ lengthNow front rest l (upToEnd (elementsIn front l) c (elementsIn rest l)))
+array-now front rest l c =
+    let xs : List Piece = elementsIn front l in
+    let ys : List Piece = elementsIn rest l in
+    let n : length (xs ++ (c ∷ ys)) ≡ countNow front rest l (upToEnd xs c ys) =
+    length-append xs (c ∷ ys) ∙ ap (λ (i : ℕ). i + suc (length ys)) (elements-count front l) ∙ ap (λ (i : ℕ). front .count + suc i) (elements-count rest l) ∙ omega arith in
+    (array-rewritten xs c ys ∙ rw n, array-length xs c ys ∙ rw n)

@@ -177,19 +177,37 @@ module _ {text tables : List ℕ} {whole r : Row} {l : List ℕ} (q : Passed tex
 
 -- ---- the structure with a field changed
 
+-- the last field, where the offsets of those in front stand from e on
+pub last-now : (xs : List Piece) (c : Piece) (a e w : ℕ) (l : List ℕ) → endsBefore 0 xs ≡ keptEnds e w l
+    → (structureBytes a false (xs ++ (c ∷ [])) ≡ upTo xs c [] ++ lastNow e w l (upToEnd xs c []))
+    × (length (structureBytes a false (xs ++ (c ∷ []))) ≡ lastLengthNow e w l (upToEnd xs c []))
+last-now xs c a e w l h =
+    let to : ℕ = upToEnd xs c [] in
+    let none : layout to [] ≡ [] = layout-none to in
+    let end : endOf to [] ≡ to = (let n = ap length none in omega arith) in
+    let es : offsetsNow xs c [] ≡ keptEnds e w l = ap (λ (fs : List ℕ). endsBefore 0 xs ++ fs) (fieldEnds-one (endOf 0 xs) c) ∙ append-nil (endsBefore 0 xs) ∙ h in
+    (structure-rewritten xs c [] a ∙ rw (end, es, none), structure-length xs c [] a ∙ rw (end, es))
+
+-- a dictionary's entry: the key's end, unless it is fixed
+pub key-fixed : (key : Piece) (w : ℕ) (l : List ℕ) → 0 < w → key .fixed ≡ true → endsBefore 0 (key ∷ []) ≡ keptEnds (length l) w l
+unfolding endsBefore
+key-fixed key w l p h = rw h (none-kept (length l) w l p refl)
+
+pub key-loose : (key : Piece) (w : ℕ) (l : List ℕ) → 0 < w → w ≤ length l → key .fixed ≡ false → stop 0 key ≡ value (part (length l - w) (length l) l)
+    → endsBefore 0 (key ∷ []) ≡ keptEnds (length l - w) w l
+unfolding endsBefore
+key-loose key w l p h f e =
+    let n : [] ≡ keptEnds (length l) w l = none-kept (length l) w l p refl in
+    one false f ∙ ap (λ (i : ℕ). i ∷ []) e
+    ∙ ap (λ (es : List ℕ). es ++ (value (part (length l - w) (length l) l) ∷ [])) n ∙ sym (kept-more (length l) w l 0 p h (omega arith))
+  where
+    one : (b : Bool) → key .fixed ≡ b → endsBefore 0 (key ∷ []) ≡ unless b (stop 0 key) []
+    one b q = rw q
+
 module _ {text : List ℕ} {whole r : Row} {l : List ℕ} (q : Passed text whole r l) (c : Piece) (a : ℕ) where
-  -- the last field
   pub last-rewritten : (structureBytes a false (q .front ++ (c ∷ [])) ≡ upTo (q .front) c [] ++ lastNow (r .end) (r .width) l (upToEnd (q .front) c []))
       × (length (structureBytes a false (q .front ++ (c ∷ []))) ≡ lastLengthNow (r .end) (r .width) l (upToEnd (q .front) c []))
-  last-rewritten =
-      let to : ℕ = upToEnd (q .front) c [] in
-      let none : layout to [] ≡ [] = layout-none to in
-      let end : endOf to [] ≡ to = (let n = ap length none in omega arith) in
-      let es : offsetsNow (q .front) c [] ≡ keptEnds (r .end) (r .width) l =
-      ap (λ (fs : List ℕ). endsBefore 0 (q .front) ++ fs) (fieldEnds-one (endOf 0 (q .front)) c) ∙ append-nil (endsBefore 0 (q .front)) ∙ q .ends in (
-        structure-rewritten (q .front) c [] a ∙ rw (end, es, none),
-        structure-length (q .front) c [] a ∙ rw (end, es),
-      )
+  last-rewritten = last-now (q .front) c a (r .end) (r .width) l (q .ends)
 
   -- one with others behind it
   pub row-rewritten : (rest : Row) → c .fixed ≡ false → rest .end + rest .width ≡ r .end → rest .width ≡ r .width

@@ -6,15 +6,13 @@ use mathlib.Core.Bool.{Bool, true, false, _&&_}
 use Prim.Native.Nat.{ℕ, zero, suc, _+_, _-_, _*_, _≤_, _<_}
 use native.Mathlib.Omega.{arith}
 use lib.Dec.{leb, eqb}
-use lib.ListN.{length, take, drop}
-use borrow.Author.Tests.{le-leb, leb-true, eq-eqb, ne-eqb}
+use lib.ListN.{length}
+use borrow.Author.Tests.{leb-true, eq-eqb, ne-eqb}
 use Rattle.meaning.specs.Choice.{pick}
-use Rattle.meaning.specs.Refusals.{outOfBounds}
 use Rattle.meaning.specs.Numbers.{value}
 use Rattle.meaning.specs.Limits.{largestFrame}
 use Rattle.meaning.specs.Offsets.{largest, firstWidth, bareWidth, writtenWidth}
 use Rattle.meaning.specs.Padding.{Aligns, padding}
-use Rattle.meaning.specs.Parts.{holds}
 use Rattle.meaning.specs.Written.{Piece, stop, layout}
 use Rattle.meaning.proofs.Tests.{both-true}
 use Rattle.meaning.proofs.PaddingLaws.{by-alignment, padding-below}
@@ -22,11 +20,9 @@ use Rattle.meaning.proofs.LayoutLaws.{length-layout}
 use Rattle.meaning_writing.specs.Shapes.{part}
 use Rattle.meaning_writing.specs.Edited.{foundPiece, elementsFrom}
 use Rattle.meaning_writing.proofs.Parts.{length-part}
-use Rattle.utils.specs.Checks.{passed, failed, paddingFor}
+use Rattle.utils.specs.Checks.{paddingFor}
 use Rattle.utils.specs.declared.Checked.{Checked}
-use Rattle.byte_order.specs.Standing.{numberAt}
-use Rattle.byte_order.proofs.Standings.{numberAt-is}
-use Rattle.framing_offset_size.specs.Widths.{widthOf, fittingWidth, Fitted}
+use Rattle.framing_offset_size.specs.Widths.{widthOf, fittingWidth}
 use Rattle.framing_offset_size.specs.declared.FramingOffsetSize.{FramingOffsetSize}
 use Rattle.framing_offset_size.specs.declared.FramingOffsetSize.the-variants.{U8, U16, U32, U64}
 use Rattle.framing_offset_size.specs.declared.Fitting.{Fitting}
@@ -48,13 +44,6 @@ unfolding paddingFor
 due-is {a} al k r h =
     let e : r .value ≡ padding k a = ap (λ (x : Checked). x .value) h ∙ rw (al .listed) in
     (e, omega (arith, padding-most al k))
-
-pub offset-is : (w : ℕ) (l : List ℕ) (j : ℕ) (r : Checked) → r ≡ numberAt w false l j → j + w ≤ length l → r .value ≡ value (part j (j + w) l)
-unfolding part
-offset-is w l j r h g =
-    let e : j + w - j ≡ w = omega arith in
-    let q : numberAt w false l j ≡ passed (value (take w (drop j l))) = numberAt-is w false l j ∙ rw (le-leb (j + w) (length l) g) in
-    rw e (ap (λ (x : Checked). x .value) (h ∙ q))
 
 -- the width of a body's offsets is the one that fits, and 8 where none does
 written-bare : (n m : ℕ) → writtenWidth n m ≡ pick (eqb (bareWidth n m) 0) 8 (bareWidth n m)

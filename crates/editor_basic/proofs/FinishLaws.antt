@@ -31,7 +31,7 @@ use Rattle.editor_basic.specs.Elements.{elementsIn, countNow, widthNow, 
 use Rattle.editor_basic.specs.Rows.{rowPieces, fieldPiece, nextStop, lastStop, fieldsIn, StandingRow, keptEnds, lastWidth, lastNow, lastLengthNow, rowEnds, rowBody, rowWidth, rowNow, rowLengthNow}
 use Rattle.editor_basic.proofs.PutLaws.{over-none, over-append, over-both}
 use Rattle.editor_basic.proofs.RewriteLaws.{times, elements-count}
-use Rattle.editor_basic.proofs.BackLaws.{over-front, more-length, some-pieces}
+use Rattle.editor_basic.proofs.BackLaws.{over-front, some-pieces}
 
 -- ---- offsets read and written again
 

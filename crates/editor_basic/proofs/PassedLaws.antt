@@ -4,17 +4,17 @@
 use mathlib.Core.Path.{_≡_, refl, sym, ap, _∙_}
 use mathlib.Core.List.{List, [], _∷_, _++_, append-assoc, append-nil, reverse, reverse-cons}
 use mathlib.Core.Bool.{Bool, true, false}
-use Prim.Native.Nat.{ℕ, zero, suc, _+_, _-_, _*_, _/_, _≤_, _<_}
+use Prim.Native.Nat.{ℕ, suc, _+_, _-_, _*_, _/_, _≤_, _<_}
 use native.Mathlib.Nat.{mul-div-cancel}
 use native.Mathlib.Omega.{arith}
-use lib.ListN.{length, drop, length-append}
+use lib.ListN.{length, drop}
 use Rattle.meaning.specs.Numbers.{value}
-use Rattle.meaning.specs.Offsets.{writtenWidth, backTable, entries}
+use Rattle.meaning.specs.Offsets.{entries}
 use Rattle.meaning.specs.Padding.{padding}
-use Rattle.meaning.specs.Types.{Tree, Fields, next, fixed}
+use Rattle.meaning.specs.Types.{Tree, next, fixed}
 use Rattle.meaning.specs.Written.{Piece, stop, layout, unless, fieldEnds, structureBytes}
 use Rattle.meaning.proofs.PaddingLaws.{aligns-positive}
-use Rattle.meaning.proofs.LayoutLaws.{fieldEnds-one, fieldEnds-other}
+use Rattle.meaning.proofs.LayoutLaws.{fieldEnds-one}
 use Rattle.meaning_writing.specs.Shapes.{part, oneMore, fieldEnd, offsetsLeft}
 use Rattle.meaning_writing.proofs.Parts.{length-part}
 use Rattle.meaning_writing.proofs.PieceLaws.{fieldEnds-more, layout-none}
@@ -25,7 +25,6 @@ use Rattle.editor_basic.specs.declared.fields.Row.{Row}
 use Rattle.editor_basic.specs.declared.fields.Field.{Field}
 use Rattle.editor_basic.specs.Rows.{fieldsIn, nextStop, StandingRow, behindField, foundField, typeAt, FirstField, keptEnds, lastNow, lastLengthNow, rowEnds, rowNow, rowLengthNow}
 use Rattle.editor_basic.proofs.BackLaws.{some-pieces}
-use Rattle.editor_basic.proofs.StepLaws.{stop-stride}
 use Rattle.editor_basic.proofs.FinishLaws.{entries-next}
 use Rattle.editor_basic.proofs.RowLaws.{count-is}
 

@@ -2,15 +2,14 @@
 -- nothing.
 use mathlib.Core.Path.{_≡_, refl, sym, ap, _∙_}
 use mathlib.Core.List.{List, [], _∷_, _++_, append-assoc, append-nil, reverse, reverse-cons}
-use Prim.Native.Nat.{ℕ, zero, suc, _+_, _-_, _%_, _/_, _≤_, _<_, min}
+use Prim.Native.Nat.{ℕ, suc, _+_, _-_, _%_, _/_, _≤_, _<_, min}
 use native.Mathlib.Omega.{arith}
 use native.Mathlib.Numerals.{add-one}
 use native.Mathlib.Decide.{decLt}
-use lib.ListN.{length, take, drop, getD, set, length-append, length-set, length-reverse, length-take, length-drop, take-append-drop, drop-of-length-le}
-use lib.Seq.{set-out, set-comm, drop-cons, take-all, take-at, drop-at, take-length, drop-length, drop-set-lt, take-suc-set}
+use lib.ListN.{length, take, drop, getD, set, length-set, take-append-drop}
+use lib.Seq.{set-out, set-comm, drop-cons, drop-set-lt, take-suc-set}
 use Rattle.meaning.specs.Numbers.{bytes}
 use Rattle.meaning.specs.Padding.{zeros}
-use Rattle.meaning.proofs.NumberLaws.{length-bytes}
 use Rattle.editor_basic.specs.Puts.{over}
 
 -- ---- the clauses

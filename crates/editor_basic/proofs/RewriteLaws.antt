@@ -1,10 +1,10 @@
 -- The loops of the rewriter: what is left of the elements to move, and of their ends to write, makes the whole. Assumes nothing.
-use mathlib.Core.Path.{_≡_, refl, sym, ap, _∙_, subst}
+use mathlib.Core.Path.{_≡_, refl, sym, ap, _∙_}
 use mathlib.Core.List.{List, [], _∷_, _++_, append-assoc}
 use mathlib.Core.Bool.{false}
 use Prim.Native.Nat.{ℕ, zero, suc, _+_, _-_, _*_, _≤_, _<_}
 use native.Mathlib.Omega.{arith}
-use lib.ListN.{length, take, drop, length-append, length-replicate}
+use lib.ListN.{length, take, drop}
 use Rattle.meaning.specs.Numbers.{bytes, value}
 use Rattle.meaning.specs.Offsets.{writtenWidth, table}
 use Rattle.meaning.specs.Padding.{padding, zeros}

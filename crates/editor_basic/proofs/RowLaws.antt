@@ -1,28 +1,28 @@
 -- Laws of the fields of a structure from one of them on: the first of them, and those behind it. Assumes nothing.
-use mathlib.Core.Path.{_≡_, refl, sym, ap, _∙_, subst}
+use mathlib.Core.Path.{_≡_, refl, sym, ap, _∙_}
 use mathlib.Core.List.{List, [], _∷_, _++_}
-use mathlib.Core.Bool.{Bool, true, false, _&&_, false≢true}
-use Prim.Native.Nat.{ℕ, zero, suc, _+_, _-_, _*_, _≤_, _<_}
+use mathlib.Core.Bool.{Bool, true, false, false≢true}
+use Prim.Native.Nat.{ℕ, suc, _+_, _-_, _*_, _≤_, _<_}
 use native.Mathlib.Omega.{arith}
 use lib.Dec.{leb}
 use lib.ListN.{length, take, drop}
 use borrow.Author.Tests.{leb-true}
-use Rattle.meaning.specs.Padding.{Aligns, padding, zeros}
+use Rattle.meaning.specs.Padding.{padding, zeros}
 use Rattle.meaning.specs.Types.{Tree, Fields, last, next, alignment, fixed, fixedSize}
 use Rattle.meaning.specs.Written.{Piece, layout}
 use Rattle.meaning.proofs.Tests.{both-true}
-use Rattle.meaning_writing.specs.Shapes.{Shape, shapeOf, part, behindPadding, fixedEnd, lastEnd, oneMore, fieldEnd, offsetsLeft}
+use Rattle.meaning_writing.specs.Shapes.{Shape, part, behindPadding, lastEnd, oneMore, fieldEnd, offsetsLeft}
 use Rattle.meaning_writing.specs.Edited.{foundPiece}
 use Rattle.meaning_writing.proofs.StrictSteps.{test-size}
-use Rattle.signature.specs.Trees.{treeAt, fieldsAt, Rowed, Described}
+use Rattle.signature.specs.Trees.{treeAt, fieldsAt}
 use Rattle.signature.specs.Shapes.{shapeIn}
 use Rattle.signature.specs.declared.shapes.Shape as shapes
-use Rattle.signature.proofs.TreeLaws.{described-alignment, described-fixed, described-aligned, LastField, NextField}
+use Rattle.signature.proofs.TreeLaws.{described-alignment, described-fixed, LastField, NextField}
 use Rattle.strict_basic.specs.Ends.{Laid, shaped, endOf}
-use Rattle.strict_basic.specs.Sizes.{offsetsIn, Tabled, extentIn}
+use Rattle.strict_basic.specs.Sizes.{offsetsIn, extentIn}
 use Rattle.strict_basic.specs.Items.{Placed}
 use Rattle.strict_basic.specs.declared.ends.Extent.{Extent}
-use Rattle.strict_basic.proofs.TableLaws.{placed-at, placed-known, field-described, field-place}
+use Rattle.strict_basic.proofs.TableLaws.{placed-known, field-described, field-place}
 use Rattle.editor_basic.specs.Puts.{over}
 use Rattle.editor_basic.proofs.PutLaws.{over-none}
 use Rattle.editor_basic.proofs.ElementLaws.{padding-most}
@@ -30,7 +30,7 @@ use Rattle.editor_basic.proofs.ShapeLaws.{Same, same-last, same-next}
 use Rattle.editor_basic.proofs.StepLaws.{stride, total-next, bytes-next}
 use Rattle.editor_basic.specs.declared.fields.Row.{Row}
 use Rattle.editor_basic.specs.declared.fields.Field.{Field}
-use Rattle.editor_basic.specs.Rows.{typeShape, fieldPiece, lastStop, nextStop, rowPieces, between, rowRises, fieldsIn, StandingRow, behindField, fieldOf, foundField, typeAt, LastOf, RestOf, FirstField}
+use Rattle.editor_basic.specs.Rows.{typeShape, fieldPiece, lastStop, nextStop, rowPieces, between, rowRises, fieldsIn, StandingRow, behindField, fieldOf, typeAt, FirstField}
 
 -- ---- a field by its shape and the table
 

@@ -1,14 +1,12 @@
 // Where the elements of an array stand whose ends are in its table, one after another.
 use framing_offset_size::Fitting;
 use framing_offset_size::FramingOffsetSize;
+use strict_basic::ends::offset_at;
 use utils::padding_for_n_bytes;
 ghost use mathlib.Core.Path.{_≡_};
-ghost use Prim.Native.Nat.{_+_, _<_, _≤_};
-ghost use lib.ListN.{length};
-ghost use Rattle.meaning.specs.Numbers.{value};
+ghost use Prim.Native.Nat.{_+_, _<_};
 ghost use Rattle.meaning.specs.Offsets.{writtenWidth};
 ghost use Rattle.meaning.specs.Padding.{Aligns, padding};
-ghost use Rattle.meaning_writing.specs.Shapes.{part as partOf};
 ghost use Rattle.framing_offset_size.specs.Widths.{widthOf};
 ghost use Rattle.editor_basic.specs.Elements.{behindOf, Standing, FirstOf};
 
@@ -37,15 +35,6 @@ pub fn due(place: usize, alignment: usize) -> usize
     found.value
 }
 
-// The offset at a place.
-fn offset_at(part: &[u8], size: FramingOffsetSize, place: usize) -> usize
-    requires { ⌜ place + widthOf size ≤ length (now part) ⌝ }
-    ensures { λ r. ⌜ r ≡ value (partOf place (place + widthOf size) (now (part .entry))) ⌝ }
-{
-    let found = size.offset_at(part, place);
-    found.value
-}
-
 // The width of the offsets of a body.
 pub fn width_for(body: usize, count: usize) -> FramingOffsetSize
     ensures { λ r. ⌜ widthOf r ≡ writtenWidth body count ⌝ }
@@ -64,7 +53,8 @@ pub fn first_element(part: &[u8], elements: Elements) -> Child
     let place = elements.place;
     let start = place + due(place, elements.alignment);
     let size = elements.size;
-    let end = offset_at(part, size, elements.from);
+    let width = size.width();
+    let end = offset_at(part, elements.from, width);
     Child { start, end }
 }
 

@@ -1,6 +1,9 @@
 -- `first_element` meets its contract.
-use mathlib.Core.Path.{ap}
+use mathlib.Core.Path.{ap, _∙_}
 use Prim.Native.Nat.{ℕ, _+_}
+use Rattle.meaning.specs.Numbers.{value}
+use Rattle.meaning_writing.specs.Shapes.{part}
+use Rattle.framing_offset_size.proofs.WidthLaws.{width-aligns}
 use Rattle.editor_basic.proofs.ElementLaws.{offset-inside, first-of}
 use borrow.Author.Needs.{needs}
 use Rattle.editor_basic.proofs.elements.first_element.Statement.{statement}
@@ -8,26 +11,35 @@ use Rattle.editor_basic.proofs.elements.first_element.Tie as tie
 use Rattle.editor_basic.proofs.elements.first_element.Reads as reads
 use Rattle.editor_basic.proofs.elements.first_element.Lts as lts
 use Rattle.editor_basic.proofs.elements.due.Reads as due-reads
-use Rattle.editor_basic.proofs.elements.offset_at.Reads as offset-at-reads
+use Rattle.framing_offset_size.proofs.FramingOffsetSize.width.Reads as width-reads
+use Rattle.strict_basic.proofs.ends.offset_at.Reads as offset-at-reads
 
--- src/elements.rt:65:25
+-- src/elements.rt:54:25
 due-requires : tie.Need-due-requires
 due-requires c κs = search needs
 
--- src/elements.rt:65:17
+-- src/elements.rt:54:17
 add-start : tie.Need-add-start
 add-start c = search needs
 
--- src/elements.rt:67:9
-offset-at-requires : tie.Need-offset-at-requires
-offset-at-requires c κs = offset-inside (c .before .before .args .elements) _ (c .before .before .pre .0) (c .before .before .pre .1)
+-- src/elements.rt:56:9
+width-requires : tie.Need-width-requires
+width-requires c κs = search needs
 
--- src/elements.rt:60:1
+-- src/elements.rt:57:9
+offset-at-requires : tie.Need-offset-at-requires
+offset-at-requires c κs =
+    let start = c .before .before .before in
+    let e = start .args .elements in
+    rw (c .width .ensures) (offset-inside e _ (start .pre .0) (start .pre .1), width-aligns (e .size))
+
+-- src/elements.rt:49:1
 returns : tie.Need-returns
 returns c =
-    let at-due = c .before in
-    let start = at-due .before .before in
-    first-of (start .args .elements) _ _ (start .pre .0) (start .pre .1) (ap (λ (n : ℕ). start .args .elements .place + n) (at-due .due .ensures .0)) (c .offset-at .ensures)
+    let at-due = c .before .before in
+    let start = c .before .before .before .before in
+    first-of (start .args .elements) _ _ (start .pre .0) (start .pre .1) (ap (λ (n : ℕ). start .args .elements .place + n) (at-due .due .ensures .0)) (c .offset-at .ensures ∙ ap (λ (w : ℕ). value (part (start .args .elements .from) (start .args .elements .from + w) (start .args .part .now))) (c .before .width .ensures))
 
 pub first-element-spec : {M : Type 1} → statement M
-first-element-spec = tie.close (tie.spec due-requires add-start offset-at-requires returns)
+first-element-spec =
+    tie.close (tie.spec due-requires add-start width-requires offset-at-requires returns)

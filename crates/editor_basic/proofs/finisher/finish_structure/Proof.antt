@@ -1,8 +1,6 @@
 -- `finish_structure` meets its contract.
-use mathlib.Core.Path.{_≡_, refl, sym, ap, _∙_}
-use Prim.Native.Nat.{_+_, _-_, _*_, _≤_}
+use mathlib.Core.Path.{refl, _∙_}
 use native.Mathlib.Omega.{arith}
-use lib.ListN.{length}
 use Rattle.meaning.proofs.PaddingLaws.{aligns-positive}
 use Rattle.editor_basic.proofs.FinishLaws.{filling, row-counts, row-sizes, own-room, behind-count, structure-done}
 use borrow.Author.Needs.{needs}
@@ -68,19 +66,27 @@ add-own c = search needs
 -- src/finisher.rt:92:33
 mul-own : tie.Need-mul-own
 mul-own c =
-    let a = c .before .before .before .before .before .before .before .before .before .before .before .before .args in
-    let p = c .before .before .before .before .before .before .before .before .before .before .before .before .pre in
-    let m = c .before .before .before .before .before .before .move-fields .ensures in
-    let s = row-sizes _ _ (a .rest) (a .old .now) _ (c .before .width-for .result) (p .0) (c .width .ensures) in
+    let at-width = c in
+    let at-width-for = at-width .before in
+    let at-move-fields = at-width-for .before .before .before .before .before in
+    let start = at-move-fields .before .before .before .before .before .before in
+    let a = start .args in
+    let p = start .pre in
+    let m = at-move-fields .move-fields .ensures in
+    let s = row-sizes _ _ (a .rest) (a .old .now) _ (at-width-for .width-for .result) (p .0) (at-width .width .ensures) in
     omega (arith, s .few-before, s .few-behind, s .slim, s .ends-behind, s .ends-all, m .1 .1, p .3)
 
 -- src/finisher.rt:92:15
 add-own-2 : tie.Need-add-own-2
 add-own-2 c =
-    let a = c .before .before .before .before .before .before .before .before .before .before .before .before .args in
-    let p = c .before .before .before .before .before .before .before .before .before .before .before .before .pre in
-    let m = c .before .before .before .before .before .before .move-fields .ensures in
-    let s = row-sizes _ _ (a .rest) (a .old .now) _ (c .before .width-for .result) (p .0) (c .width .ensures) in
+    let at-width = c in
+    let at-width-for = at-width .before in
+    let at-move-fields = at-width-for .before .before .before .before .before in
+    let start = at-move-fields .before .before .before .before .before .before in
+    let a = start .args in
+    let p = start .pre in
+    let m = at-move-fields .move-fields .ensures in
+    let s = row-sizes _ _ (a .rest) (a .old .now) _ (at-width-for .width-for .result) (p .0) (at-width .width .ensures) in
     omega (arith, s .few-before, s .few-behind, s .slim, s .ends-behind, s .ends-all, m .1 .1, p .3)
 
 -- src/finisher.rt:93:5
@@ -90,19 +96,27 @@ put-low-first-requires c κs = search needs
 -- src/finisher.rt:94:50
 add-widen : tie.Need-add-widen
 add-widen c =
-    let a = c .before .before .before .before .before .before .before .before .before .before .before .before .before .before .before .before .before .args in
-    let p = c .before .before .before .before .before .before .before .before .before .before .before .before .before .before .before .before .before .pre in
-    let m = c .before .before .before .before .before .before .before .before .before .before .before .move-fields .ensures in
-    let s = row-sizes _ _ (a .rest) (a .old .now) _ (c .before .before .before .before .before .before .width-for .result) (p .0) (c .before .before .before .before .before .width .ensures) in
+    let at-width = c .before .before .before .before .before in
+    let at-width-for = at-width .before in
+    let at-move-fields = at-width-for .before .before .before .before .before in
+    let start = at-move-fields .before .before .before .before .before .before in
+    let a = start .args in
+    let p = start .pre in
+    let m = at-move-fields .move-fields .ensures in
+    let s = row-sizes _ _ (a .rest) (a .old .now) _ (at-width-for .width-for .result) (p .0) (at-width .width .ensures) in
     omega (arith, s .few-before, s .few-behind, s .slim, s .ends-behind, s .ends-all, m .1 .1, p .3)
 
 -- src/finisher.rt:94:5
 widen-requires : tie.Need-widen-requires
 widen-requires c κs =
-    let a = c .before .before .before .before .before .before .before .before .before .before .before .before .before .before .before .before .before .args in
-    let p = c .before .before .before .before .before .before .before .before .before .before .before .before .before .before .before .before .before .pre in
-    let m = c .before .before .before .before .before .before .before .before .before .before .before .move-fields .ensures in
-    let s = row-sizes _ _ (a .rest) (a .old .now) _ (c .before .before .before .before .before .before .width-for .result) (p .0) (c .before .before .before .before .before .width .ensures) in
+    let at-width = c .before .before .before .before .before in
+    let at-width-for = at-width .before in
+    let at-move-fields = at-width-for .before .before .before .before .before in
+    let start = at-move-fields .before .before .before .before .before .before in
+    let a = start .args in
+    let p = start .pre in
+    let m = at-move-fields .move-fields .ensures in
+    let s = row-sizes _ _ (a .rest) (a .old .now) _ (at-width-for .width-for .result) (p .0) (at-width .width .ensures) in
     let f = filling (a .old .now) _ _ (p .1) (p .0 .short) in
     (f .stand, p .0 .short, p .0 .wide, s .slim, omega (arith, s .few-before, s .few-behind, s .slim, s .ends-behind, s .ends-all, m .1 .1, p .3))
 
@@ -116,19 +130,27 @@ rewrite-field-ends-requires c κs =
 -- src/finisher.rt:96:11
 mul-result : tie.Need-mul-result
 mul-result c =
-    let a = c .before .before .before .before .before .before .before .before .before .before .before .before .before .before .before .before .before .before .before .before .before .before .before .before .args in
-    let p = c .before .before .before .before .before .before .before .before .before .before .before .before .before .before .before .before .before .before .before .before .before .before .before .before .pre in
-    let m = c .before .before .before .before .before .before .before .before .before .before .before .before .before .before .before .before .before .before .move-fields .ensures in
-    let s = row-sizes _ _ (a .rest) (a .old .now) _ (c .before .before .before .before .before .before .before .before .before .before .before .before .before .width-for .result) (p .0) (c .before .before .before .before .before .before .before .before .before .before .before .before .width .ensures) in
+    let at-width = c .before .before .before .before .before .before .before .before .before .before .before .before in
+    let at-width-for = at-width .before in
+    let at-move-fields = at-width-for .before .before .before .before .before in
+    let start = at-move-fields .before .before .before .before .before .before in
+    let a = start .args in
+    let p = start .pre in
+    let m = at-move-fields .move-fields .ensures in
+    let s = row-sizes _ _ (a .rest) (a .old .now) _ (at-width-for .width-for .result) (p .0) (at-width .width .ensures) in
     omega (arith, s .few-before, s .few-behind, s .slim, s .ends-behind, s .ends-all, m .1 .1, p .3)
 
 -- src/finisher.rt:96:5
 add-result : tie.Need-add-result
 add-result c =
-    let a = c .before .before .before .before .before .before .before .before .before .before .before .before .before .before .before .before .before .before .before .before .before .before .before .before .args in
-    let p = c .before .before .before .before .before .before .before .before .before .before .before .before .before .before .before .before .before .before .before .before .before .before .before .before .pre in
-    let m = c .before .before .before .before .before .before .before .before .before .before .before .before .before .before .before .before .before .before .move-fields .ensures in
-    let s = row-sizes _ _ (a .rest) (a .old .now) _ (c .before .before .before .before .before .before .before .before .before .before .before .before .before .width-for .result) (p .0) (c .before .before .before .before .before .before .before .before .before .before .before .before .width .ensures) in
+    let at-width = c .before .before .before .before .before .before .before .before .before .before .before .before in
+    let at-width-for = at-width .before in
+    let at-move-fields = at-width-for .before .before .before .before .before in
+    let start = at-move-fields .before .before .before .before .before .before in
+    let a = start .args in
+    let p = start .pre in
+    let m = at-move-fields .move-fields .ensures in
+    let s = row-sizes _ _ (a .rest) (a .old .now) _ (at-width-for .width-for .result) (p .0) (at-width .width .ensures) in
     omega (arith, s .few-before, s .few-behind, s .slim, s .ends-behind, s .ends-all, m .1 .1, p .3)
 
 -- src/finisher.rt:70:1
@@ -138,13 +160,19 @@ same-length c = search needs
 -- src/finisher.rt:70:1
 returns : tie.Need-returns
 returns c =
-    let a = c .before .before .before .before .before .before .before .before .before .before .before .before .before .before .before .before .before .before .before .before .before .before .before .before .args in
-    let p = c .before .before .before .before .before .before .before .before .before .before .before .before .before .before .before .before .before .before .before .before .before .before .before .before .pre in
-    let m = c .before .before .before .before .before .before .before .before .before .before .before .before .before .before .before .before .before .before .move-fields .ensures in
+    let at-widen = c .before .before .before .before .before .before in
+    let at-put-low-first = at-widen .before .before .before .before in
+    let at-width = at-put-low-first .before .before in
+    let at-width-for = at-width .before in
+    let at-move-fields = at-width-for .before .before .before .before .before in
+    let start = at-move-fields .before .before .before .before .before .before in
+    let a = start .args in
+    let p = start .pre in
+    let m = at-move-fields .move-fields .ensures in
+    let s = row-sizes _ _ (a .rest) (a .old .now) _ (at-width-for .width-for .result) (p .0) (at-width .width .ensures) in
     let e = c .before .before .rewrite-field-ends .ensures in
-    let s = row-sizes _ _ (a .rest) (a .old .now) _ (c .before .before .before .before .before .before .before .before .before .before .before .before .before .width-for .result) (p .0) (c .before .before .before .before .before .before .before .before .before .before .before .before .width .ensures) in
-    let d = structure-done _ (a .rest) (a .old .now) (a .to) (a .at) _ _ _ _ _ _ _ _ _ (behind-count _ (a .rest) (a .old .now) (a .to) (p .0 .wide) (p .2)) (m .1 .0) (c .before .before .before .before .before .before .before .before .before .before .before .before .width .ensures ∙ c .before .before .before .before .before .before .before .before .before .before .before .before .before .width-for .ensures)
-    (m .0) (c .before .before .before .before .before .before .before .before .before .before .put-low-first .ensures) (c .before .before .before .before .before .before .widen .ensures) (e .0) (e .1) refl in
+    let d = structure-done _ (a .rest) (a .old .now) (a .to) (a .at) _ _ _ _ _ _ _ _ _ (behind-count _ (a .rest) (a .old .now) (a .to) (p .0 .wide) (p .2)) (m .1 .0) (at-width .width .ensures ∙ at-width-for .width-for .ensures)
+    (m .0) (at-put-low-first .put-low-first .ensures) (at-widen .widen .ensures) (e .0) (e .1) refl in
     (d .0, (d .1, omega (arith, s .ends-all, m .1 .1)))
 
 pub finish-structure-spec : {M : Type 1} → statement M

@@ -3,7 +3,7 @@
 use mathlib.Core.Path.{_≡_, refl, sym, ap, _∙_}
 use mathlib.Core.List.{List, [], _∷_, _++_, append-assoc, append-nil, reverse, reverse-cons}
 use mathlib.Core.Bool.{Bool, true, false}
-use Prim.Native.Nat.{ℕ, zero, suc, _+_, _-_, _*_, _/_, _≤_, _<_}
+use Prim.Native.Nat.{ℕ, zero, suc, _+_, _-_, _*_, _/_, _^_, _≤_, _<_}
 use native.Mathlib.Nat.{mul-div-cancel, div-mul-le-self, div-le-self}
 use native.Mathlib.Omega.{arith}
 use lib.ListN.{length, drop, length-append, length-reverse}
@@ -134,10 +134,10 @@ module _ (text : List ℕ) (rest : Row) (l : List ℕ) (to : ℕ) where
   abbrev keptFrom : ℕ
   keptFrom = rest .end + rest .width
 
-  abbrev keptCount : ℕ
+  abbrev pub keptCount : ℕ
   keptCount = (length l - keptFrom) / rest .width
 
-  abbrev behindCount : ℕ
+  abbrev pub behindCount : ℕ
   behindCount = (rest .end - rest .body) / rest .width
 
   pub behind-count : Aligns (rest .width) → rest .body + offsetsIn (fieldsAt text (rest .at)) * rest .width ≡ rest .end → behindCount ≡ length behindEnds
@@ -184,7 +184,9 @@ module _ (text : List ℕ) (rest : Row) (l : List ℕ) (to : ℕ) where
       )
 
 -- what the sums of `finish_structure` stay below
-pub record RowSizes (before behind v : ℕ) : Type 0 where
+pub record RowSizes (before behind v at to end : ℕ) : Type 0 where
+  pub early : at + to < 2 ^ 29
+  pub high : end < to + 100000
   pub few-before : before ≤ 65536
   pub few-behind : behind ≤ 65536
   pub slim : v ≤ 8
@@ -198,15 +200,17 @@ row-counts text tables rest l z =
     let b = div-le-self (rest .end - rest .body) (rest .width) in
     (omega (arith, z .short), omega (arith, z .short, z .end-inside))
 
-pub row-sizes : (text tables : List ℕ) (rest : Row) (l : List ℕ) (v : ℕ) (s : FramingOffsetSize) → StandingRow text tables rest l → v ≡ widthOf s
-    → RowSizes ((length l - (rest .end + rest .width)) / rest .width) ((rest .end - rest .body) / rest .width) v
-row-sizes text tables rest l v s z q =
+pub row-sizes : (text tables : List ℕ) (rest : Row) (l : List ℕ) (v at to end : ℕ) (s : FramingOffsetSize) → StandingRow text tables rest l → v ≡ widthOf s → at + to < 2 ^ 29 → end < to + 100000
+    → RowSizes (keptCount text rest l to) (behindCount text rest l to) v at to end
+row-sizes text tables rest l v at to end s z q g k =
     let n = row-counts text tables rest l z in
     let before = (length l - (rest .end + rest .width)) / rest .width in
     let behind = (rest .end - rest .body) / rest .width in
     let i : before ≤ 65536 = n .0 in
     let j : behind ≤ 65536 = n .1 in
     record {
+      early = g;
+      high = k;
       few-before = i;
       few-behind = j;
       slim = table-most behind v s q j .0;

@@ -2,7 +2,7 @@
 use mathlib.Core.Path.{refl, _∙_}
 use native.Mathlib.Omega.{arith}
 use Rattle.meaning.proofs.PaddingLaws.{aligns-positive}
-use Rattle.editor_basic.proofs.FinishLaws.{filling, row-counts, row-sizes, own-room, behind-count, structure-done}
+use Rattle.editor_basic.proofs.FinishLaws.{filling, keptCount, behindCount, RowSizes, row-counts, row-sizes, own-room, behind-count, structure-done}
 use borrow.Author.Needs.{needs}
 use Rattle.editor_basic.proofs.finisher.finish_structure.Statement.{statement}
 use Rattle.editor_basic.proofs.finisher.finish_structure.Tie as tie
@@ -14,6 +14,15 @@ use Rattle.editor_basic.proofs.mover.put_low_first.Reads as put-low-fir
 use Rattle.editor_basic.proofs.rewriter.move_fields.Reads as move-fields-reads
 use Rattle.editor_basic.proofs.rewriter.rewrite_field_ends.Reads as rewrite-field-ends-reads
 use Rattle.framing_offset_size.proofs.FramingOffsetSize.width.Reads as width-reads
+
+-- what the sums stay below, once the width is known
+sizes : (c : tie.After-width) → let start = c .before .before .before .before .before .before .before .before .before .before .before .before in
+    let a = start .args in
+    RowSizes (keptCount (a .text .now) (a .rest) (a .old .now) (a .to)) (behindCount (a .text .now) (a .rest) (a .old .now) (a .to)) (c .width .result) (a .at) (a .to) (c .before .before .before .before .before .before .move-fields .result)
+sizes c =
+    let start = c .before .before .before .before .before .before .before .before .before .before .before .before in
+    let p = start .pre in
+    row-sizes _ _ (start .args .rest) (start .args .old .now) _ _ _ _ (c .before .width-for .result) (p .0) (c .width .ensures) (p .3) (c .before .before .before .before .before .before .move-fields .ensures .1 .1)
 
 -- src/finisher.rt:84:9
 move-fields-requires : tie.Need-move-fields-requires
@@ -66,28 +75,14 @@ add-own c = search needs
 -- src/finisher.rt:92:33
 mul-own : tie.Need-mul-own
 mul-own c =
-    let at-width = c in
-    let at-width-for = at-width .before in
-    let at-move-fields = at-width-for .before .before .before .before .before in
-    let start = at-move-fields .before .before .before .before .before .before in
-    let a = start .args in
-    let p = start .pre in
-    let m = at-move-fields .move-fields .ensures in
-    let s = row-sizes _ _ (a .rest) (a .old .now) _ (at-width-for .width-for .result) (p .0) (at-width .width .ensures) in
-    omega (arith, s .few-before, s .few-behind, s .slim, s .ends-behind, s .ends-all, m .1 .1, p .3)
+    let s = sizes c in
+    omega (arith, s .early, s .high, s .few-before, s .few-behind, s .slim, s .ends-behind, s .ends-all)
 
 -- src/finisher.rt:92:15
 add-own-2 : tie.Need-add-own-2
 add-own-2 c =
-    let at-width = c in
-    let at-width-for = at-width .before in
-    let at-move-fields = at-width-for .before .before .before .before .before in
-    let start = at-move-fields .before .before .before .before .before .before in
-    let a = start .args in
-    let p = start .pre in
-    let m = at-move-fields .move-fields .ensures in
-    let s = row-sizes _ _ (a .rest) (a .old .now) _ (at-width-for .width-for .result) (p .0) (at-width .width .ensures) in
-    omega (arith, s .few-before, s .few-behind, s .slim, s .ends-behind, s .ends-all, m .1 .1, p .3)
+    let s = sizes c in
+    omega (arith, s .early, s .high, s .few-before, s .few-behind, s .slim, s .ends-behind, s .ends-all)
 
 -- src/finisher.rt:93:5
 put-low-first-requires : tie.Need-put-low-first-requires
@@ -96,29 +91,18 @@ put-low-first-requires c κs = search needs
 -- src/finisher.rt:94:50
 add-widen : tie.Need-add-widen
 add-widen c =
-    let at-width = c .before .before .before .before .before in
-    let at-width-for = at-width .before in
-    let at-move-fields = at-width-for .before .before .before .before .before in
-    let start = at-move-fields .before .before .before .before .before .before in
-    let a = start .args in
-    let p = start .pre in
-    let m = at-move-fields .move-fields .ensures in
-    let s = row-sizes _ _ (a .rest) (a .old .now) _ (at-width-for .width-for .result) (p .0) (at-width .width .ensures) in
-    omega (arith, s .few-before, s .few-behind, s .slim, s .ends-behind, s .ends-all, m .1 .1, p .3)
+    let s = sizes (c .before .before .before .before .before) in
+    omega (arith, s .early, s .high, s .few-before, s .few-behind, s .slim, s .ends-behind, s .ends-all)
 
 -- src/finisher.rt:94:5
 widen-requires : tie.Need-widen-requires
 widen-requires c κs =
     let at-width = c .before .before .before .before .before in
-    let at-width-for = at-width .before in
-    let at-move-fields = at-width-for .before .before .before .before .before in
-    let start = at-move-fields .before .before .before .before .before .before in
-    let a = start .args in
+    let start = at-width .before .before .before .before .before .before .before .before .before .before .before .before in
     let p = start .pre in
-    let m = at-move-fields .move-fields .ensures in
-    let s = row-sizes _ _ (a .rest) (a .old .now) _ (at-width-for .width-for .result) (p .0) (at-width .width .ensures) in
-    let f = filling (a .old .now) _ _ (p .1) (p .0 .short) in
-    (f .stand, p .0 .short, p .0 .wide, s .slim, omega (arith, s .few-before, s .few-behind, s .slim, s .ends-behind, s .ends-all, m .1 .1, p .3))
+    let s = sizes at-width in
+    let f = filling (start .args .old .now) _ _ (p .1) (p .0 .short) in
+    (f .stand, p .0 .short, p .0 .wide, s .slim, omega (arith, s .early, s .high, s .few-before, s .few-behind, s .slim, s .ends-behind, s .ends-all))
 
 -- src/finisher.rt:95:5
 rewrite-field-ends-requires : tie.Need-rewrite-field-ends-requires
@@ -130,28 +114,14 @@ rewrite-field-ends-requires c κs =
 -- src/finisher.rt:96:11
 mul-result : tie.Need-mul-result
 mul-result c =
-    let at-width = c .before .before .before .before .before .before .before .before .before .before .before .before in
-    let at-width-for = at-width .before in
-    let at-move-fields = at-width-for .before .before .before .before .before in
-    let start = at-move-fields .before .before .before .before .before .before in
-    let a = start .args in
-    let p = start .pre in
-    let m = at-move-fields .move-fields .ensures in
-    let s = row-sizes _ _ (a .rest) (a .old .now) _ (at-width-for .width-for .result) (p .0) (at-width .width .ensures) in
-    omega (arith, s .few-before, s .few-behind, s .slim, s .ends-behind, s .ends-all, m .1 .1, p .3)
+    let s = sizes (c .before .before .before .before .before .before .before .before .before .before .before .before) in
+    omega (arith, s .early, s .high, s .few-before, s .few-behind, s .slim, s .ends-behind, s .ends-all)
 
 -- src/finisher.rt:96:5
 add-result : tie.Need-add-result
 add-result c =
-    let at-width = c .before .before .before .before .before .before .before .before .before .before .before .before in
-    let at-width-for = at-width .before in
-    let at-move-fields = at-width-for .before .before .before .before .before in
-    let start = at-move-fields .before .before .before .before .before .before in
-    let a = start .args in
-    let p = start .pre in
-    let m = at-move-fields .move-fields .ensures in
-    let s = row-sizes _ _ (a .rest) (a .old .now) _ (at-width-for .width-for .result) (p .0) (at-width .width .ensures) in
-    omega (arith, s .few-before, s .few-behind, s .slim, s .ends-behind, s .ends-all, m .1 .1, p .3)
+    let s = sizes (c .before .before .before .before .before .before .before .before .before .before .before .before) in
+    omega (arith, s .early, s .high, s .few-before, s .few-behind, s .slim, s .ends-behind, s .ends-all)
 
 -- src/finisher.rt:70:1
 same-length : tie.Need-same-length
@@ -169,11 +139,11 @@ returns c =
     let a = start .args in
     let p = start .pre in
     let m = at-move-fields .move-fields .ensures in
-    let s = row-sizes _ _ (a .rest) (a .old .now) _ (at-width-for .width-for .result) (p .0) (at-width .width .ensures) in
+    let s = sizes at-width in
     let e = c .before .before .rewrite-field-ends .ensures in
     let d = structure-done _ (a .rest) (a .old .now) (a .to) (a .at) _ _ _ _ _ _ _ _ _ (behind-count _ (a .rest) (a .old .now) (a .to) (p .0 .wide) (p .2)) (m .1 .0) (at-width .width .ensures ∙ at-width-for .width-for .ensures)
     (m .0) (at-put-low-first .put-low-first .ensures) (at-widen .widen .ensures) (e .0) (e .1) refl in
-    (d .0, (d .1, omega (arith, s .ends-all, m .1 .1)))
+    (d .0, (d .1, omega (arith, s .ends-all, s .high)))
 
 pub finish-structure-spec : {M : Type 1} → statement M
 finish-structure-spec =

@@ -1,7 +1,7 @@
--- `lister::main` is safe and ends: the loop counts its turns down. Assumes nothing.
+-- `lister::list_input` is safe and ends: the loop counts its turns down. Assumes nothing.
 use borrow.Author.Needs.{needs}
-use Rattle.lister.proofs.main.Statement.{statement}
-use Rattle.lister.proofs.main.Tie as tie
+use Rattle.lister.proofs.list_input.Statement.{statement}
+use Rattle.lister.proofs.list_input.Tie as tie
 
 abbrev Inv-loop : tie.InvT-loop
 Inv-loop text₀ frame₀ state₀ turns₀ t9 text frame state turns = Unit
@@ -78,8 +78,8 @@ loop-again c = search needs
 returns-5 : tie.Need-returns-5 Inv-loop μ-loop
 returns-5 c = search needs
 
-pub main-spec : {M : Type 1} → statement M
-main-spec =
+pub list-input-spec : {M : Type 1} → statement M
+list-input-spec =
     tie.close
     (tie.spec
     Inv-loop

@@ -52,7 +52,7 @@ fn judge_rest(line: &[u8], kept: usize) {
     io::write_all(1, &answer);
 }
 
-fn main() {
+fn judge_input() {
     let mut line = [0u8; 256];
     let mut kept = 0;
     let mut turns = u64::MAX;
@@ -71,4 +71,15 @@ fn main() {
         kept = progress.kept;
         turns -= 1;
     }
+}
+
+fn main() {
+    if os::arg_count() > 1 {
+        io::write_all(
+            2,
+            b"signature_check: unknown argument; it takes none and judges the lines of standard input\n",
+        );
+        return;
+    }
+    judge_input();
 }

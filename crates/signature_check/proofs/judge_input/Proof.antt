@@ -1,10 +1,10 @@
--- `signature_check::main` is safe and ends: the loop counts its turns down. Assumes nothing.
+-- `signature_check::judge_input` is safe and ends: the loop counts its turns down. Assumes nothing.
 use mathlib.Core.Path.{_≡_, sym}
 use lib.ListN.{length}
 use lib.Seq.{length-take-le}
 use borrow.Author.Needs.{needs}
-use Rattle.signature_check.proofs.main.Statement.{statement}
-use Rattle.signature_check.proofs.main.Tie as tie
+use Rattle.signature_check.proofs.judge_input.Statement.{statement}
+use Rattle.signature_check.proofs.judge_input.Tie as tie
 
 abbrev Inv-loop : tie.InvT-loop
 Inv-loop line₀ kept₀ turns₀ line kept turns = length line ≡ 256
@@ -72,8 +72,8 @@ loop-again c = search needs
 returns-2 : tie.Need-returns-2 Inv-loop μ-loop
 returns-2 c = search needs
 
-pub main-spec : {M : Type 1} → statement M
-main-spec =
+pub judge-input-spec : {M : Type 1} → statement M
+judge-input-spec =
     tie.close
     (tie.spec
     Inv-loop

@@ -34,7 +34,7 @@ fn answer_rest(line: &[u8], kept: usize) {
     }
 }
 
-fn main() {
+fn answer_input() {
     let mut line = io::large_buffer();
     let mut kept = 0;
     let mut turns = u64::MAX;
@@ -49,4 +49,15 @@ fn main() {
         kept = answer_block(&block[..n], &mut line, kept);
         turns -= 1;
     }
+}
+
+fn main() {
+    if os::arg_count() > 1 {
+        io::write_all(
+            2,
+            b"leaves_check: unknown argument; it takes none and answers the lines of standard input\n",
+        );
+        return;
+    }
+    answer_input();
 }

@@ -1,11 +1,11 @@
--- `leaves_check::main` is safe and ends: the loop counts its turns down. Assumes nothing.
+-- `leaves_check::answer_input` is safe and ends: the loop counts its turns down. Assumes nothing.
 use mathlib.Core.Path.{_≡_}
 use lib.ListN.{length}
 use borrow.Author.Needs.{needs}
-use Rattle.leaves_check.proofs.main.Statement.{statement}
-use Rattle.leaves_check.proofs.main.Tie as tie
-use Rattle.leaves_check.proofs.main.Reads as reads
-use Rattle.leaves_check.proofs.main.Lts as lts
+use Rattle.leaves_check.proofs.answer_input.Statement.{statement}
+use Rattle.leaves_check.proofs.answer_input.Tie as tie
+use Rattle.leaves_check.proofs.answer_input.Reads as reads
+use Rattle.leaves_check.proofs.answer_input.Lts as lts
 use Rattle.io.proofs.count.Reads as count-reads
 use Rattle.io.proofs.large_buffer.Reads as large-buffer-reads
 use Rattle.leaves_check.proofs.answer_block.Reads as answer-block-reads
@@ -72,8 +72,8 @@ loop-again c = search needs
 returns-2 : tie.Need-returns-2 Inv-loop μ-loop
 returns-2 c = search needs
 
-pub main-spec : {M : Type 1} → statement M
-main-spec =
+pub answer-input-spec : {M : Type 1} → statement M
+answer-input-spec =
     tie.close
     (tie.spec
     Inv-loop

@@ -148,9 +148,20 @@ fn answer_all(line: &mut [u8], frame: &mut [u8], room: &mut [u64; 221184])
     }
 }
 
-fn main() {
+fn answer_input() {
     let mut line = [0u8; 2097152];
     let mut frame = [0u8; 131072];
     let mut room = [0u64; 221184];
     answer_all(&mut line, &mut frame, &mut room);
+}
+
+fn main() {
+    if os::arg_count() > 1 {
+        io::write_all(
+            2,
+            b"replay: unknown argument; it takes none and answers the lines of standard input\n",
+        );
+        return;
+    }
+    answer_input();
 }

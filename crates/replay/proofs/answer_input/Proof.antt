@@ -1,14 +1,14 @@
--- `replay::main` is safe and ends: the arrays have the lengths that `answer_all` asks for. Assumes nothing.
+-- `replay::answer_input` is safe and ends: the arrays have the lengths that `answer_all` asks for. Assumes nothing.
 use mathlib.Core.Path.{_≡_, refl, sym}
 use Prim.Native.Nat.{ℕ, _-_, _≤_}
 use native.Mathlib.Omega.{arith}
 use lib.ListN.{length, length-replicate}
 use lib.Seq.{length-take-le}
 use borrow.Author.Needs.{needs}
-use Rattle.replay.proofs.main.Statement.{statement}
-use Rattle.replay.proofs.main.Tie as tie
-use Rattle.replay.proofs.main.Reads as reads
-use Rattle.replay.proofs.main.Lts as lts
+use Rattle.replay.proofs.answer_input.Statement.{statement}
+use Rattle.replay.proofs.answer_input.Tie as tie
+use Rattle.replay.proofs.answer_input.Reads as reads
+use Rattle.replay.proofs.answer_input.Lts as lts
 use Rattle.replay.proofs.answer_all.Reads as answer-all-reads
 
 slice-aggregate-answer-all : tie.Need-slice-aggregate-answer-all
@@ -23,7 +23,7 @@ answer-all-requires c κs = search needs
 returns : tie.Need-returns
 returns c = search needs
 
-pub main-spec : {M : Type 1} → statement M
-main-spec =
+pub answer-input-spec : {M : Type 1} → statement M
+answer-input-spec =
     tie.close
     (tie.spec slice-aggregate-answer-all slice-aggregate-answer-all-2 answer-all-requires returns)

@@ -1,13 +1,16 @@
 #!/usr/bin/env python3
-"""A model of writing and of the strict test, by document 01 alone: it shares no code with what it judges, nor with gen.py.
+"""A model of writing, of the strict test and of editing, by document 01 alone: it shares no code with what it judges, nor with gen.py.
 
 Usage: oracle/model.py < LINES
 
 `write: TYPE l|b TEXTS|- ROOM NUMBER ..` is answered by `REFUSAL LENGTH OUT|-`: the output has ROOM bytes, every one A5 before.
 `TYPE l|b POSITION HEX`, a frame, is answered by `written` or `other`; the position is passed over.
+`edit: TYPE l|b BUFFER|- USED READING nothing|BITS ..` is answered by `REFUSAL LENGTH .. BUFFER|-`: the edits are made one after another, and the
+buffer is shown once, after all of them. The model has no reader: where a frame is no written form, the refusal is `other`.
 
 Writing: the events spell a value, which is then put into its written form. The strict test turns this round: it takes the bytes for
-the written form of a value, whatever they are, finds that value, and asks whether its written form is these bytes.
+the written form of a value, whatever they are, finds that value, and asks whether its written form is these bytes. An edit finds the value in
+the same way, changes one reading of it, and puts it into its written form.
 
 GLib's normal form is this test with other rules in some places. The names of RULES turn them on one by one, so that a difference
 between GLib and document 01 can be laid to the rules that it takes.
@@ -407,15 +410,88 @@ def is_signature(text):
     return b"m" not in text
 
 
+def written_value(kind, order, frame, rules=()):
+    """The value whose written form a frame is. Raises NotWritten where it is none's."""
+    value = Bytes(order, rules).value(kind, frame, 0 if "depth" in rules else (0, 0, 0))
+    if form(kind, value, order) != frame:
+        raise NotWritten
+    return value
+
+
 def is_written(text, order, frame, rules=()):
     kind = type_of(text)
     if kind is None or len(frame) > LARGEST_FRAME and "length" not in rules:
         return False
     try:
-        value = Bytes(order, rules).value(kind, frame, 0 if "depth" in rules else (0, 0, 0))
+        written_value(kind, order, frame, rules)
     except NotWritten:
         return False
-    return form(kind, value, order) == frame
+    return True
+
+
+# Editing.
+
+MOST_OPEN = 64
+
+
+class Change:
+    """Puts one reading of a value anew: None, or (bits,). What it was, its letter and how many containers are open round it are kept."""
+
+    def __init__(self, number, new):
+        self.left, self.new, self.letter, self.old, self.around = number, new, None, None, None
+
+    def value(self, kind, value, around):
+        """The value with that reading changed; `left` counts the readings that are passed."""
+        if kind.kind == "m":
+            return self.maybe(kind.parts[0], value, around)
+        if kind.kind == "v":
+            text, held, inner = value
+            return text, held, self.value(held, inner, around + 1)
+        if kind.kind == "a":
+            return [self.value(kind.parts[0], element, around + 1) for element in value]
+        if kind.kind in "({":
+            inside = around + (kind.kind == "(")
+            return tuple(self.value(part, field, inside) for part, field in zip(kind.parts, value))
+        return value
+
+    def maybe(self, child, value, around):
+        if child.kind not in WIDTHS:
+            return None if value is None else (self.value(child, value[0], around + 1),)
+        self.left -= 1
+        if self.left != -1:
+            return value
+        self.letter, self.old, self.around = child.kind, value, around
+        return self.new
+
+
+def new_frame(kind, order, frame, number, new, room):
+    """The frame with one reading changed, which must fit."""
+    change = Change(number, new)
+    value = change.value(kind, written_value(kind, order, frame), 0)
+    if change.letter is None:
+        raise Refused(16)
+    if new is not None and new[0] > (1 if change.letter == "b" else 256**WIDTHS[change.letter] - 1):
+        raise Refused(17)
+    if new is not None and change.old is None and change.around == MOST_OPEN:
+        raise Refused(12)
+    changed = form(kind, value, order)
+    if len(changed) > LARGEST_FRAME or len(changed) > room:
+        raise Refused(2 if len(changed) > LARGEST_FRAME else 13)
+    return changed
+
+
+def edit(text, order, buffer, used, number, new):
+    """The refusal, `other` where the frame is no written form; the new length; and the buffer afterwards."""
+    kind = type_of(text)
+    if kind is None or used > LARGEST_FRAME or used > len(buffer):
+        return (1 if kind is None else 2), 0, buffer
+    try:
+        frame = new_frame(kind, order, buffer[:used], number, new, len(buffer))
+    except Refused as refused:
+        return refused.args[0], 0, buffer
+    except NotWritten:
+        return "other", 0, buffer
+    return 0, len(frame), frame.ljust(used, b"\0") + buffer[max(used, len(frame)):]
 
 
 # Lines.
@@ -442,7 +518,27 @@ def frame_question(line):
     return text, ORDERS[order], bytes_of(data)
 
 
+def edit_question(line):
+    """The type, the order, the buffer and its used length of a line of editing, and its edits: a reading's number, and None or (bits,)."""
+    _, text, order, buffer, used, *words = line.split(b" ")
+    edits = [(int(number), None if new == b"nothing" else (int(new),)) for number, new in zip(words[::2], words[1::2], strict=True)]
+    return text, ORDERS[order], bytes_of(buffer), int(used), edits
+
+
+def edited(text, order, buffer, used, edits):
+    """The answers to edits made one after another, and the buffer after all of them. A refused edit leaves the used length as it was."""
+    given = []
+    for number, new in edits:
+        refusal, length, buffer = edit(text, order, buffer, used, number, new)
+        used = length if refusal == 0 else used
+        given.append((refusal, length))
+    return given, buffer
+
+
 def answer(line):
+    if line.startswith(b"edit: "):
+        given, buffer = edited(*edit_question(line))
+        return b"%s %s" % (" ".join("%s %d" % one for one in given).encode(), hexadecimal(buffer))
     if line.startswith(b"write: "):
         question = write_question(line)
         refusal, frame = write(*question)

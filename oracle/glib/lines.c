@@ -1,4 +1,4 @@
-/* Lines of the oracle, as questions: of writing, and frames. */
+/* Lines of the oracle, as questions: of writing, of editing, and frames. */
 #define _GNU_SOURCE
 #include "lines.h"
 
@@ -115,6 +115,32 @@ static void writing_of(struct question *question, struct rest rest) {
     numbers_of(question, &rest);
 }
 
+static void changes_of(struct question *question, struct rest *rest) {
+    static size_t room;
+
+    question->count = 0;
+    while (rest->first != NULL) {
+        struct change change = {number_of(word(rest)), false, 0};
+        const char *const new = word(rest);
+
+        change.present = strcmp(new, "nothing") != 0;
+        change.bits = change.present ? number_of(new) : 0;
+        if (question->count >= room) {
+            room = 2 * room + 64;
+            question->changes = room_for(question->changes, room * sizeof *question->changes);
+        }
+        question->changes[question->count++] = change;
+    }
+}
+
+static void editing_of(struct question *question, struct rest rest) {
+    question->type = sized_word(&rest, &question->type_length);
+    order_of(question, word(&rest));
+    bytes_of(question, word(&rest));
+    question->room = number_of(word(&rest));
+    changes_of(question, &rest);
+}
+
 /* The type is all that stands in front of the last three words: it may be empty, and any byte but the line's end may be in it. */
 static void frame_of(struct question *question, char *line, size_t length) {
     char *places[3];
@@ -135,7 +161,7 @@ static void frame_of(struct question *question, char *line, size_t length) {
 }
 
 bool next_line(struct question *question) {
-    static const char writes[] = "write: ";
+    static const char writes[] = "write: ", edits[] = "edit: ";
     static char *line;
     static size_t room;
     ssize_t length = getline(&line, &room, stdin);
@@ -148,8 +174,11 @@ bool next_line(struct question *question) {
         line[--length] = '\0';
     }
     question->writes = strncmp(line, writes, sizeof writes - 1) == 0;
+    question->edits = strncmp(line, edits, sizeof edits - 1) == 0;
     if (question->writes) {
         writing_of(question, (struct rest){line + sizeof writes - 1, line + length});
+    } else if (question->edits) {
+        editing_of(question, (struct rest){line + sizeof edits - 1, line + length});
     } else {
         frame_of(question, line, (size_t)length);
     }

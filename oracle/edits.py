@@ -30,7 +30,8 @@ def random_type(rng, depth, basics=gen.NUMBERS + gen.TEXTS):
     return (kind, random_type(rng, depth - 1, basics))
 
 
-gen.random_type = random_type       # also of the values of variants, and of damaged frames
+def random_value(rng, tree, room=4):
+    return gen.random_value(rng, tree, room, random_type)
 
 
 def readings(tree, value):
@@ -96,7 +97,7 @@ def readable(rng, deepest=5):
     """A type and a value of it, mostly with readings."""
     for _ in range(3):
         tree = random_type(rng, rng.randrange(deepest))
-        value = gen.random_value(rng, tree)
+        value = random_value(rng, tree)
         if readings(tree, value):
             break
     return tree, value
@@ -136,7 +137,7 @@ def near(rng, length):
 
 
 def near_value(rng, tree, length):
-    value = gen.random_value(rng, tree, 4)
+    value = random_value(rng, tree)
     lacks = length - len(gen.written(tree, value, "little")) + rng.choice([rng.randrange(-10, 9), rng.randrange(-3, 3)])
     if lacks > 0 and "s" not in gen.type_text(tree):
         value = more_readings(rng, tree, value, lacks)
@@ -149,7 +150,7 @@ def more_readings(rng, tree, value, lacks):
         each = gen.WIDTHS[tree[1][1]] + (1 if lacks < 300 else 2)
         return value + [None if rng.random() < 0.1 else (gen.random_number(rng, tree[1][1]),) for _ in range(lacks // each)]
     if tree[0] == "a":
-        last = value[-1] if value else gen.random_value(rng, tree[1], 1)
+        last = value[-1] if value else random_value(rng, tree[1], 1)
         return value[:-1] + [more_readings(rng, tree[1], last, lacks)]
     if tree[0] == "(":
         return value[:-1] + (more_readings(rng, tree[1][-1], value[-1], lacks),)
@@ -212,14 +213,14 @@ def wrapped(steps, tree, value):
 
 
 def mode_depth(rng):
-    """A reading inside containers in one another, at and around the limits of depth; two edits, so that it may come and go."""
+    """A reading inside containers in one another, at and around the limits of depth; one edit, or two, so that it may come and go."""
     letter = rng.choice("bynqt")
     held = rng.choice([None, None, (gen.random_number(rng, letter),)])
     steps = gen.random_chain(rng)[:rng.choice([62, 63, 64, 64, 64, 65])] if rng.random() < 0.8 else ["m"] * rng.randrange(62, 66)
     tree, value = wrapped(steps, ("m", letter), held)
     if len(gen.type_text(tree)) <= 255:
         order = random_order(rng)
-        edits = [random_edit(rng, [(letter, held)], 0.1, 0.2) for _ in range(2)]
+        edits = [random_edit(rng, [(letter, held)], 0.1, 0.2) for _ in range(rng.choice([1, 2]))]
         yield asked(rng, tree, gen.written(tree, value, order), order, edits)
 
 
@@ -247,13 +248,20 @@ def mode_refusals(rng):
         yield faulty(rng, question)
 
 
-DAMAGED = {"damaged": 400, "fixed": 60, "boundary": 60, "order": 100, "depth": 100, "sig": 100, "tiny": 180}
+DAMAGED = {"ours": 500, "damaged": 50, "fixed": 50, "boundary": 60, "order": 80, "depth": 80, "sig": 80, "tiny": 100}
+
+
+def damaged(rng):
+    """A written form with one change or two."""
+    tree, value = readable(rng)
+    order = random_order(rng)
+    yield gen.type_text(tree).encode(), order, 0, gen.damage_often(rng, gen.damage(rng, gen.written(tree, value, order)), 0.2)
 
 
 def mode_damaged(rng):
-    """Frames that do not read, or that read and are no written form: those of gen.py, and written forms with one change."""
+    """Frames that do not read, or that read and are no written form: those of gen.py, and frames with readings that were changed."""
     mode = rng.choices(list(DAMAGED), list(DAMAGED.values()))[0]
-    for text, order, _, data in gen.MODES[mode](rng):
+    for text, order, _, data in (damaged if mode == "ours" else gen.MODES[mode])(rng):
         spare = rng.randrange(MOST_SPARE + 1)
         number = rng.choice([0, 0, 0, 1, 2, 5])
         yield text, order, data + rng.randbytes(spare), len(data), [(number, random_new(rng, rng.choice(gen.NUMBERS), 0.02))]

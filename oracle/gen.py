@@ -86,22 +86,22 @@ def random_text(rng, longest=12):
     return "".join(rng.choice(pieces) for _ in range(rng.randrange(longest + 1))).encode()
 
 
-def random_value(rng, tree, room=4):
-    """Room is the longest list; it falls with the nesting."""
+def random_value(rng, tree, room=4, types=random_type):
+    """Room is the longest list; it falls with the nesting. The types of variants are made by `types`."""
     if isinstance(tree, str):
         if tree == "v":
-            inner = random_type(rng, min(room, 2))
-            return (inner, random_value(rng, inner, max(room - 1, 0)))
+            inner = types(rng, min(room, 2))
+            return (inner, random_value(rng, inner, max(room - 1, 0), types))
         return random_text(rng) if tree in TEXTS else random_number(rng, tree)
     less = max(room - 1, 1)
     if tree[0] == "(":
-        return tuple(random_value(rng, field, room) for field in tree[1])
+        return tuple(random_value(rng, field, room, types) for field in tree[1])
     if tree[0] == "m":
-        return None if rng.random() < 0.3 else (random_value(rng, tree[1], room),)
+        return None if rng.random() < 0.3 else (random_value(rng, tree[1], room, types),)
     count = rng.randrange(room + 1)
     if tree[0] == "a":
-        return [random_value(rng, tree[1], less) for _ in range(count)]
-    return [tuple(random_value(rng, part, less) for part in tree[1:]) for _ in range(count)]
+        return [random_value(rng, tree[1], less, types) for _ in range(count)]
+    return [tuple(random_value(rng, part, less, types) for part in tree[1:]) for _ in range(count)]
 
 
 # The written form, for a value that begins at a multiple of 8.

@@ -1,5 +1,6 @@
 #!/usr/bin/env python3
-"""Picks the questions that the program `replay` is checked on, and their answers: the oracle's to frames, the model's to questions of writing.
+"""Picks the questions that the program `replay` is checked on, and their answers: the oracle's to frames, the model's to questions of writing and
+of editing.
 
 Usage: oracle/sample.py [QUESTIONS ANSWERS]     crates/replay/stdin and crates/replay/stdout of the project, if none are named
 
@@ -7,7 +8,9 @@ Of each mode of gen.py, frames of one seed are generated and answered by target/
 the classes take turns: each gives its first line that is short enough and whose type and byte order it has not given yet, until the mode's
 share of bytes is used up. A class whose lines are all too long gives its shortest. Of the mode `wide`, whose lines have 131,000 characters,
 one is taken: a frame of 65,536 bytes that is read. A frame where the oracle says PANIC is left out.
-Questions of writing are picked in the same way from the modes of values.py, and answered by model.py. No answer is our own.
+Questions of writing are picked in the same way from the modes of values.py, and answered by model.py; then questions of editing, of one edit each,
+from those of edits.py. Where the model says that a frame is no written form, the oracle says what it is refused with; if it reads, that is 15.
+No answer is our own.
 
 A table of the lines taken, by mode and refusal, is printed. The same oracle gives the same sample.
 """
@@ -17,6 +20,7 @@ import subprocess
 import sys
 
 sys.dont_write_bytecode = True
+import edits  # noqa: E402
 import model  # noqa: E402
 import values  # noqa: E402
 
@@ -32,6 +36,9 @@ WIDE_BYTES = 65_536
 # The same for the modes of values.py.
 WRITING = {"valid": (4_000, 400, 24_000), "boundary": (2_000, 2_500, 40_000), "depth": (4_000, 2_500, 40_000), "long": (150, 25_000, 200_000),
            "many": (150, 8_000, 16_000), "sig": (4_000, 1_200, 30_000), "wrong": (8_000, 400, 40_000), "noise": (4_000, 200, 16_000)}
+# The same for the modes of edits.py.
+EDITING = {"random": (4_000, 300, 20_000), "boundary": (3_000, 1_300, 24_000), "depth": (3_000, 600, 20_000), "room": (1_050, 200, 12_000),
+           "refusals": (8_000, 300, 24_000), "damaged": (4_000, 200, 16_000), "wide": (60, 270_000, 280_000)}
 
 
 def answered_writing(mode, count):
@@ -39,12 +46,35 @@ def answered_writing(mode, count):
     return [(question, model.answer(question)) for question in values.lines(SEED, count, mode)]
 
 
+def by_oracle(frames):
+    """The oracle's answers, to frames with their line ends."""
+    said = subprocess.run([TOP / "target" / "oracle" / "oracle"], input=frames, stdout=subprocess.PIPE, check=True).stdout
+    return said.split(b"\n")[:-1]
+
+
 def answered(mode, count):
     """Pairs of a question and the oracle's answer, without line ends."""
     made = subprocess.run([HERE / "gen.py", str(SEED), str(count), mode], stdout=subprocess.PIPE, check=True).stdout
-    said = subprocess.run([TOP / "target" / "oracle" / "oracle"], input=made, stdout=subprocess.PIPE, check=True).stdout
-    pairs = list(zip(made.split(b"\n")[:-1], said.split(b"\n")[:-1], strict=True))
+    pairs = list(zip(made.split(b"\n")[:-1], by_oracle(made), strict=True))
     return [(question, answer) for question, answer in pairs if answer != b"PANIC"]
+
+
+def frame_line(question):
+    """The used part of an edit's buffer, as the line of a frame."""
+    text, order, buffer, used, _ = model.edit_question(question)
+    return b"%s %s 0 %s\n" % (text, order[:1].encode(), model.hexadecimal(buffer[:used]))
+
+
+def answered_editing(mode, count):
+    """Pairs of a question of one edit and the model's answer, in which the oracle's refusal stands for `other`."""
+    questions = [question for question in edits.lines(SEED, count, mode) if question.count(b" ") == 6]
+    pairs = [(question, model.answer(question)) for question in questions]
+    unread = [question for question, answer in pairs if answer.startswith(b"other ")]
+    refusals = {question: answer.split(b" ")[0] for question, answer in zip(unread, by_oracle(b"".join(map(frame_line, unread))), strict=True)}
+    for question, answer in pairs:
+        refusal = refusals.get(question, b"")
+        if refusal != b"PANIC":
+            yield question, answer.replace(b"other", b"15" if refusal == b"0" else refusal)
 
 
 def size(pair):
@@ -55,7 +85,7 @@ def turns(lines, longest):
     """The lines of one class in the order in which it gives them."""
     given = set()
     for question, answer in [line for line in lines if size(line) <= longest] or [min(lines, key=size)]:
-        shape = tuple(question.split(b" ")[:3 if question.startswith(b"write: ") else 2])
+        shape = tuple(question.split(b" ")[:3 if question.startswith((b"write: ", b"edit: ")) else 2])
         if shape not in given:
             given.add(shape)
             yield question, answer
@@ -104,6 +134,8 @@ def main(words):
     sample["wide"] = picked_wide()
     for mode, (count, longest, share) in WRITING.items():
         sample["write " + mode] = list(picked(answered_writing(mode, count), longest, share))
+    for mode, (count, longest, share) in EDITING.items():
+        sample["edit " + mode] = list(picked(answered_editing(mode, count), longest, share))
     lines = [line for chosen in sample.values() for line in chosen]
     questions.write_bytes(b"".join(question + b"\n" for question, _ in lines))
     answers.write_bytes(b"".join(answer + b"\n" for _, answer in lines))

@@ -55,8 +55,8 @@ fn answer<T>(number: u8, done: T) -> Result<T, Refusal> {
     }
 }
 
-// In each call below: a slice's pointer is valid for its length and not null; `&mut` slices and local numbers overlap nothing.
-// The archive keeps no pointer and writes through those that are `mut` alone.
+// In each call below: a slice's pointer is valid for its length, not null and aligned, also where it is empty; a `&mut` slice and the local
+// numbers overlap nothing else. The archive keeps no pointer, and writes through those that are `mut` alone. That is all that the header asks.
 
 pub(crate) fn size(signature: &[u8], order: Order, position: usize, frame: &[u8]) -> Result<(usize, usize), Refusal> {
     let (mut used, mut count) = (0, 0);
@@ -131,7 +131,13 @@ pub(crate) fn write(
 pub(crate) fn is_written(signature: &[u8], order: Order, frame: &[u8]) -> Result<(), Refusal> {
     // SAFETY: see above.
     let number = unsafe {
-        c::bogtassel_is_written(signature.as_ptr(), signature.len(), order.is_big(), frame.as_ptr(), frame.len())
+        c::bogtassel_is_written(
+            signature.as_ptr(),
+            signature.len(),
+            order.is_big(),
+            frame.as_ptr(),
+            frame.len(),
+        )
     };
     answer(number, ())
 }

@@ -1,9 +1,12 @@
 //! Events: what reading hands over, one after another, and what writing takes.
+//!
+//! The archive gives and takes three numbers for each: the kind, which is the code of a character; a place, which matters for texts alone; and
+//! the payload: a number's bits in its own width, or a text's length.
 
 /// One event. Texts are parts of the frame that was read.
 #[derive(Clone, Copy, Debug, PartialEq)]
 pub enum Event<'f> {
-    /// A bool.
+    /// `b`
     Bool(bool),
     /// `y`
     Byte(u8),
@@ -43,21 +46,19 @@ pub enum Event<'f> {
     Close,
 }
 
-/// How many numbers an event is in the lists that the calls take and fill: kind, place, payload.
+/// How many numbers an event takes in the room that [`read_into`](crate::read_into) is lent: kind, place, payload.
 pub const EVENT_NUMBERS: usize = 3;
 
 impl<'f> Event<'f> {
-    /// The event of three numbers, over the frame that they were read from; none if no reading gives them.
-    #[must_use]
-    pub fn of(numbers: [u64; EVENT_NUMBERS], frame: &'f [u8]) -> Option<Event<'f>> {
-        let [kind, place, payload] = numbers;
+    /// The event of these numbers, over the frame that they were read from; none if no reading gives them.
+    fn of(kind: u64, place: u64, payload: u64, frame: &'f [u8]) -> Option<Event<'f>> {
         let text = || {
             let start = usize::try_from(place).ok()?;
             let end = start.checked_add(usize::try_from(payload).ok()?)?;
             std::str::from_utf8(frame.get(start..end)?).ok()
         };
         Some(match u8::try_from(kind).ok()? {
-            b'b' => Event::Bool(payload == 1),
+            b'b' if payload <= 1 => Event::Bool(payload == 1),
             b'y' => Event::Byte(u8::try_from(payload).ok()?),
             b'n' => Event::Int16(u16::try_from(payload).ok()? as i16),
             b'q' => Event::Uint16(u16::try_from(payload).ok()?),
@@ -123,10 +124,14 @@ impl<'f> Iterator for Events<'f, '_> {
     type Item = Event<'f>;
 
     fn next(&mut self) -> Option<Event<'f>> {
-        let (&[kind, place, payload], rest) = self.numbers.split_first_chunk::<EVENT_NUMBERS>()?;
-        self.numbers = rest;
-        let event = Event::of([kind, place, payload], self.frame);
-        Some(event.expect("the event of a frame that was read"))
+        match *self.numbers {
+            [kind, place, payload, ref rest @ ..] => {
+                self.numbers = rest;
+                let event = Event::of(kind, place, payload, self.frame);
+                Some(event.expect("the event of a frame that was read"))
+            }
+            _ => None,
+        }
     }
 
     fn size_hint(&self) -> (usize, Option<usize>) {
@@ -137,8 +142,10 @@ impl<'f> Iterator for Events<'f, '_> {
 
 impl ExactSizeIterator for Events<'_, '_> {}
 
-/// Events as writing takes them: a list of numbers, and the bytes of their texts.
-#[derive(Clone, Debug, Default)]
+impl std::iter::FusedIterator for Events<'_, '_> {}
+
+/// Events as writing takes them: a list of numbers, and the bytes of their texts. Any iterator over events collects into it.
+#[derive(Clone, Debug, Default, PartialEq, Eq)]
 pub struct EventList {
     pub(crate) numbers: Vec<u64>,
     pub(crate) texts: Vec<u8>,

@@ -1,9 +1,14 @@
 //! GVariant frames, read and written by a codec whose every function is proved.
 //!
 //! The calls are those of `include/bogtassel.h`. Lengths and overlaps are the types' business here, so nothing can be called wrongly:
-//! every call returns, with a result or with a numbered [`Refusal`], for all types, frames and buffers.
+//! every call returns, with a result or with a numbered [`Refusal`], for all types, frames and buffers. What is proved is the archive; this
+//! crate, which hands it slices and turns its numbers into enums, is tested.
 //!
-//! A reading of a station, a frame of type `amn` (an array of maybes of 16-bit numbers, in tenths of a degree):
+//! A type is one complete GVariant type of 1 to 255 characters, a frame has at most 65,536 bytes, and at most 32 structures, 32 arrays or
+//! dictionaries and 64 containers in all may be open at once. `docs/STACK.md` of the project says how much stack a call takes: the stack of
+//! a thread, as Rust makes them, is enough.
+//!
+//! A frame of a station, of type `amn`: an array of maybes of 16-bit numbers, in tenths of a degree.
 //!
 //! ```
 //! use bogtassel::{read, Event, Order};
@@ -26,6 +31,10 @@
 mod archive;
 mod event;
 mod refusal;
+
+#[cfg(doctest)]
+#[doc = include_str!("../../../docs/FROM-ZVARIANT.md")]
+struct FromZvariant;
 
 pub use event::{Event, EventList, Events, EVENT_NUMBERS};
 pub use refusal::Refusal;
@@ -68,7 +77,7 @@ pub struct Size {
 /// ```
 ///
 /// # Errors
-/// 1 to 12.
+/// 1 to 12, as [`Refusal`] numbers them.
 pub fn size(signature: &str, order: Order, position: usize, frame: &[u8]) -> Result<Size, Refusal> {
     let (used, events) = archive::size(signature.as_bytes(), order, position, frame)?;
     Ok(Size { used, events })
@@ -96,7 +105,16 @@ impl<'f> Reading<'f> {
     }
 }
 
-/// Reads a frame, into memory that it allocates. [`read_into`] allocates none.
+impl<'f, 'r> IntoIterator for &'r Reading<'f> {
+    type Item = Event<'f>;
+    type IntoIter = Events<'f, 'r>;
+
+    fn into_iter(self) -> Events<'f, 'r> {
+        self.events()
+    }
+}
+
+/// Reads a frame, into memory that it allocates: 24 bytes for each event, of which [`size`] tells the number. [`read_into`] allocates none.
 ///
 /// # Errors
 /// 1 to 12.

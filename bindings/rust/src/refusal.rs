@@ -1,4 +1,4 @@
-//! The numbered refusals, and what each means.
+//! The numbered refusals, and what each means. 14 and 18 are given by none of the calls here and have no name.
 use std::error::Error;
 use std::fmt;
 

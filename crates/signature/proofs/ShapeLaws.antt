@@ -25,7 +25,7 @@ use Rattle.signature.proofs.Letter.{the-type}
 use Rattle.signature.proofs.Letters.{letter-end, mark, cut, key-at, alone, loneChild, child-lone}
 use Rattle.signature.proofs.Children.{heldBy, dictionaryBy, child-maybe, child-array, child-dictionary, child-found, Stands, entry-whole, Fielding, fields-begin, fields-missing, fields-next, fields-last}
 use Rattle.signature.proofs.Answers.{judge-missing, judge-found, judged-type, child-long}
-use Rattle.signature.specs.Shapes.{packed, shapeOf, shapeAt, Filled, Shaped, Answered, unpacked, shapeIn, shape}
+use Rattle.signature.specs.Shapes.{packed, shapeOf, shapeAt, Filled, Shaped, Answered, unpacked, shapeIn, shape, ShapedFrom}
 use Rattle.signature.specs.declared.shapes.Shape.{Shape}
 
 -- ---- a shape taken apart
@@ -224,13 +224,23 @@ lone-none l CloseEntry e h w = shape-lone l 0 CloseEntry (omega arith) h refl
 
 -- ---- the table as it fills
 
-pub filled-none : (l t : List ℕ) (at : ℕ) → length l ≤ at → Filled at l t t
-filled-none l t at h = record {
-  kept = refl;
-  each = λ k p q. absurd (omega arith);
-  before = λ k p. refl;
-  behind = λ k p. refl;
+pub filled-same : (l t : List ℕ) (at : ℕ) → ShapedFrom at l t → Filled at l t t
+filled-same l t at h = record { kept = refl; each = h; before = λ k p. refl; behind = λ k p. refl }
+
+pub filled-at : (l t t′ : List ℕ) (at i : ℕ) → i ≡ at → Filled i l t t′ → Filled at l t t′
+filled-at l t t′ at i e h = rw e at h
+
+-- the shapes up to a stop put in front of those from it on
+pub filled-over : (l t t′ t″ : List ℕ) (at stop : ℕ) → at ≤ stop → Filled stop l t t′ → Filled at l t′ t″ → Filled at l t t″
+filled-over l t t′ t″ at stop h a b = record {
+  kept = b .kept ∙ a .kept;
+  each = b .each;
+  before = λ k p. b .before k p ∙ a .before k (omega arith);
+  behind = λ k p. b .behind k p ∙ a .behind k p;
 }
+
+pub filled-none : (l t : List ℕ) (at : ℕ) → length l ≤ at → Filled at l t t
+filled-none l t at h = filled-same l t at (λ k p q. absurd (omega arith))
 
 filled-next : (l t t′ : List ℕ) (at s : ℕ) → at < length l → at < length t′ → Filled (at + 1) l t t′ → s ≡ shapeAt l at → Filled at l t (set t′ at s)
 filled-next l t t′ at s n m i e = record {
@@ -249,6 +259,12 @@ filled-next l t t′ at s n m i e = record {
 
 pub filled-put : (l t t′ t″ : List ℕ) (at : ℕ) → at < length l → at < length t′ → Filled (at + 1) l t t′ → t″ ≡ set t′ at (shapeAt l at) → Filled at l t t″
 filled-put l t t′ t″ at n m i e = rw e (filled-next l t t′ at (shapeAt l at) n m i refl)
+
+-- one place further to the front
+pub filled-step : (l t t′ t″ : List ℕ) (i : ℕ) → 0 < i → i ≤ length l → length l ≤ length t → Filled i l t t′ → t″ ≡ set t′ (i - 1) (shapeAt l (i - 1)) → Filled (i - 1) l t t″
+filled-step l t t′ t″ i p n m h e =
+    let z : i - 1 + 1 ≡ i = omega arith in
+    filled-put l t t′ t″ (i - 1) (omega arith) (omega (arith, h .kept)) (rw z h) e
 
 -- ---- the answers of the calls
 

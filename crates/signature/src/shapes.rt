@@ -3,7 +3,7 @@
 // The table has a number for each place of the text: the place behind the type that begins there, its alignment and whether it is
 // fixed; 0 where none begins. `fill_from` goes down the text and on its way back finds each type's shape
 // from the shapes of its children, which stand behind its letter. Each place is found once, and looked at once more by the structure
-// whose field it is; so the whole costs the length of the text, and a small frame of the stack for each two characters.
+// whose field it is; so the whole costs the length of the text, and a frame of the stack for each sixteen characters.
 use crate::Letter;
 use crate::key_alignment;
 use crate::letter_at;
@@ -186,8 +186,31 @@ fn put_at(text: &[u8], at: usize, shapes: &mut [u16])
     shapes[at] = found;
 }
 
-// Puts the shapes from a place on into the table: those behind it first, since its children are among them. It goes down two
-// characters at a time, so that `put_at` has a frame of its own and the frames of the recursion are small and half as many.
+// Puts the shapes from a place up to a stop into a table that has those from the stop on: the last first.
+fn fill_block(text: &[u8], at: usize, stop: usize, shapes: &mut [u16])
+    requires { ⌜ (length (now text) ≤ longestType) × (length (now text) ≤ length (now shapes)) × (at ≤ stop) × (stop ≤ length (now text)) × ShapedFrom stop (now text) (now shapes) ⌝ }
+    ensures { λ r. ⌜ Filled at (now (text .entry)) (now (shapes .entry)) (now (shapes .exit)) ⌝ }
+{
+    let mut i = stop;
+    while at < i {
+        i = i - 1;
+        put_at(text, i, shapes);
+    }
+}
+
+// Where a block of at most sixteen characters ends.
+fn block_end(text: &[u8], at: usize) -> usize
+    requires { ⌜ at < length (now text) ⌝ }
+    ensures { λ r. ⌜ (at < r) × (r ≤ length (now (text .entry))) ⌝ }
+{
+    if text.len() - at <= 16 {
+        return text.len();
+    }
+    at + 16
+}
+
+// Puts the shapes from a place on into the table: those behind it first, since its children are among them. It goes down a block of
+// characters at a time, so that the frames of the recursion are few.
 fn fill_from(text: &[u8], at: usize, shapes: &mut [u16])
     requires { ⌜ (length (now text) ≤ longestType) × (length (now text) ≤ length (now shapes)) ⌝ }
     ensures { λ r. ⌜ Filled at (now (text .entry)) (now (shapes .entry)) (now (shapes .exit)) ⌝ }
@@ -195,14 +218,9 @@ fn fill_from(text: &[u8], at: usize, shapes: &mut [u16])
     if text.len() <= at {
         return;
     }
-    let second = at + 1;
-    if text.len() <= second {
-        put_at(text, at, shapes);
-        return;
-    }
-    fill_from(text, second + 1, shapes);
-    put_at(text, second, shapes);
-    put_at(text, at, shapes);
+    let stop = block_end(text, at);
+    fill_from(text, stop, shapes);
+    fill_block(text, at, stop, shapes);
 }
 
 // The shape of a text that is one letter.

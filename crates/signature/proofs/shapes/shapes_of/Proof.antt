@@ -57,7 +57,12 @@ same-length-3 c = search needs
 
 -- src/shapes.rt:245:9
 returns-5 : tie.Need-returns-5
-returns-5 c = answered-none (c .before .before .before .before .before .before .before .before .before .before .before .before .args .text .now) (c .before .before .before .before .before .before .before .before .before .before .before .before .args .shapes .now) (c .before .before .before .before .before .fill-from .last .1 .1 .0) (c .before .seen .result) (c .before .before .before .before .before .before .before .before .before .if1 .left) (c .before .before .before .before .before .before .before .before .if2 .left) (c .before .before .before .before .before .fill-from .ensures) (c .before .seen .ensures 0 (omega arith) (c .before .before .before .before .before .fill-from .ensures .each)) (c .if5 .taken)
+returns-5 c =
+    let at-fill = c .before .before .before .before .before in
+    let at-if2 = at-fill .before .before .before in
+    let start = at-if2 .before .before .before .before in
+    answered-none (start .args .text .now) (start .args .shapes .now) (at-fill .fill-from .last .1 .1 .0) (c .before .seen .result) (at-if2 .before .if1 .left) (at-if2 .if2 .left)
+    (at-fill .fill-from .ensures) (c .before .seen .ensures 0 (omega arith) (at-fill .fill-from .ensures .each)) (c .if5 .taken)
 
 -- src/shapes.rt:247:5
 next-of-requires : tie.Need-next-of-requires
@@ -69,7 +74,13 @@ same-length-4 c = search needs
 
 -- src/shapes.rt:225:1
 returns-6 : tie.Need-returns-6
-returns-6 c = answered-found (c .before .before .before .before .before .before .before .before .before .before .before .before .before .args .text .now) (c .before .before .before .before .before .before .before .before .before .before .before .before .before .args .shapes .now) (c .before .before .before .before .before .before .fill-from .last .1 .1 .0) (c .before .before .seen .result) (c .before .before .before .before .before .before .before .before .before .before .if1 .left) (c .before .before .before .before .before .before .before .before .before .if2 .left) (c .before .before .before .before .before .before .fill-from .ensures) (c .before .before .seen .ensures 0 (omega arith) (c .before .before .before .before .before .before .fill-from .ensures .each)) (c .before .if5 .left) (c .next-of .result) (c .next-of .ensures)
+returns-6 c =
+    let at-seen = c .before .before in
+    let at-fill = at-seen .before .before .before .before in
+    let at-if2 = at-fill .before .before .before in
+    let start = at-if2 .before .before .before .before in
+    answered-found (start .args .text .now) (start .args .shapes .now) (at-fill .fill-from .last .1 .1 .0) (at-seen .seen .result) (at-if2 .before .if1 .left) (at-if2 .if2 .left)
+    (at-fill .fill-from .ensures) (at-seen .seen .ensures 0 (omega arith) (at-fill .fill-from .ensures .each)) (c .before .if5 .left) (c .next-of .result) (c .next-of .ensures)
 
 pub shapes-of-spec : {M : Type 1} → statement M
 shapes-of-spec =

@@ -48,7 +48,13 @@ entry-item-requires : tie.Need-entry-item-requires
 entry-item-requires c κs = search needs
 
 returns-2 : tie.Need-returns-2
-returns-2 c = c .entry-item .ensures ∙ item-entry _ _ _ (c .before .before .before .before .before .before .if1 .left) _ _ (c .before .before .before .before .before .letter-at .ensures) (c .before .before .before .before .letter-at2 .ensures) (c .before .before .enum-told .given .1) _ (c .before .shape-in .ensures)
+returns-2 c =
+    let at-enum-told = c .before .before in
+    let at-letter-at2 = at-enum-told .before .before in
+    let at-letter-at = at-letter-at2 .before in
+    let at-if1 = at-letter-at .before in
+    c .entry-item .ensures ∙ item-entry _ _ _ (at-if1 .if1 .left) _ _ (at-letter-at .letter-at .ensures) (at-letter-at2 .letter-at2 .ensures)
+    (at-enum-told .enum-told .given .1) _ (c .before .shape-in .ensures)
 
 add-shape-in-2 : tie.Need-add-shape-in-2
 add-shape-in-2 c = search needs
@@ -60,7 +66,13 @@ element-item-requires-2 : tie.Need-element-item-requires-2
 element-item-requires-2 c κs = search needs
 
 returns-3 : tie.Need-returns-3
-returns-3 c = c .element-item2 .ensures ∙ item-element _ _ _ (c .before .before .before .before .before .if1 .left) _ _ (c .before .before .before .before .letter-at .ensures) (c .before .before .before .letter-at2 .ensures) (apart-from OpenEntry _ (c .before .before .match .keys2)) _ (c .before .shape-in2 .ensures)
+returns-3 c =
+    let at-match = c .before .before in
+    let at-letter-at2 = at-match .before in
+    let at-letter-at = at-letter-at2 .before in
+    let at-if1 = at-letter-at .before in
+    c .element-item2 .ensures ∙ item-element _ _ _ (at-if1 .if1 .left) _ _ (at-letter-at .letter-at .ensures) (at-letter-at2 .letter-at2 .ensures)
+    (apart-from OpenEntry _ (at-match .match .keys2)) _ (c .before .shape-in2 .ensures)
 
 pub item-of-spec : {M : Type 1} → statement M
 item-of-spec =

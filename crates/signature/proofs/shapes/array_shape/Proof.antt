@@ -47,7 +47,12 @@ loosened-requires c κs = search needs
 
 returns-2 : tie.Need-returns-2
 returns-2 c =
-    c .loosened .ensures ∙ shape-array (c .before .before .before .before .before .before .args .text .now) (c .before .before .before .before .before .before .args .at) (c .before .seen .result) (c .before .before .before .before .before .before .pre .0 .few) (c .before .before .before .before .before .before .pre .1) (λ q. apart-from OpenEntry (c .before .before .before .letter-at .result) (c .before .before .match .keys2) (c .before .before .before .letter-at .ensures ∙ q)) (c .before .seen .ensures ((c .before .before .before .before .before .before .args .at) + 1) (omega arith) (c .before .before .before .before .before .before .pre .0 .table))
+    let at-match = c .before .before in
+    let at-letter-at = at-match .before in
+    let start = at-letter-at .before .before .before in
+    c .loosened .ensures ∙ shape-array (start .args .text .now) (start .args .at) (c .before .seen .result) (start .pre .0 .few) (start .pre .1)
+    (λ q. apart-from OpenEntry (at-letter-at .letter-at .result) (at-match .match .keys2) (at-letter-at .letter-at .ensures ∙ q))
+    (c .before .seen .ensures (start .args .at + 1) (omega arith) (start .pre .0 .table))
 
 pub array-shape-spec : {M : Type 1} → statement M
 array-shape-spec =

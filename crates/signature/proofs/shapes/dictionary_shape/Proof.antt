@@ -37,7 +37,11 @@ key-alignment-requires c κs = search needs
 
 returns : tie.Need-returns
 returns c =
-    no-dictionary (c .before .before .before .before .before .args .text .now) (c .before .before .before .before .before .args .at) (c .before .before .before .before .before .pre .0 .few) (c .before .before .before .before .before .pre .1) (c .before .before .before .before .before .pre .2) (entry-no-key (c .before .before .before .before .before .args .text .now) (c .before .before .before .before .before .args .at) (c .before .before .before .before .before .pre .0 .few) (c .before .before .before .before .before .pre .1) (c .before .before .before .before .before .pre .2) (sym (c .before .key-alignment .ensures ∙ ap keyAlignment (c .before .before .letter-at .ensures)) ∙ (c .if1 .taken)))
+    let at-letter-at = c .before .before in
+    let start = at-letter-at .before .before .before in
+    no-dictionary (start .args .text .now) (start .args .at) (start .pre .0 .few) (start .pre .1) (start .pre .2)
+    (entry-no-key (start .args .text .now) (start .args .at) (start .pre .0 .few) (start .pre .1) (start .pre .2)
+    (sym (c .before .key-alignment .ensures ∙ ap keyAlignment (at-letter-at .letter-at .ensures)) ∙ (c .if1 .taken)))
 
 add-seen : tie.Need-add-seen
 add-seen c =
@@ -49,7 +53,15 @@ seen-requires c κs =
 
 returns-2 : tie.Need-returns-2
 returns-2 c =
-    no-dictionary (c .before .before .before .before .before .before .before .args .text .now) (c .before .before .before .before .before .before .before .args .at) (c .before .before .before .before .before .before .before .pre .0 .few) (c .before .before .before .before .before .before .before .pre .1) (c .before .before .before .before .before .before .before .pre .2) (entry-no-value (c .before .before .before .before .before .before .before .args .text .now) (c .before .before .before .before .before .before .before .args .at) (c .before .before .before .before .before .before .before .pre .0 .few) (c .before .before .before .before .before .before .before .pre .1) (c .before .before .before .before .before .before .before .pre .2) (λ z. (c .before .before .if1 .left) ((c .before .before .before .key-alignment .ensures ∙ ap keyAlignment (c .before .before .before .before .letter-at .ensures)) ∙ z)) (absent (c .before .before .before .before .before .before .before .args .text .now) ((c .before .before .before .before .before .before .before .args .at) + 3) (c .before .seen .result) (c .before .seen .ensures ((c .before .before .before .before .before .before .before .args .at) + 1) (omega arith) (c .before .before .before .before .before .before .before .pre .0 .table)) (c .if2 .taken)))
+    let at-if1 = c .before .before in
+    let at-key-alignment = at-if1 .before in
+    let at-letter-at = at-key-alignment .before in
+    let start = at-letter-at .before .before .before in
+    no-dictionary (start .args .text .now) (start .args .at) (start .pre .0 .few) (start .pre .1) (start .pre .2)
+    (entry-no-value (start .args .text .now) (start .args .at) (start .pre .0 .few) (start .pre .1) (start .pre .2)
+    (λ z. (at-if1 .if1 .left) ((at-key-alignment .key-alignment .ensures ∙ ap keyAlignment (at-letter-at .letter-at .ensures)) ∙ z))
+    (absent (start .args .text .now) (start .args .at + 3) (c .before .seen .result)
+    (c .before .seen .ensures (start .args .at + 1) (omega arith) (start .pre .0 .table)) (c .if2 .taken)))
 
 next-of-requires : tie.Need-next-of-requires
 next-of-requires c κs = search needs
@@ -71,15 +83,64 @@ add-pack c = search needs
 
 pack-requires : tie.Need-pack-requires
 pack-requires c κs =
-    let k = (known (c .before .before .before .before .before .before .before .before .before .before .before .before .before .args .text .now) ((c .before .before .before .before .before .before .before .before .before .before .before .before .before .args .at) + 3) (c .before .before .before .before .before .before .before .seen .result) (c .before .before .before .before .before .before .before .seen .ensures ((c .before .before .before .before .before .before .before .before .before .before .before .before .before .args .at) + 1) (omega arith) (c .before .before .before .before .before .before .before .before .before .before .before .before .before .pre .0 .table)) (c .before .before .before .before .before .before .if2 .left)) in let m = key-most (c .before .before .before .before .before .before .before .before .before .before .before .before .before .args .text .now) ((c .before .before .before .before .before .before .before .before .before .before .before .before .before .args .at) + 2) (λ z. (c .before .before .before .before .before .before .before .before .if1 .left) ((c .before .before .before .before .before .before .before .before .before .key-alignment .ensures ∙ ap keyAlignment (c .before .before .before .before .before .before .before .before .before .before .letter-at .ensures)) ∙ z)) in let e = (c .before .before .before .before .before .before .before .before .before .key-alignment .ensures ∙ ap keyAlignment (c .before .before .before .before .before .before .before .before .before .before .letter-at .ensures)) in (fits (c .before .before .before .before .before .before .before .before .before .before .before .before .before .args .text .now) (c .before .before .before .before .before .next-of .result) CloseEntry 125 (c .before .before .before .before .before .before .before .before .before .before .before .before .before .pre .0 .few) (sym (c .before .before .letter-at2 .ensures) ∙ (c .enum-told .given .1)) refl, omega (arith, c .before .before .before .larger .ensures, c .before .before .before .before .alignment-of .ensures, k .alignment, aligns-most (k .stands .aligns)))
+    let at-letter-at2 = c .before .before in
+    let at-larger = at-letter-at2 .before in
+    let at-alignment-of = at-larger .before in
+    let at-next-of = at-alignment-of .before in
+    let at-if2 = at-next-of .before in
+    let at-seen = at-if2 .before in
+    let at-if1 = at-seen .before in
+    let at-key-alignment = at-if1 .before in
+    let at-letter-at = at-key-alignment .before in
+    let start = at-letter-at .before .before .before in
+    let k = (known (start .args .text .now) (start .args .at + 3) (at-seen .seen .result)
+    (at-seen .seen .ensures (start .args .at + 1) (omega arith) (start .pre .0 .table)) (at-if2 .if2 .left)) in
+    let m = key-most (start .args .text .now) (start .args .at + 2)
+    (λ z. (at-if1 .if1 .left) ((at-key-alignment .key-alignment .ensures ∙ ap keyAlignment (at-letter-at .letter-at .ensures)) ∙ z)) in
+    let e = (at-key-alignment .key-alignment .ensures ∙ ap keyAlignment (at-letter-at .letter-at .ensures)) in (
+      fits (start .args .text .now) (at-next-of .next-of .result) CloseEntry 125 (start .pre .0 .few)
+          (sym (at-letter-at2 .letter-at2 .ensures) ∙ (c .enum-told .given .1)) refl,
+      omega
+          (arith, at-larger .larger .ensures, at-alignment-of .alignment-of .ensures, k .alignment, aligns-most (k .stands .aligns)),
+    )
 
 returns-3 : tie.Need-returns-3
 returns-3 c =
-    let k = (known (c .before .before .before .before .before .before .before .before .before .before .before .before .before .before .args .text .now) ((c .before .before .before .before .before .before .before .before .before .before .before .before .before .before .args .at) + 3) (c .before .before .before .before .before .before .before .before .seen .result) (c .before .before .before .before .before .before .before .before .seen .ensures ((c .before .before .before .before .before .before .before .before .before .before .before .before .before .before .args .at) + 1) (omega arith) (c .before .before .before .before .before .before .before .before .before .before .before .before .before .before .pre .0 .table)) (c .before .before .before .before .before .before .before .if2 .left)) in c .pack .ensures ∙ rw (c .before .before .before .before .before .before .next-of .ensures, c .before .before .before .before .larger .ensures, c .before .before .before .before .before .alignment-of .ensures) (rw (c .before .before .before .before .before .before .before .before .before .before .key-alignment .ensures ∙ ap keyAlignment (c .before .before .before .before .before .before .before .before .before .before .before .letter-at .ensures)) (shape-dictionary (c .before .before .before .before .before .before .before .before .before .before .before .before .before .before .args .text .now) (c .before .before .before .before .before .before .before .before .before .before .before .before .before .before .args .at) (c .before .before .before .before .before .before .before .before .before .before .before .before .before .before .pre .0 .few) (c .before .before .before .before .before .before .before .before .before .before .before .before .before .before .pre .1) (c .before .before .before .before .before .before .before .before .before .before .before .before .before .before .pre .2) (c .before .before .before .before .before .before .before .before .seen .result) k (λ z. (c .before .before .before .before .before .before .before .before .before .if1 .left) ((c .before .before .before .before .before .before .before .before .before .before .key-alignment .ensures ∙ ap keyAlignment (c .before .before .before .before .before .before .before .before .before .before .before .letter-at .ensures)) ∙ z)) (sym (ap (λ (x : ℕ). letterAt (c .before .before .before .before .before .before .before .before .before .before .before .before .before .before .args .text .now) x) (c .before .before .before .before .before .before .next-of .ensures)) ∙ sym (c .before .before .before .letter-at2 .ensures) ∙ (c .before .enum-told .given .1))))
+    let at-letter-at2 = c .before .before .before in
+    let at-larger = at-letter-at2 .before in
+    let at-alignment-of = at-larger .before in
+    let at-next-of = at-alignment-of .before in
+    let at-if2 = at-next-of .before in
+    let at-seen = at-if2 .before in
+    let at-if1 = at-seen .before in
+    let at-key-alignment = at-if1 .before in
+    let at-letter-at = at-key-alignment .before in
+    let start = at-letter-at .before .before .before in
+    let k = (known (start .args .text .now) (start .args .at + 3) (at-seen .seen .result)
+    (at-seen .seen .ensures (start .args .at + 1) (omega arith) (start .pre .0 .table)) (at-if2 .if2 .left)) in
+    c .pack .ensures ∙ rw (at-next-of .next-of .ensures, at-larger .larger .ensures, at-alignment-of .alignment-of .ensures)
+    (rw (at-key-alignment .key-alignment .ensures ∙ ap keyAlignment (at-letter-at .letter-at .ensures))
+    (shape-dictionary (start .args .text .now) (start .args .at) (start .pre .0 .few) (start .pre .1) (start .pre .2) (at-seen .seen .result) k
+    (λ z. (at-if1 .if1 .left) ((at-key-alignment .key-alignment .ensures ∙ ap keyAlignment (at-letter-at .letter-at .ensures)) ∙ z))
+    (sym (ap (λ (x : ℕ). letterAt (start .args .text .now) x) (at-next-of .next-of .ensures)) ∙ sym (at-letter-at2 .letter-at2 .ensures) ∙
+    (c .before .enum-told .given .1))))
 
 returns-4 : tie.Need-returns-4
 returns-4 c =
-    let k = (known (c .before .before .before .before .before .before .before .before .before .before .before .before .args .text .now) ((c .before .before .before .before .before .before .before .before .before .before .before .before .args .at) + 3) (c .before .before .before .before .before .before .seen .result) (c .before .before .before .before .before .before .seen .ensures ((c .before .before .before .before .before .before .before .before .before .before .before .before .args .at) + 1) (omega arith) (c .before .before .before .before .before .before .before .before .before .before .before .before .pre .0 .table)) (c .before .before .before .before .before .if2 .left)) in no-dictionary (c .before .before .before .before .before .before .before .before .before .before .before .before .args .text .now) (c .before .before .before .before .before .before .before .before .before .before .before .before .args .at) (c .before .before .before .before .before .before .before .before .before .before .before .before .pre .0 .few) (c .before .before .before .before .before .before .before .before .before .before .before .before .pre .1) (c .before .before .before .before .before .before .before .before .before .before .before .before .pre .2) (entry-open (c .before .before .before .before .before .before .before .before .before .before .before .before .args .text .now) (c .before .before .before .before .before .before .before .before .before .before .before .before .args .at) (c .before .before .before .before .before .before .before .before .before .before .before .before .pre .0 .few) (c .before .before .before .before .before .before .before .before .before .before .before .before .pre .1) (c .before .before .before .before .before .before .before .before .before .before .before .before .pre .2) (λ z. (c .before .before .before .before .before .before .before .if1 .left) ((c .before .before .before .before .before .before .before .before .key-alignment .ensures ∙ ap keyAlignment (c .before .before .before .before .before .before .before .before .before .letter-at .ensures)) ∙ z)) (k .stands) (λ q. apart-from CloseEntry (c .before .letter-at2 .result) (c .match .keys2) (c .before .letter-at2 .ensures ∙ ap (λ (x : ℕ). letterAt (c .before .before .before .before .before .before .before .before .before .before .before .before .args .text .now) x) (c .before .before .before .before .next-of .ensures ∙ k .next) ∙ q)))
+    let at-next-of = c .before .before .before .before in
+    let at-if2 = at-next-of .before in
+    let at-seen = at-if2 .before in
+    let at-if1 = at-seen .before in
+    let at-key-alignment = at-if1 .before in
+    let at-letter-at = at-key-alignment .before in
+    let start = at-letter-at .before .before .before in
+    let k = (known (start .args .text .now) (start .args .at + 3) (at-seen .seen .result)
+    (at-seen .seen .ensures (start .args .at + 1) (omega arith) (start .pre .0 .table)) (at-if2 .if2 .left)) in
+    no-dictionary (start .args .text .now) (start .args .at) (start .pre .0 .few) (start .pre .1) (start .pre .2)
+    (entry-open (start .args .text .now) (start .args .at) (start .pre .0 .few) (start .pre .1) (start .pre .2)
+    (λ z. (at-if1 .if1 .left) ((at-key-alignment .key-alignment .ensures ∙ ap keyAlignment (at-letter-at .letter-at .ensures)) ∙ z)) (k .stands)
+    (λ q. apart-from CloseEntry (c .before .letter-at2 .result) (c .match .keys2)
+    (c .before .letter-at2 .ensures ∙ ap (λ (x : ℕ). letterAt (start .args .text .now) x) (at-next-of .next-of .ensures ∙ k .next) ∙ q)))
 
 pub dictionary-shape-spec : {M : Type 1} → statement M
 dictionary-shape-spec =

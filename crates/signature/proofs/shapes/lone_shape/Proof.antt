@@ -56,7 +56,12 @@ returns c = c .pack .ensures ∙ shape-lone (c .before .before .before .before .
 -- src/shapes.rt:209:1
 returns-2 : tie.Need-returns-2
 unfolding shapeOf
-returns-2 c = c .pack2 .ensures ∙ shape-lone (c .before .before .before .before .before .before .args .text .now) 0 (Number (c .before .before .kind .given .0 .0) (c .before .before .kind .given .0 .1 .0)) (omega arith) (sym (c .before .before .before .before .letter-inside .ensures) ∙ c .before .before .kind .given .1) refl
+returns-2 c =
+    let at-kind = c .before .before in
+    let at-letter-inside = at-kind .before .before in
+    let start = at-letter-inside .before .before in
+    c .pack2 .ensures ∙ shape-lone (start .args .text .now) 0 (Number (at-kind .kind .given .0 .0) (at-kind .kind .given .0 .1 .0)) (omega arith)
+    (sym (at-letter-inside .letter-inside .ensures) ∙ at-kind .kind .given .1) refl
 
 -- src/shapes.rt:209:1
 returns-3 : tie.Need-returns-3

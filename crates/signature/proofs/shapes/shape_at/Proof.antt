@@ -43,7 +43,15 @@ add-pack-2 c =
 
 pack-requires-2 : tie.Need-pack-requires-2
 pack-requires-2 c κs =
-    omega (arith, c .before .before .before .before .before .before .pre .inside, c .before .before .before .before .before .before .pre .few, number-most (c .before .before .before .before .before .before .args .text .now) (c .before .before .before .before .before .before .args .at) (c .before .kind .given .0 .0) (c .before .kind .given .0 .1 .0) (c .before .before .before .before .before .before .pre .few) (sym (c .before .before .before .letter-inside .ensures) ∙ (c .before .kind .given .1)))
+    let at-letter-inside = c .before .before .before in
+    let start = at-letter-inside .before .before .before in
+    omega (
+      arith,
+      start .pre .inside,
+      start .pre .few,
+      number-most (start .args .text .now) (start .args .at) (c .before .kind .given .0 .0)
+          (c .before .kind .given .0 .1 .0) (start .pre .few) (sym (at-letter-inside .letter-inside .ensures) ∙ (c .before .kind .given .1)),
+    )
 
 enum-told-2 : tie.Need-enum-told-2
 enum-told-2 c = search needs
@@ -98,26 +106,44 @@ structure-shape-requires c κs =
 returns : tie.Need-returns
 unfolding shapeOf
 returns c =
-    c .pack .ensures ∙ shape-lone (c .before .before .before .before .before .before .args .text .now) (c .before .before .before .before .before .before .args .at) Boolean (c .before .before .before .before .before .before .pre .few) (sym (c .before .before .before .letter-inside .ensures) ∙ (c .before .enum-told .given .1)) refl
+    let at-letter-inside = c .before .before .before in
+    let start = at-letter-inside .before .before .before in
+    c .pack .ensures ∙ shape-lone (start .args .text .now) (start .args .at) Boolean (start .pre .few)
+    (sym (at-letter-inside .letter-inside .ensures) ∙ (c .before .enum-told .given .1)) refl
 
 returns-2 : tie.Need-returns-2
 unfolding shapeOf
 returns-2 c =
-    c .pack2 .ensures ∙ shape-lone (c .before .before .before .before .before .before .before .args .text .now) (c .before .before .before .before .before .before .before .args .at) (Number (c .before .before .kind .given .0 .0) (c .before .before .kind .given .0 .1 .0)) (c .before .before .before .before .before .before .before .pre .few) (sym (c .before .before .before .before .letter-inside .ensures) ∙ (c .before .before .kind .given .1)) refl
+    let at-kind = c .before .before in
+    let at-letter-inside = at-kind .before .before in
+    let start = at-letter-inside .before .before .before in
+    c .pack2 .ensures ∙ shape-lone (start .args .text .now) (start .args .at) (Number (at-kind .kind .given .0 .0) (at-kind .kind .given .0 .1 .0))
+    (start .pre .few) (sym (at-letter-inside .letter-inside .ensures) ∙ (at-kind .kind .given .1)) refl
 
 returns-3 : tie.Need-returns-3
 unfolding shapeOf
 returns-3 c =
-    c .pack3 .ensures ∙ shape-lone (c .before .before .before .before .before .before .args .text .now) (c .before .before .before .before .before .before .args .at) (Text (c .before .enum-told2 .given .0 .0)) (c .before .before .before .before .before .before .pre .few) (sym (c .before .before .before .letter-inside .ensures) ∙ (c .before .enum-told2 .given .1)) refl
+    let at-letter-inside = c .before .before .before in
+    let start = at-letter-inside .before .before .before in
+    c .pack3 .ensures ∙ shape-lone (start .args .text .now) (start .args .at) (Text (c .before .enum-told2 .given .0 .0)) (start .pre .few)
+    (sym (at-letter-inside .letter-inside .ensures) ∙ (c .before .enum-told2 .given .1)) refl
 
 returns-4 : tie.Need-returns-4
 unfolding shapeOf
 returns-4 c =
-    c .pack4 .ensures ∙ shape-lone (c .before .before .before .before .before .before .args .text .now) (c .before .before .before .before .before .before .args .at) Variant (c .before .before .before .before .before .before .pre .few) (sym (c .before .before .before .letter-inside .ensures) ∙ (c .before .enum-told3 .given .1)) refl
+    let at-letter-inside = c .before .before .before in
+    let start = at-letter-inside .before .before .before in
+    c .pack4 .ensures ∙ shape-lone (start .args .text .now) (start .args .at) Variant (start .pre .few)
+    (sym (at-letter-inside .letter-inside .ensures) ∙ (c .before .enum-told3 .given .1)) refl
 
 returns-5 : tie.Need-returns-5
 returns-5 c =
-    c .loosened .ensures ∙ shape-maybe (c .before .before .before .before .before .before .before .args .text .now) (c .before .before .before .before .before .before .before .args .at) (c .before .seen .result) (c .before .before .before .before .before .before .before .pre .few) (sym (c .before .before .before .before .letter-inside .ensures) ∙ (c .before .before .enum-told4 .given .1)) (c .before .seen .ensures ((c .before .before .before .before .before .before .before .args .at) + 1) (omega arith) (c .before .before .before .before .before .before .before .pre .table))
+    let at-enum-told4 = c .before .before in
+    let at-letter-inside = at-enum-told4 .before .before in
+    let start = at-letter-inside .before .before .before in
+    c .loosened .ensures ∙ shape-maybe (start .args .text .now) (start .args .at) (c .before .seen .result) (start .pre .few)
+    (sym (at-letter-inside .letter-inside .ensures) ∙ (at-enum-told4 .enum-told4 .given .1))
+    (c .before .seen .ensures (start .args .at + 1) (omega arith) (start .pre .table))
 
 returns-6 : tie.Need-returns-6
 returns-6 c = search needs
@@ -127,7 +153,9 @@ returns-7 c = search needs
 
 returns-8 : tie.Need-returns-8
 returns-8 c =
-    shape-none (c .before .before .before .before .args .text .now) (c .before .before .before .before .args .at) (c .before .letter-inside .result) (c .before .before .before .before .pre .few) (c .before .letter-inside .ensures) (no-start ((c .before .before .before .before .args .at) + 1) (c .before .letter-inside .result) (c .match .keys8))
+    let start = c .before .before .before .before in
+    shape-none (start .args .text .now) (start .args .at) (c .before .letter-inside .result) (start .pre .few) (c .before .letter-inside .ensures)
+    (no-start (start .args .at + 1) (c .before .letter-inside .result) (c .match .keys8))
 
 pub shape-at-spec : {M : Type 1} → statement M
 shape-at-spec =

@@ -33,7 +33,12 @@ same-length c = search needs
 
 -- src/shapes.rt:238:13
 returns-3 : tie.Need-returns-3
-returns-3 c = answered-lone-none (c .before .before .before .before .before .before .before .args .text .now) (c .before .before .before .before .before .before .before .args .shapes .now) (c .before .lone-shape .result) (c .before .before .if3 .taken) (c .before .before .before .if2 .left) (c .before .lone-shape .ensures) (c .if4 .taken)
+returns-3 c =
+    let at-if3 = c .before .before in
+    let at-if2 = at-if3 .before in
+    let start = at-if2 .before .before .before .before in
+    answered-lone-none (start .args .text .now) (start .args .shapes .now) (c .before .lone-shape .result) (at-if3 .if3 .taken) (at-if2 .if2 .left)
+    (c .before .lone-shape .ensures) (c .if4 .taken)
 
 -- src/shapes.rt:240:9
 same-length-2 : tie.Need-same-length-2
@@ -41,7 +46,12 @@ same-length-2 c = search needs
 
 -- src/shapes.rt:240:9
 returns-4 : tie.Need-returns-4
-returns-4 c = answered-lone (c .before .before .before .before .before .before .before .args .text .now) (c .before .before .before .before .before .before .before .args .shapes .now) (c .before .lone-shape .result) (c .before .before .if3 .taken) (c .before .before .before .if2 .left) (c .before .lone-shape .ensures) (c .if4 .left)
+returns-4 c =
+    let at-if3 = c .before .before in
+    let at-if2 = at-if3 .before in
+    let start = at-if2 .before .before .before .before in
+    answered-lone (start .args .text .now) (start .args .shapes .now) (c .before .lone-shape .result) (at-if3 .if3 .taken) (at-if2 .if2 .left)
+    (c .before .lone-shape .ensures) (c .if4 .left)
 
 -- src/shapes.rt:242:5
 fill-from-requires : tie.Need-fill-from-requires

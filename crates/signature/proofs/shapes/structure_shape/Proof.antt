@@ -42,7 +42,11 @@ seen-requires c κs =
 
 returns : tie.Need-returns Inv-loop μ-loop
 returns c =
-    fielded-missing (c .before .before .before .before .before .args .text .now) (c .before .before .before .before .before .args .at) (c .before .before .loop .place) (c .before .before .loop .alignment) (c .before .before .loop .fixed) (c .before .before .before .before .before .pre .0 .few) (c .before .before .loop .inv) (c .before .seen .result) (c .before .seen .ensures ((c .before .before .before .before .before .args .at) + 1) (omega (arith, c .before .before .loop .inv .fielding .onward)) (c .before .before .before .before .before .pre .0 .table)) (c .if1 .taken)
+    let at-loop = c .before .before in
+    let start = at-loop .before .before .before in
+    fielded-missing (start .args .text .now) (start .args .at) (at-loop .loop .place) (at-loop .loop .alignment) (at-loop .loop .fixed)
+    (start .pre .0 .few) (at-loop .loop .inv) (c .before .seen .result)
+    (c .before .seen .ensures (start .args .at + 1) (omega (arith, at-loop .loop .inv .fielding .onward)) (start .pre .0 .table)) (c .if1 .taken)
 
 alignment-of-requires : tie.Need-alignment-of-requires Inv-loop μ-loop
 alignment-of-requires c κs =
@@ -74,23 +78,99 @@ enum-told c =
 
 add-pack : tie.Need-add-pack Inv-loop μ-loop
 add-pack c =
-    omega (arith, fits (c .before .before .before .before .before .before .before .before .before .before .before .before .before .args .text .now) (c .before .before .before .next-of .result) CloseStructure 41 (c .before .before .before .before .before .before .before .before .before .before .before .before .before .pre .0 .few) (sym (c .before .before .letter-at .ensures) ∙ (c .enum-told .given .1)) refl)
+    let at-letter-at = c .before .before in
+    let at-next-of = at-letter-at .before in
+    let start = at-next-of .before .before .before .before .before .before .before .before .before .before in
+    omega (
+      arith,
+      fits (start .args .text .now) (at-next-of .next-of .result) CloseStructure 41 (start .pre .0 .few)
+          (sym (at-letter-at .letter-at .ensures) ∙ (c .enum-told .given .1)) refl,
+    )
 
 pack-requires : tie.Need-pack-requires Inv-loop μ-loop
 pack-requires c κs =
-    (fits (c .before .before .before .before .before .before .before .before .before .before .before .before .before .args .text .now) (c .before .before .before .next-of .result) CloseStructure 41 (c .before .before .before .before .before .before .before .before .before .before .before .before .before .pre .0 .few) (sym (c .before .before .letter-at .ensures) ∙ (c .enum-told .given .1)) refl, fielded-most (c .before .before .before .before .before .before .before .before .before .before .before .before .before .args .text .now) (c .before .before .before .before .before .before .before .before .before .before .before .before .before .args .at) (c .before .before .before .before .before .before .before .before .before .before .loop .place) (c .before .before .before .before .before .before .before .before .before .before .loop .alignment) (c .before .before .before .before .before .before .before .before .before .before .loop .fixed) (c .before .before .before .before .before .before .before .before .before .before .before .before .before .pre .0 .few) (c .before .before .before .before .before .before .before .before .before .before .loop .inv) (c .before .before .before .before .before .before .before .before .before .seen .result) (known (c .before .before .before .before .before .before .before .before .before .before .before .before .before .args .text .now) (c .before .before .before .before .before .before .before .before .before .before .loop .place) (c .before .before .before .before .before .before .before .before .before .seen .result) (c .before .before .before .before .before .before .before .before .before .seen .ensures ((c .before .before .before .before .before .before .before .before .before .before .before .before .before .args .at) + 1) (omega (arith, c .before .before .before .before .before .before .before .before .before .before .loop .inv .fielding .onward)) (c .before .before .before .before .before .before .before .before .before .before .before .before .before .pre .0 .table)) (c .before .before .before .before .before .before .before .before .if1 .left)) (c .before .before .before .next-of .result) (c .before .before .before .before .before .before .larger .result) (c .before .before .before .before .both .result) (c .before .before .before .next-of .ensures) (c .before .before .before .before .before .before .larger .ensures ∙ ap (λ (x : ℕ). max (c .before .before .before .before .before .before .before .before .before .before .loop .alignment) x) (c .before .before .before .before .before .before .before .alignment-of .ensures)) (c .before .before .before .before .both .ensures ∙ ap (λ (x : Bool). (c .before .before .before .before .before .before .before .before .before .before .loop .fixed) && x) (c .before .before .before .before .before .fixed-of .ensures)))
+    let at-letter-at = c .before .before in
+    let at-next-of = at-letter-at .before in
+    let at-both = at-next-of .before in
+    let at-fixed-of = at-both .before in
+    let at-larger = at-fixed-of .before in
+    let at-alignment-of = at-larger .before in
+    let at-if1 = at-alignment-of .before in
+    let at-seen = at-if1 .before in
+    let at-loop = at-seen .before in
+    let start = at-loop .before .before .before in (
+      fits (start .args .text .now) (at-next-of .next-of .result) CloseStructure 41 (start .pre .0 .few)
+          (sym (at-letter-at .letter-at .ensures) ∙ (c .enum-told .given .1)) refl,
+      fielded-most (start .args .text .now) (start .args .at)
+          (at-loop .loop .place) (at-loop .loop .alignment) (at-loop .loop .fixed) (start .pre .0 .few) (at-loop .loop .inv) (at-seen .seen .result)
+          (known (start .args .text .now) (at-loop .loop .place) (at-seen .seen .result)
+          (at-seen .seen .ensures (start .args .at + 1) (omega (arith, at-loop .loop .inv .fielding .onward)) (start .pre .0 .table)) (at-if1 .if1 .left))
+          (at-next-of .next-of .result) (at-larger .larger .result) (at-both .both .result) (at-next-of .next-of .ensures)
+          (at-larger .larger .ensures ∙ ap (λ (x : ℕ). max (at-loop .loop .alignment) x) (at-alignment-of .alignment-of .ensures))
+          (at-both .both .ensures ∙ ap (λ (x : Bool). (at-loop .loop .fixed) && x) (at-fixed-of .fixed-of .ensures)),
+    )
 
 returns-2 : tie.Need-returns-2 Inv-loop μ-loop
 returns-2 c =
-    c .pack .ensures ∙ fielded-last (c .before .before .before .before .before .before .before .before .before .before .before .before .before .before .args .text .now) (c .before .before .before .before .before .before .before .before .before .before .before .before .before .before .args .at) (c .before .before .before .before .before .before .before .before .before .before .before .loop .place) (c .before .before .before .before .before .before .before .before .before .before .before .loop .alignment) (c .before .before .before .before .before .before .before .before .before .before .before .loop .fixed) (c .before .before .before .before .before .before .before .before .before .before .before .before .before .before .pre .0 .few) (c .before .before .before .before .before .before .before .before .before .before .before .loop .inv) (c .before .before .before .before .before .before .before .before .before .before .seen .result) (known (c .before .before .before .before .before .before .before .before .before .before .before .before .before .before .args .text .now) (c .before .before .before .before .before .before .before .before .before .before .before .loop .place) (c .before .before .before .before .before .before .before .before .before .before .seen .result) (c .before .before .before .before .before .before .before .before .before .before .seen .ensures ((c .before .before .before .before .before .before .before .before .before .before .before .before .before .before .args .at) + 1) (omega (arith, c .before .before .before .before .before .before .before .before .before .before .before .loop .inv .fielding .onward)) (c .before .before .before .before .before .before .before .before .before .before .before .before .before .before .pre .0 .table)) (c .before .before .before .before .before .before .before .before .before .if1 .left)) (c .before .before .before .before .next-of .result) (c .before .before .before .before .before .before .before .larger .result) (c .before .before .before .before .before .both .result) (c .before .before .before .before .next-of .ensures) (c .before .before .before .before .before .before .before .larger .ensures ∙ ap (λ (x : ℕ). max (c .before .before .before .before .before .before .before .before .before .before .before .loop .alignment) x) (c .before .before .before .before .before .before .before .before .alignment-of .ensures)) (c .before .before .before .before .before .both .ensures ∙ ap (λ (x : Bool). (c .before .before .before .before .before .before .before .before .before .before .before .loop .fixed) && x) (c .before .before .before .before .before .before .fixed-of .ensures)) (sym (c .before .before .before .letter-at .ensures) ∙ (c .before .enum-told .given .1))
+    let at-letter-at = c .before .before .before in
+    let at-next-of = at-letter-at .before in
+    let at-both = at-next-of .before in
+    let at-fixed-of = at-both .before in
+    let at-larger = at-fixed-of .before in
+    let at-alignment-of = at-larger .before in
+    let at-if1 = at-alignment-of .before in
+    let at-seen = at-if1 .before in
+    let at-loop = at-seen .before in
+    let start = at-loop .before .before .before in
+    c .pack .ensures ∙ fielded-last (start .args .text .now) (start .args .at) (at-loop .loop .place) (at-loop .loop .alignment) (at-loop .loop .fixed)
+    (start .pre .0 .few) (at-loop .loop .inv) (at-seen .seen .result)
+    (known (start .args .text .now) (at-loop .loop .place) (at-seen .seen .result)
+    (at-seen .seen .ensures (start .args .at + 1) (omega (arith, at-loop .loop .inv .fielding .onward)) (start .pre .0 .table)) (at-if1 .if1 .left))
+    (at-next-of .next-of .result) (at-larger .larger .result) (at-both .both .result) (at-next-of .next-of .ensures)
+    (at-larger .larger .ensures ∙ ap (λ (x : ℕ). max (at-loop .loop .alignment) x) (at-alignment-of .alignment-of .ensures))
+    (at-both .both .ensures ∙ ap (λ (x : Bool). (at-loop .loop .fixed) && x) (at-fixed-of .fixed-of .ensures))
+    (sym (at-letter-at .letter-at .ensures) ∙ (c .before .enum-told .given .1))
 
 loop-less : tie.Need-loop-less Inv-loop μ-loop
 loop-less c =
-    omega (arith, fielded-onward (c .before .before .before .before .before .before .before .before .before .before .before .before .args .text .now) (c .before .before .before .before .before .before .before .before .before .before .before .before .args .at) (c .before .before .before .before .before .before .before .before .before .loop .place) (c .before .before .before .before .before .before .before .before .before .loop .alignment) (c .before .before .before .before .before .before .before .before .before .loop .fixed) (c .before .before .before .before .before .before .before .before .before .before .before .before .pre .0 .few) (c .before .before .before .before .before .before .before .before .before .loop .inv) (c .before .before .before .before .before .before .before .before .seen .result) (known (c .before .before .before .before .before .before .before .before .before .before .before .before .args .text .now) (c .before .before .before .before .before .before .before .before .before .loop .place) (c .before .before .before .before .before .before .before .before .seen .result) (c .before .before .before .before .before .before .before .before .seen .ensures ((c .before .before .before .before .before .before .before .before .before .before .before .before .args .at) + 1) (omega (arith, c .before .before .before .before .before .before .before .before .before .loop .inv .fielding .onward)) (c .before .before .before .before .before .before .before .before .before .before .before .before .pre .0 .table)) (c .before .before .before .before .before .before .before .if1 .left)) (c .before .before .next-of .result) (c .before .before .before .before .before .larger .result) (c .before .before .before .both .result) (c .before .before .next-of .ensures) (c .before .before .before .before .before .larger .ensures ∙ ap (λ (x : ℕ). max (c .before .before .before .before .before .before .before .before .before .loop .alignment) x) (c .before .before .before .before .before .before .alignment-of .ensures)) (c .before .before .before .both .ensures ∙ ap (λ (x : Bool). (c .before .before .before .before .before .before .before .before .before .loop .fixed) && x) (c .before .before .before .before .fixed-of .ensures)))
+    let at-next-of = c .before .before in
+    let at-both = at-next-of .before in
+    let at-fixed-of = at-both .before in
+    let at-larger = at-fixed-of .before in
+    let at-alignment-of = at-larger .before in
+    let at-if1 = at-alignment-of .before in
+    let at-seen = at-if1 .before in
+    let at-loop = at-seen .before in
+    let start = at-loop .before .before .before in
+    omega (
+      arith,
+      fielded-onward (start .args .text .now) (start .args .at) (at-loop .loop .place) (at-loop .loop .alignment) (at-loop .loop .fixed)
+          (start .pre .0 .few) (at-loop .loop .inv) (at-seen .seen .result)
+          (known (start .args .text .now) (at-loop .loop .place) (at-seen .seen .result)
+          (at-seen .seen .ensures (start .args .at + 1) (omega (arith, at-loop .loop .inv .fielding .onward)) (start .pre .0 .table)) (at-if1 .if1 .left))
+          (at-next-of .next-of .result) (at-larger .larger .result) (at-both .both .result) (at-next-of .next-of .ensures)
+          (at-larger .larger .ensures ∙ ap (λ (x : ℕ). max (at-loop .loop .alignment) x) (at-alignment-of .alignment-of .ensures))
+          (at-both .both .ensures ∙ ap (λ (x : Bool). (at-loop .loop .fixed) && x) (at-fixed-of .fixed-of .ensures)),
+    )
 
 loop-again : tie.Need-loop-again Inv-loop μ-loop
 loop-again c =
-    fielded-next (c .before .before .before .before .before .before .before .before .before .before .before .before .args .text .now) (c .before .before .before .before .before .before .before .before .before .before .before .before .args .at) (c .before .before .before .before .before .before .before .before .before .loop .place) (c .before .before .before .before .before .before .before .before .before .loop .alignment) (c .before .before .before .before .before .before .before .before .before .loop .fixed) (c .before .before .before .before .before .before .before .before .before .before .before .before .pre .0 .few) (c .before .before .before .before .before .before .before .before .before .loop .inv) (c .before .before .before .before .before .before .before .before .seen .result) (known (c .before .before .before .before .before .before .before .before .before .before .before .before .args .text .now) (c .before .before .before .before .before .before .before .before .before .loop .place) (c .before .before .before .before .before .before .before .before .seen .result) (c .before .before .before .before .before .before .before .before .seen .ensures ((c .before .before .before .before .before .before .before .before .before .before .before .before .args .at) + 1) (omega (arith, c .before .before .before .before .before .before .before .before .before .loop .inv .fielding .onward)) (c .before .before .before .before .before .before .before .before .before .before .before .before .pre .0 .table)) (c .before .before .before .before .before .before .before .if1 .left)) (c .before .before .next-of .result) (c .before .before .before .before .before .larger .result) (c .before .before .before .both .result) (c .before .before .next-of .ensures) (c .before .before .before .before .before .larger .ensures ∙ ap (λ (x : ℕ). max (c .before .before .before .before .before .before .before .before .before .loop .alignment) x) (c .before .before .before .before .before .before .alignment-of .ensures)) (c .before .before .before .both .ensures ∙ ap (λ (x : Bool). (c .before .before .before .before .before .before .before .before .before .loop .fixed) && x) (c .before .before .before .before .fixed-of .ensures)) (λ q. apart-from CloseStructure (c .before .letter-at .result) (c .match .keys2) (c .before .letter-at .ensures ∙ q))
+    let at-next-of = c .before .before in
+    let at-both = at-next-of .before in
+    let at-fixed-of = at-both .before in
+    let at-larger = at-fixed-of .before in
+    let at-alignment-of = at-larger .before in
+    let at-if1 = at-alignment-of .before in
+    let at-seen = at-if1 .before in
+    let at-loop = at-seen .before in
+    let start = at-loop .before .before .before in
+    fielded-next (start .args .text .now) (start .args .at) (at-loop .loop .place) (at-loop .loop .alignment) (at-loop .loop .fixed) (start .pre .0 .few)
+    (at-loop .loop .inv) (at-seen .seen .result) (known (start .args .text .now) (at-loop .loop .place) (at-seen .seen .result)
+    (at-seen .seen .ensures (start .args .at + 1) (omega (arith, at-loop .loop .inv .fielding .onward)) (start .pre .0 .table)) (at-if1 .if1 .left))
+    (at-next-of .next-of .result) (at-larger .larger .result) (at-both .both .result) (at-next-of .next-of .ensures)
+    (at-larger .larger .ensures ∙ ap (λ (x : ℕ). max (at-loop .loop .alignment) x) (at-alignment-of .alignment-of .ensures))
+    (at-both .both .ensures ∙ ap (λ (x : Bool). (at-loop .loop .fixed) && x) (at-fixed-of .fixed-of .ensures))
+    (λ q. apart-from CloseStructure (c .before .letter-at .result) (c .match .keys2) (c .before .letter-at .ensures ∙ q))
 
 pub structure-shape-spec : {M : Type 1} → statement M
 structure-shape-spec =

@@ -1,17 +1,18 @@
 -- A whole frame: a law for each way out of whole, and from its answer to those of size and read. Assumes nothing.
 use mathlib.Core.Path.{_≡_, refl, ap, sym, _∙_}
-use mathlib.Core.List.{List, []}
+use mathlib.Core.List.{List, [], _∷_, _++_}
 use mathlib.Core.Bool.{Bool, true, false, _&&_}
 use Prim.Native.Nat.{ℕ, _-_, _*_, _/_, _≤_, _<_}
 use native.Mathlib.Omega.{arith}
 use native.Mathlib.Nat.{zero-add}
 use lib.Dec.{leb, eqb}
 use lib.ListN.{length, take, drop}
-use lib.Seq.{take-length}
+use lib.Seq.{take-length, take-append-seam, paste}
 use borrow.Author.Tests.{eq-eqb, ne-eqb, eqb-true, le-leb, lt-leb}
 use Rattle.meaning.specs.Choice.{pick}
 use Rattle.meaning.specs.Depths.{Depths, noneOpen, depthRefusal}
 use Rattle.meaning.specs.Outcome.{Outcome}
+use Rattle.meaning.specs.Events.{Event, triples}
 use Rattle.meaning.specs.Limits.{largestFrame}
 use Rattle.meaning.specs.Calls.{frameOf, frameReading, Counts, counts, sized, fitted, filled, size, read, readSlice}
 use Rattle.meaning.proofs.Bounds.{frame-events}
@@ -140,6 +141,55 @@ module _ (type : List ℕ) (big : Bool) (position : ℕ) (frame : List ℕ) wher
       slice-done =
           let m : s .count ≡ length (o .events) = ap (λ (x : Counts). x .count) (h ∙ sym (size-done d zero-too)) ∙ counted d zero-too in
           rw (← read-done) (rw (eq-eqb (r .refusal) 0 zero-too) (d .slice ∙ fills (o .events) [] out 0 refl (omega arith) (omega (arith, few d zero-too))))
+
+-- ---- a frame read in one walk, whose events were held in another slice
+
+triples-length : (es : List Event) → length (triples es) ≡ 3 * length es
+unfolding triples
+triples-length [] = refl
+triples-length (e ∷ es) = omega (arith, triples-length es)
+
+take-triples : (es : List Event) (b : List ℕ) → take (3 * length es) (triples es ++ b) ≡ triples es
+take-triples es b = rw (← triples-length es) (take-append-seam (triples es) b)
+
+pasted : (es : List Event) (l l′ out : List ℕ) (n : ℕ) → n ≡ length es → l′ ≡ triples es ++ drop (3 * length es) l → paste out 0 l′ (3 * n) ≡ triples es ++ drop (3 * length es) out
+pasted es l l′ out n m e = rw (m, e, zero-add (3 * length es), take-triples es (drop (3 * length es) l))
+
+module _ (type : List ℕ) (big : Bool) (position : ℕ) (frame out : List ℕ) where
+  abbrev Answers : Answer → List ℕ → Type 0
+  Answers r l = (countsOf r ≡ read type big position frame out) × (l ≡ readSlice type big position frame out)
+
+  module _ {end len : ℕ} {l l′ : List ℕ} {r : Answer} (d : Done (frameReading type big position frame) end len 0 l l′ r) where
+    pub once-refused : (r .refusal ≡ 0 → ⊥) → Answers (answer (r .refusal) 0 0) out
+    once-refused z =
+        let h = size-refused type big position frame d z in
+        (read-refused type big position frame out (answer (r .refusal) 0 0) h z, slice-refused type big position frame out (answer (r .refusal) 0 0) h z)
+
+    module _ (z : r .refusal ≡ 0) where
+      once-sized : countsOf r ≡ size type big position frame
+      once-sized = size-done type big position frame d z
+
+      pub once-small : length out / 3 < r .count → Answers (answer 13 0 0) out
+      once-small i = (read-small type big position frame out r once-sized i, slice-small type big position frame out r once-sized i)
+
+      module _ (i : r .count ≤ length out / 3) where
+        pub once-again : {end′ len′ : ℕ} (l″ : List ℕ) (s : Answer) → Done (frameReading type big position frame) end′ len′ 0 out l″ s → Answers s l″
+        once-again l″ s e = (read-done type big position frame out r once-sized z i l″ s e, slice-done type big position frame out r once-sized z i l″ s e)
+
+        once-read : countsOf r ≡ read type big position frame out
+        unfolding read fitted
+        once-read = once-sized ∙ rw (← once-sized) (rw (le-leb (3 * r .count) (length out) (omega arith)))
+
+        once-slice : 3 * r .count ≤ length l → paste out 0 l′ (3 * r .count) ≡ readSlice type big position frame out
+        unfolding readSlice filled
+        once-slice k =
+            let es = frameReading type big position frame .events in
+            let m = counted type big position frame d z in
+            let g = few type big position frame d z in
+            rw (← once-read) (rw (eq-eqb (r .refusal) 0 z) (pasted es l l′ out (r .count) m (d .slice ∙ fills es [] l 0 refl (omega (arith, m)) (omega (arith, g)))))
+
+        pub once-held : 3 * r .count ≤ length l → Answers r (paste out 0 l′ (3 * r .count))
+        once-held k = (once-read, once-slice k)
 
 -- a text that is no type
 module _ (type : List ℕ) (big : Bool) (position : ℕ) (frame : List ℕ) (h : isType type ≡ false) where

@@ -14,6 +14,9 @@ use signature::shapes::shape_in;
 use signature::shapes::shapes_of;
 ghost use mathlib.Core.Path.{_≡_};
 ghost use mathlib.Core.Bool.{true};
+ghost use Prim.Native.Nat.{_≤_};
+ghost use lib.ListN.{length};
+ghost use lib.Seq.{paste};
 ghost use Rattle.meaning.specs.Calls.{frameReading, size as sizeOf, read as readOf, readSlice};
 ghost use Rattle.signature.specs.Places.{isType};
 ghost use Rattle.signature.specs.Shapes.{Shaped};
@@ -39,7 +42,81 @@ pub fn read(signature: &[u8], big: bool, position: usize, frame: &[u8], out: &mu
     if !shapes_of(signature, &mut shapes) {
         return refused(TYPE_REFUSED, 0, 0);
     }
-    let s = sized(signature, &shapes, big, position, frame);
+    if in_one_walk(signature.len(), frame.len()) {
+        return read_once(signature, &shapes, big, position, frame, out);
+    }
+    read_twice(signature, &shapes, big, position, frame, out)
+}
+
+// Whether a frame is read in one walk: one of middling length, whose events are likely to be few enough to hold. An array of numbers is
+// no such frame, since a walk that only sizes it counts them.
+fn in_one_walk(type_length: usize, length: usize) -> bool {
+    if type_length <= 2 {
+        return false;
+    }
+    if length < 64 {
+        return false;
+    }
+    length <= 768
+}
+
+// Reads a frame by one walk, whose events are held until all is read; by a second walk where they are too many to hold.
+fn read_once(
+    signature: &[u8],
+    shapes: &[u16],
+    big: bool,
+    position: usize,
+    frame: &[u8],
+    out: &mut [u64],
+) -> Answer
+    requires { ⌜ (isType (now signature) ≡ true) × Shaped (now signature) (now shapes) ⌝ }
+    ensures answer { λ r. ⌜ countsOf r ≡ readOf (now (signature .entry)) big position (now (frame .entry)) (now (out .entry)) ⌝ }
+    ensures slice { λ r. ⌜ now (out .exit) ≡ readSlice (now (signature .entry)) big position (now (frame .entry)) (now (out .entry)) ⌝ }
+{
+    // Room for 640 events; filled by a number that is not all zeros, which the compiler does in place.
+    let mut held = [1u64; 1920];
+    let walked = whole(signature, shapes, big, position, frame, &mut held);
+    let fault = walked.refusal;
+    let many = walked.count;
+    if fault != 0 {
+        return refused(fault, 0, 0);
+    }
+    if out.len() / 3 < many {
+        return refused(ROOM_TOO_SMALL, 0, 0);
+    }
+    if 640 < many {
+        return whole(signature, shapes, big, position, frame, out);
+    }
+    copy(&held, 3 * many, out);
+    walked
+}
+
+// Copies so many numbers to the front of a slice.
+fn copy(from: &[u64], count: usize, out: &mut [u64])
+    requires { ⌜ (count ≤ length (now from)) × (count ≤ length (now out)) ⌝ }
+    ensures { λ r. ⌜ now (out .exit) ≡ paste (now (out .entry)) 0 (now (from .entry)) count ⌝ }
+{
+    let mut i = 0;
+    while i < count {
+        out[i] = from[i];
+        i = i + 1;
+    }
+}
+
+// Reads a frame by two walks: one to size it, and one into the slice.
+fn read_twice(
+    signature: &[u8],
+    shapes: &[u16],
+    big: bool,
+    position: usize,
+    frame: &[u8],
+    out: &mut [u64],
+) -> Answer
+    requires { ⌜ (isType (now signature) ≡ true) × Shaped (now signature) (now shapes) ⌝ }
+    ensures answer { λ r. ⌜ countsOf r ≡ readOf (now (signature .entry)) big position (now (frame .entry)) (now (out .entry)) ⌝ }
+    ensures slice { λ r. ⌜ now (out .exit) ≡ readSlice (now (signature .entry)) big position (now (frame .entry)) (now (out .entry)) ⌝ }
+{
+    let s = sized(signature, shapes, big, position, frame);
     let refusal = s.refusal;
     let count = s.count;
     if refusal != 0 {
@@ -48,7 +125,7 @@ pub fn read(signature: &[u8], big: bool, position: usize, frame: &[u8], out: &mu
     if out.len() / 3 < count {
         return refused(ROOM_TOO_SMALL, 0, 0);
     }
-    whole(signature, &shapes, big, position, frame, out)
+    whole(signature, shapes, big, position, frame, out)
 }
 
 // The size of a frame of a type, by the type's shapes: the same walk, into a slice of no length.

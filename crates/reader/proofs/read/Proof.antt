@@ -1,18 +1,18 @@
 -- `reader::read` meets its contract. Assumes nothing.
+use mathlib.Core.Path.{refl, ap, _∙_}
 use Rattle.reader_basic.specs.Answers.{countsOf}
-use mathlib.Core.Path.{ap, _∙_}
-use mathlib.Core.Path.{refl}
 use Rattle.signature.proofs.ShapeLaws.{table-refused, table-filled, table-type}
 use Rattle.reader_basic.proofs.Answers.{denied, granted}
-use Rattle.reader.proofs.Frames.{type-read, type-slice, read-refused, slice-refused, read-small, slice-small, read-done, slice-done}
-use Rattle.reader_basic.proofs.refused.Reads as refused-reads
+use Rattle.reader.proofs.Frames.{type-read, type-slice}
 use borrow.Author.Needs.{needs}
 use Rattle.reader.proofs.read.Statement.{statement}
 use Rattle.reader.proofs.read.Tie as tie
 use Rattle.reader.proofs.read.Reads as reads
 use Rattle.reader.proofs.read.Lts as lts
-use Rattle.reader.proofs.sized.Reads as sized-reads
-use Rattle.reader.proofs.whole.Reads as whole-reads
+use Rattle.reader.proofs.in_one_walk.Reads as in-one-walk-reads
+use Rattle.reader.proofs.read_once.Reads as read-once-reads
+use Rattle.reader.proofs.read_twice.Reads as read-twice-reads
+use Rattle.reader_basic.proofs.refused.Reads as refused-reads
 use Rattle.signature.proofs.shapes.shapes_of.Reads as shapes-of-reads
 
 slice-aggregate-shapes-of : tie.Need-slice-aggregate-shapes-of
@@ -21,44 +21,52 @@ slice-aggregate-shapes-of c = search needs
 shapes-of-requires : tie.Need-shapes-of-requires
 shapes-of-requires c κs = search needs
 
+refused-requires : tie.Need-refused-requires
+refused-requires c κs = search needs
+
 returns : tie.Need-returns
 returns c =
-    (ap countsOf (c .refused .ensures) ∙ type-read _ _ _ _ (table-refused _ _ _ _ refl (c .before .before .before .shapes-of .ensures) (denied (c .before .if1 .taken))) _, type-slice _ _ _ _ (table-refused _ _ _ _ refl (c .before .before .before .shapes-of .ensures) (denied (c .before .if1 .taken))) _)
+    let w = table-refused _ _ _ _ refl (c .before .before .before .shapes-of .ensures) (denied (c .before .if1 .taken)) in
+    (ap countsOf (c .refused .ensures) ∙ type-read _ _ _ _ w _, type-slice _ _ _ _ w _)
 
-slice-aggregate-sized : tie.Need-slice-aggregate-sized
-slice-aggregate-sized c = search needs
+in-one-walk-requires : tie.Need-in-one-walk-requires
+in-one-walk-requires c κs = search needs
 
-sized-requires : tie.Need-sized-requires
-sized-requires c κs =
-    (table-type _ _ _ _ refl (c .before .before .before .shapes-of .ensures) (granted (c .before .if1 .left)), table-filled _ _ _ _ refl (c .before .before .before .shapes-of .ensures) (c .before .before .before .shapes-of .kept .1 .0) (granted (c .before .if1 .left)))
+slice-aggregate-read-once : tie.Need-slice-aggregate-read-once
+slice-aggregate-read-once c = search needs
 
-returns-2 : tie.Need-returns-2
-returns-2 c =
-    (read-refused _ _ _ _ _ _ (c .before .sized .ensures) (c .if2 .taken), slice-refused _ _ _ _ _ _ (c .before .sized .ensures) (c .if2 .taken))
-
-returns-3 : tie.Need-returns-3
-returns-3 c =
-    (ap countsOf (c .refused2 .ensures) ∙ read-small _ _ _ _ _ _ (c .before .before .before .sized .ensures) (c .before .if3 .taken), slice-small _ _ _ _ _ _ (c .before .before .before .sized .ensures) (c .before .if3 .taken))
-
-slice-aggregate-whole : tie.Need-slice-aggregate-whole
-slice-aggregate-whole c = search needs
-
-whole-requires : tie.Need-whole-requires
-whole-requires c κs =
-    (table-type _ _ _ _ refl (c .before .before .before .before .before .before .before .before .shapes-of .ensures) (granted (c .before .before .before .before .before .before .if1 .left)), table-filled _ _ _ _ refl (c .before .before .before .before .before .before .before .before .shapes-of .ensures) (c .before .before .before .before .before .before .before .before .shapes-of .kept .1 .0) (granted (c .before .before .before .before .before .before .if1 .left)))
+read-once-requires : tie.Need-read-once-requires
+read-once-requires c κs =
+    let at-if1 = c .before .before .before .before in
+    let at-shapes-of = at-if1 .before .before in (
+      table-type _ _ _ _ refl (at-shapes-of .shapes-of .ensures) (granted (at-if1 .if1 .left)),
+      table-filled _ _ _ _ refl
+          (at-shapes-of .shapes-of .ensures) (at-shapes-of .shapes-of .kept .1 .0) (granted (at-if1 .if1 .left)),
+    )
 
 same-length : tie.Need-same-length
 same-length c = search needs
 
-returns-4 : tie.Need-returns-4
-returns-4 c =
-    (read-done _ _ _ _ _ _ (c .before .before .before .before .before .before .before .sized .ensures) (c .before .before .before .before .before .before .if2 .left) (c .before .before .before .before .before .if3 .left) _ _ (c .before .before .whole .ensures), slice-done _ _ _ _ _ _ (c .before .before .before .before .before .before .before .sized .ensures) (c .before .before .before .before .before .before .if2 .left) (c .before .before .before .before .before .if3 .left) _ _ (c .before .before .whole .ensures))
+returns-2 : tie.Need-returns-2
+returns-2 c = search needs
 
-refused-requires : tie.Need-refused-requires
-refused-requires c κs = search needs
+slice-aggregate-read-twice : tie.Need-slice-aggregate-read-twice
+slice-aggregate-read-twice c = search needs
 
-refused-requires-2 : tie.Need-refused-requires-2
-refused-requires-2 c κs = search needs
+read-twice-requires : tie.Need-read-twice-requires
+read-twice-requires c κs =
+    let at-if1 = c .before .before .before .before in
+    let at-shapes-of = at-if1 .before .before in (
+      table-type _ _ _ _ refl (at-shapes-of .shapes-of .ensures) (granted (at-if1 .if1 .left)),
+      table-filled _ _ _ _ refl
+          (at-shapes-of .shapes-of .ensures) (at-shapes-of .shapes-of .kept .1 .0) (granted (at-if1 .if1 .left)),
+    )
+
+same-length-2 : tie.Need-same-length-2
+same-length-2 c = search needs
+
+returns-3 : tie.Need-returns-3
+returns-3 c = search needs
 
 pub read-spec : {M : Type 1} → statement M
 read-spec =
@@ -68,12 +76,12 @@ read-spec =
     shapes-of-requires
     refused-requires
     returns
-    slice-aggregate-sized
-    sized-requires
-    returns-2
-    refused-requires-2
-    returns-3
-    slice-aggregate-whole
-    whole-requires
+    in-one-walk-requires
+    slice-aggregate-read-once
+    read-once-requires
     same-length
-    returns-4)
+    returns-2
+    slice-aggregate-read-twice
+    read-twice-requires
+    same-length-2
+    returns-3)

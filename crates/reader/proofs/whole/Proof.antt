@@ -32,14 +32,29 @@ shape-in-requires c κs = search needs
 
 value-requires : tie.Need-value-requires
 value-requires c κs =
-    (described-as (c .before .shape-in .ensures) (front-described _ _ (c .before .before .before .before .before .before .before .before .before .pre .1) (front _ (c .before .before .before .before .before .before .before .before .before .pre .0))), within-frame (c .before .before .before .before .if1 .left) (c .before .before .before .if2 .left) (c .before .before .new .ensures), omega arith)
+    let at-new = c .before .before in
+    let at-if2 = at-new .before in
+    let at-if1 = at-if2 .before in
+    let start = at-if1 .before .before .before .before .before in (
+      described-as (c .before .shape-in .ensures) (front-described _ _ (start .pre .1) (front _ (start .pre .0))),
+      within-frame (at-if1 .if1 .left)
+          (at-if2 .if2 .left) (at-new .new .ensures),
+      omega arith,
+    )
 
 same-length : tie.Need-same-length
 same-length c = search needs
 
 returns-3 : tie.Need-returns-3
 returns-3 c =
-    whole-read _ _ _ _ _ (front _ (c .before .before .before .before .before .before .before .before .before .before .before .before .pre .0)) (c .before .before .before .before .before .before .before .if1 .left) (c .before .before .before .before .before .before .if2 .left) _ (c .before .before .before .before .before .new .ensures) _ (ap (λ (s : Shape). s .at) (c .before .before .before .before .shape-in .ensures)) _ _ (child-all _ (c .before .before .before .before .before .before .before .before .before .before .before .before .args .frame .now) 0 _ _ _ (c .before .before .value .ensures))
+    let at-value = c .before .before in
+    let at-shape-in = at-value .before .before in
+    let at-new = at-shape-in .before in
+    let at-if2 = at-new .before in
+    let at-if1 = at-if2 .before in
+    let start = at-if1 .before .before .before .before .before in
+    whole-read _ _ _ _ _ (front _ (start .pre .0)) (at-if1 .if1 .left) (at-if2 .if2 .left) _ (at-new .new .ensures) _
+    (ap (λ (s : Shape). s .at) (at-shape-in .shape-in .ensures)) _ _ (child-all _ (start .args .frame .now) 0 _ _ _ (at-value .value .ensures))
 
 refused-requires : tie.Need-refused-requires
 refused-requires c κs = search needs

@@ -16,7 +16,7 @@ use Rattle.meaning.proofs.OffsetSteps.{end-at, entry-past, entry-there, own-wid
 use Rattle.utils.specs.declared.Checked.{Checked}
 use Rattle.framing_offset_size.specs.declared.FramingOffsetSize.{FramingOffsetSize}
 use Rattle.framing_offset_size.specs.declared.FramingOffsetSize.the-variants.{U8}
-use Rattle.framing_offsets.specs.declared.FramingOffsets.{FramingOffsets}
+use Rattle.framing_offsets.specs.declared.OffsetTable.{OffsetTable}
 use Rattle.framing_offsets.specs.declared.EncodedArray.{EncodedArray}
 use Rattle.utils.specs.Checks.{passed, failed}
 use Rattle.byte_order.specs.Standing.{numberAt}

@@ -3,7 +3,7 @@ use mathlib.Core.Path.{_≡_, refl, sym, ap, _∙_}
 use Rattle.meaning.specs.OneAnswer.{OneAnswer}
 use Rattle.meaning.specs.Offsets.{Table}
 use Rattle.framing_offset_size.proofs.Unique.{same-width}
-use Rattle.framing_offsets.specs.declared.FramingOffsets.{FramingOffsets}
+use Rattle.framing_offsets.specs.declared.OffsetTable.{OffsetTable}
 use Rattle.framing_offsets.specs.Tables.{tableIn}
 use Rattle.framing_offsets.proofs.count.Kinds as count-kinds
 use Rattle.framing_offsets.proofs.count.Reads as count
@@ -33,7 +33,7 @@ next-in-unique κs a z z′ w w′ p q = (p ∙ sym q, refl)
 pub last-in-unique : OneAnswer last-in-kinds.ps last-in-kinds.r last-in.Learnt
 last-in-unique κs a z z′ w w′ p q = (p ∙ sym q, refl)
 
-same-table : {x : Table} (t u : FramingOffsets) → tableIn t ≡ x → tableIn u ≡ x → t ≡ u
+same-table : {x : Table} (t u : OffsetTable) → tableIn t ≡ x → tableIn u ≡ x → t ≡ u
 same-table t u p q =
     let tables = p ∙ sym q in
     let sizes = same-width (t .size) (u .size) (ap (λ (x : Table). x .width) p) (ap (λ (x : Table). x .width) q) in

@@ -9,12 +9,12 @@ use Rattle.meaning.specs.Refusals.{outOfBounds, missingFramingOffset}
 use Rattle.meaning.specs.Offsets.{Table, tableFrom, tableOf, endsOf, tableStands}
 use Rattle.meaning.specs.Parts.{holds}
 use Rattle.utils.specs.declared.Checked.{Checked}
-use Rattle.framing_offsets.specs.declared.FramingOffsets.{FramingOffsets}
+use Rattle.framing_offsets.specs.declared.OffsetTable.{OffsetTable}
 use Rattle.framing_offsets.specs.declared.EncodedArray.{EncodedArray}
 use Rattle.utils.specs.Checks.{passed, failed}
 use Rattle.framing_offset_size.specs.Widths.{widthOf}
 
-abbrev pub tableIn : FramingOffsets → Table
+abbrev pub tableIn : OffsetTable → Table
 tableIn t = record { start = t .start; count = t .count; width = widthOf (t .size) }
 
 abbrev pub countFrom : ℕ → ℕ → List ℕ → ℕ

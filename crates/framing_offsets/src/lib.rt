@@ -12,7 +12,7 @@ ghost use Rattle.framing_offset_size.specs.Widths.{widthOf};
 ghost use Rattle.framing_offsets.specs.Tables.{tableIn, countFrom, Encoded, offsetIn};
 
 // Where the table begins, how many offsets it has, and how wide they are.
-pub struct FramingOffsets {
+pub struct OffsetTable {
     pub start: usize,
     pub count: usize,
     pub size: FramingOffsetSize,
@@ -21,7 +21,7 @@ pub struct FramingOffsets {
 // The refusal's number, 0 where there is none, and the table, an empty one where it is refused.
 pub struct EncodedArray {
     pub refusal: u8,
-    pub offsets: FramingOffsets,
+    pub offsets: OffsetTable,
 }
 
 // How many offsets of a width there are from a start on.
@@ -63,7 +63,7 @@ pub fn from_encoded_array(container: &[u8]) -> EncodedArray
     let last = size.read_last_offset_from_buffer(container);
     let start = last.value;
     if stands(container, start, size) {
-        let offsets = FramingOffsets {
+        let offsets = OffsetTable {
             start,
             count: count(container, start, size),
             size,
@@ -73,7 +73,7 @@ pub fn from_encoded_array(container: &[u8]) -> EncodedArray
             offsets,
         };
     }
-    let offsets = FramingOffsets {
+    let offsets = OffsetTable {
         start: 0,
         count: 0,
         size: FramingOffsetSize::U8,
@@ -85,7 +85,7 @@ pub fn from_encoded_array(container: &[u8]) -> EncodedArray
 }
 
 // The i-th offset of a table that stands in a container, from 0 on.
-pub fn next(container: &[u8], offsets: FramingOffsets, i: usize) -> Checked
+pub fn next(container: &[u8], offsets: OffsetTable, i: usize) -> Checked
     ensures { λ r. ⌜ r ≡ offsetIn (tableIn offsets) i (now (container .entry)) ⌝ }
 {
     let start = offsets.start;
@@ -103,7 +103,7 @@ pub fn next(container: &[u8], offsets: FramingOffsets, i: usize) -> Checked
     entry
 }
 
-pub fn first(container: &[u8], offsets: FramingOffsets) -> Checked
+pub fn first(container: &[u8], offsets: OffsetTable) -> Checked
     ensures { λ r. ⌜ r ≡ offsetIn (tableIn offsets) 0 (now (container .entry)) ⌝ }
 {
     next(container, offsets, 0)

@@ -7,7 +7,7 @@ use container_depths::ContainerDepths;
 use container_depths::Raised;
 use framing_offset_size::Fitting;
 use framing_offset_size::FramingOffsetSize;
-use framing_offsets::FramingOffsets;
+use framing_offsets::OffsetTable;
 use lines::word;
 use std::num::wrapping_add_usize;
 use utils::padding_for_n_bytes;
@@ -165,7 +165,7 @@ fn write_offset(line: &[u8]) {
     print_written(size, number(line, 2), &mut space[..n]);
 }
 
-fn print_offsets(container: &[u8], offsets: FramingOffsets) {
+fn print_offsets(container: &[u8], offsets: OffsetTable) {
     let count = offsets.count;
     let mut i = 0;
     while i < count {

@@ -8,24 +8,24 @@ use Rattle.meaning.specs.Offsets.{endsOf}
 use Rattle.meaning.specs.Outcome.{Outcome}
 use Rattle.utils.specs.declared.Checked as leafs
 use Rattle.framing_offsets.specs.Tables.{tableIn, offsetIn}
-use Rattle.framing_offsets.specs.declared.FramingOffsets.{FramingOffsets}
+use Rattle.framing_offsets.specs.declared.OffsetTable.{OffsetTable}
 use Rattle.reader_basic.specs.Answers.{From, Between}
 use Rattle.reader_basic.specs.Parts.{Tabled, elementsBy}
 use Rattle.reader_basic.specs.declared.Answer.{Answer}
 use Rattle.reader_basic.proofs.Answers.{answer}
 use Rattle.reader_basic.proofs.Loops.{tail, ends-below, next-end, length-ends, FramedLeft, framed-begin, framed-end, framed-stop, framed-next}
 
-pub body-ends : {t : FramingOffsets} {part : List ℕ} {lead : ℕ} → Tabled t part lead → lead + t .start ≤ length part
+pub body-ends : {t : OffsetTable} {part : List ℕ} {lead : ℕ} → Tabled t part lead → lead + t .start ≤ length part
 body-ends {part = part} {lead = lead} k = let b = k .begins in omega (arith, k .stands .start, length-drop lead part)
 
 -- what is left after i elements and u bytes
-abbrev pub Left : (ℕ → ℕ → Outcome) → FramingOffsets → List ℕ → ℕ → ℕ → List ℕ → ℕ → ℕ → ℕ → List ℕ → Type 0
+abbrev pub Left : (ℕ → ℕ → Outcome) → OffsetTable → List ℕ → ℕ → ℕ → List ℕ → ℕ → ℕ → ℕ → List ℕ → Type 0
 Left step t part lead n l i u count out = FramedLeft step part lead (lead + t .start) n l (endsOf (tableIn t) (drop lead part)) i u count out
 
-pub left-begin : (step : ℕ → ℕ → Outcome) (t : FramingOffsets) (part : List ℕ) (lead n : ℕ) (l : List ℕ) → Left step t part lead n l 0 0 n l
+pub left-begin : (step : ℕ → ℕ → Outcome) (t : OffsetTable) (part : List ℕ) (lead n : ℕ) (l : List ℕ) → Left step t part lead n l 0 0 n l
 left-begin step t part lead n l = framed-begin step part lead (lead + t .start) n l _ (omega arith)
 
-module _ {step : ℕ → ℕ → Outcome} {t : FramingOffsets} {part : List ℕ} {lead n : ℕ} {l : List ℕ} {i u count : ℕ} {out : List ℕ} (k : Tabled t part lead) (v : Left step t part lead n l i u count out) where
+module _ {step : ℕ → ℕ → Outcome} {t : OffsetTable} {part : List ℕ} {lead n : ℕ} {l : List ℕ} {i u count : ℕ} {out : List ℕ} (k : Tabled t part lead) (v : Left step t part lead n l i u count out) where
   pub left-starts : lead + u ≤ length part
   left-starts = omega (arith, v .bound, body-ends k)
 
@@ -37,13 +37,13 @@ module _ {step : ℕ → ℕ → Outcome} {t : FramingOffsets} {part : List ℕ}
   left-end h = framed-end _ _ _ _ _ _ _ _ _ _ _ v (body-ends k) (omega (arith, length-ends (tableIn t) (drop lead part)))
 
 -- what a turn knows once it has the next end
-pub record Turn (step : ℕ → ℕ → Outcome) (t : FramingOffsets) (part : List ℕ) (lead n : ℕ) (l : List ℕ) (i u count : ℕ) (out : List ℕ) (end : leafs.Checked) : Type 0 where
+pub record Turn (step : ℕ → ℕ → Outcome) (t : OffsetTable) (part : List ℕ) (lead n : ℕ) (l : List ℕ) (i u count : ℕ) (out : List ℕ) (end : leafs.Checked) : Type 0 where
   pub tabled : Tabled t part lead
   pub left : Left step t part lead n l i u count out
   pub more : i < t .count
   pub found : end ≡ offsetIn (tableIn t) i (take (length part - lead) (drop lead part))
 
-module _ {step : ℕ → ℕ → Outcome} {t : FramingOffsets} {part : List ℕ} {lead n : ℕ} {l : List ℕ} {i u count : ℕ} {out : List ℕ} {end : leafs.Checked} (k : Turn step t part lead n l i u count out end) where
+module _ {step : ℕ → ℕ → Outcome} {t : OffsetTable} {part : List ℕ} {lead n : ℕ} {l : List ℕ} {i u count : ℕ} {out : List ℕ} {end : leafs.Checked} (k : Turn step t part lead n l i u count out end) where
   end-is : end .value ≡ getD (endsOf (tableIn t) (drop lead part)) i 0
   end-is = next-end (k .tabled .stands) i end (k .more) (rw (tail lead part) at (k .found))
 

@@ -18,7 +18,7 @@ use Rattle.utils.specs.declared.Checked.{Checked}
 use Rattle.container_depths.specs.Opening.{depthsOf}
 use Rattle.container_depths.specs.declared.ContainerDepths.{ContainerDepths}
 use Rattle.framing_offsets.specs.Tables.{tableIn}
-use Rattle.framing_offsets.specs.declared.FramingOffsets.{FramingOffsets}
+use Rattle.framing_offsets.specs.declared.OffsetTable.{OffsetTable}
 use Rattle.signature.specs.declared.Letter.{Letter}
 use Rattle.signature.specs.declared.items.Item.{Item}
 use Rattle.reader_basic.specs.declared.Context.{Context}
@@ -78,12 +78,12 @@ pub record Stands (t : Table) (l : List ℕ) : Type 0 where
   pub below : noneAbove (t .start) (endsOf t l) ≡ true
 
 -- an array that begins at lead in a part, and its table
-pub record Tabled (t : FramingOffsets) (l : List ℕ) (lead : ℕ) : Type 0 where
+pub record Tabled (t : OffsetTable) (l : List ℕ) (lead : ℕ) : Type 0 where
   pub begins : lead ≤ length l
   pub stands : Stands (tableIn t) (drop lead l)
 
 -- its elements, up to the ends of the table, and then the table
-abbrev pub elementsBy : (ℕ → ℕ → Outcome) → FramingOffsets → List ℕ → ℕ → Outcome
+abbrev pub elementsBy : (ℕ → ℕ → Outcome) → OffsetTable → List ℕ → ℕ → Outcome
 elementsBy step t l lead = chain (elementsTo step lead (endsOf (tableIn t) (drop lead l)) lead) (passing (length l - (lead + t .start)))
 
 -- the offset before an end of a structure's table

@@ -12,6 +12,7 @@ use de::parse_padding;
 use de::read_bool;
 use events::emit;
 use framing_offset_size::FramingOffsetSize;
+use framing_offsets::table::last_in;
 use meaning::letters::ARRAY_LETTER;
 use meaning::letters::BOOL_LETTER;
 use meaning::letters::CONTAINER_END;
@@ -195,7 +196,7 @@ pub fn offset_before(part: &[u8], lead: usize, size: FramingOffsetSize, end: usi
     if end < width {
         return Checked::failed(OUT_OF_BOUNDS);
     }
-    size.read_last_offset_from_buffer(&part[lead..end])
+    last_in(&part[lead..end], size)
 }
 
 // The last nul before the final byte of a part: the number of bytes up to it, itself counted, or 0.

@@ -10,7 +10,7 @@ use crate::refused;
 use byte_order::two_at;
 use de::parse_padding;
 use events::emit;
-use framing_offsets::FramingOffsets;
+use framing_offsets::OffsetTable;
 use framing_offsets::next;
 use meaning::letters::MAYBE_LETTER;
 use meaning::letters::NOTHING_LETTER;
@@ -213,7 +213,7 @@ fn child_reading(
 
 // Readings, each up to the end that the table gives; then the table.
 pub fn readings(
-    offsets: FramingOffsets,
+    offsets: OffsetTable,
     part: &[u8],
     lead: usize,
     place: usize,

@@ -4,7 +4,7 @@ use crate::basic::text_value;
 use crate::behind;
 use crate::done;
 use crate::refused;
-use framing_offsets::FramingOffsets;
+use framing_offsets::OffsetTable;
 use framing_offsets::next;
 use meaning::refusals::OUT_OF_BOUNDS;
 ghost use Prim.Native.Nat.{_+_, _≤_};
@@ -36,7 +36,7 @@ fn child_text(
 
 // Texts, each up to the end that the table gives; then the table.
 pub fn texts(
-    offsets: FramingOffsets,
+    offsets: OffsetTable,
     part: &[u8],
     lead: usize,
     place: usize,

@@ -29,7 +29,7 @@ use Rattle.meaning.specs.Choice.{pick}
 use Rattle.meaning.specs.Outcome.{Outcome}
 use Rattle.meaning.specs.Reading.{readText}
 use Rattle.container_depths.specs.Opening.{depthsOf}
-use Rattle.framing_offsets.specs.declared.FramingOffsets.{FramingOffsets}
+use Rattle.framing_offsets.specs.declared.OffsetTable.{OffsetTable}
 use Rattle.signature.proofs.TreeLaws.{described-kind}
 use Rattle.reader_basic.specs.Parts.{elementsBy}
 use Rattle.reader_basic.specs.declared.Context.{Context}
@@ -170,7 +170,7 @@ module _ (text : List ℕ) (i : Item) (c w : ℕ) (q : NumberStep text i c w) (p
   held-numbers ends more f g = subst⁻¹ (λ (s : Step). Done (chain (elementsTo (s d place part b) lead ends lead) (passing more)) end len n l l′ r) (q .held f position big nested) g
 
 -- the elements are texts
-pub held-texts : (c : Context) (x shapes : List ℕ) (i : Item) (k : ℕ) → Repeated x shapes i → Text k ≡ elementKind i → (t : FramingOffsets) (place : ℕ) (part : List ℕ) (lead end len n : ℕ) (l l′ : List ℕ) (r : Answer)
+pub held-texts : (c : Context) (x shapes : List ℕ) (i : Item) (k : ℕ) → Repeated x shapes i → Text k ≡ elementKind i → (t : OffsetTable) (place : ℕ) (part : List ℕ) (lead end len n : ℕ) (l l′ : List ℕ) (r : Answer)
     → ((d : Depths) → Done (elementsBy (childStep (readText k) d place part (lead + t .start)) t part lead) end len n l l′ r) → Done (framedOf c x i t place part lead) end len n l l′ r
 held-texts c x shapes i k w e t place part lead end len n l l′ r g = go (i .entry) refl e
   where

@@ -18,7 +18,7 @@ use Rattle.meaning.specs.Refusals.{typeRefused}
 use Rattle.container_depths.specs.Opening.{depthsOf}
 use Rattle.container_depths.specs.declared.ContainerDepths.{ContainerDepths}
 use Rattle.framing_offsets.specs.Tables.{tableIn}
-use Rattle.framing_offsets.specs.declared.FramingOffsets.{FramingOffsets}
+use Rattle.framing_offsets.specs.declared.OffsetTable.{OffsetTable}
 use Rattle.signature.specs.Trees.{treeAt, fieldsAt, Described}
 use Rattle.signature.specs.declared.shapes.Shape.{Shape}
 use Rattle.signature.specs.declared.Letter.{Letter}
@@ -99,7 +99,7 @@ elementsOf c text i k l n = elements (length l) (stepIn c text i k l (length l))
 abbrev pub elementKind : Item → Letter
 elementKind i = pick (i .entry) End (i .child .kind)
 
-abbrev pub framedOf : Context → List ℕ → Item → FramingOffsets → ℕ → List ℕ → ℕ → Outcome
+abbrev pub framedOf : Context → List ℕ → Item → OffsetTable → ℕ → List ℕ → ℕ → Outcome
 framedOf c text i t k l n = elementsBy (stepIn c text i k l (n + t .start)) t l n
 
 abbrev pub fixedKeyIn : Context → List ℕ → Item → ℕ → List ℕ → ℕ → ℕ → ℕ → Outcome

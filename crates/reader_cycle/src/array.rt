@@ -3,7 +3,7 @@ use crate::dictionary::entry;
 use crate::opening::in_array;
 use crate::value;
 use events::emit;
-use framing_offsets::FramingOffsets;
+use framing_offsets::OffsetTable;
 use framing_offsets::from_encoded_array;
 use framing_offsets::next;
 use reader_basic::Answer;
@@ -91,27 +91,15 @@ pub(crate) fn elements(
     }
     let is_entry = item.entry;
     let child = item.child;
-    let len = part.len();
+    let b = part.len();
     let mut u = 0;
     let mut m = n;
-    while lead + u < len {
+    while lead + u < b {
         let j = lead + u;
         let r = if is_entry {
-            entry(
-                text,
-                shapes,
-                item,
-                part,
-                len,
-                j,
-                len,
-                place,
-                context,
-                out,
-                m,
-            )
+            entry(text, shapes, item, part, b, j, b, place, context, out, m)
         } else {
-            value(text, shapes, child, part, j, len, place, context, out, m)
+            value(text, shapes, child, part, j, b, place, context, out, m)
         };
         let refusal = r.refusal;
         if refusal != 0 {
@@ -128,7 +116,7 @@ pub(crate) fn framed(
     text: &[u8],
     shapes: &[u16],
     item: Item,
-    offsets: FramingOffsets,
+    offsets: OffsetTable,
     part: &[u8],
     lead: usize,
     place: usize,

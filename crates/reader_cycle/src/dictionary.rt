@@ -4,6 +4,7 @@ use crate::ends::past;
 use crate::value;
 use de::parse_padding;
 use framing_offset_size::FramingOffsetSize;
+use framing_offsets::table::last_in;
 use meaning::refusals::OUT_OF_BOUNDS;
 use reader_basic::Answer;
 use reader_basic::Context;
@@ -125,19 +126,8 @@ pub(crate) fn text_key(
         return refused(OUT_OF_BOUNDS, first, m);
     }
     let child = item.child;
-    let stop = e - ends.width;
-    let v = value(
-        text,
-        shapes,
-        child,
-        part,
-        from,
-        stop,
-        place,
-        context,
-        out,
-        m,
-    );
+    let end = e - ends.width;
+    let v = value(text, shapes, child, part, from, end, place, context, out, m);
     let r = past(v, ends.width);
     behind(first, r)
 }
@@ -151,7 +141,7 @@ pub(crate) fn key_ends(part: &[u8], b: usize, j: usize, e: usize) -> Ends
         return Ends::missing(OUT_OF_BOUNDS);
     }
     let size = FramingOffsetSize::for_encoded_container(e - j);
-    let last = size.read_last_offset_from_buffer(&part[j..e]);
+    let last = last_in(&part[j..e], size);
     let length = last.value;
     if b - j < length {
         return Ends::missing(OUT_OF_BOUNDS);

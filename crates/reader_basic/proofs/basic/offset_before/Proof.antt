@@ -22,14 +22,14 @@ returns-2 : tie.Need-returns-2
 returns-2 c =
     c .failed2 .ensures ∙ offset-narrow _ _ _ _ (c .before .before .if1 .left) (rw (c .before .before .before .width .ensures) at (c .before .if2 .taken))
 
-part-read-last-offset-from-buffer-start : tie.Need-part-read-last-offset-from-buffer-start
-part-read-last-offset-from-buffer-start c = search needs
+part-last-in-start : tie.Need-part-last-in-start
+part-last-in-start c = search needs
 
-part-read-last-offset-from-buffer-end : tie.Need-part-read-last-offset-from-buffer-end
-part-read-last-offset-from-buffer-end c = search needs
+part-last-in-end : tie.Need-part-last-in-end
+part-last-in-end c = search needs
 
-read-last-offset-from-buffer-requires : tie.Need-read-last-offset-from-buffer-requires
-read-last-offset-from-buffer-requires c κs = search needs
+last-in-requires : tie.Need-last-in-requires
+last-in-requires c κs = search needs
 
 returns-3 : tie.Need-returns-3
 returns-3 c =
@@ -37,7 +37,7 @@ returns-3 c =
     let at-if1 = at-if2 .before in
     let at-width = at-if1 .before in
     let start = at-width .before .before in
-    c .read-last-offset-from-buffer .ensures ∙ offset-read _ _ _ _ (at-if1 .if1 .left) (rw (at-width .width .ensures) at (at-if2 .if2 .left)) (start .pre)
+    c .last-in .ensures ∙ offset-read _ _ _ _ (at-if1 .if1 .left) (rw (at-width .width .ensures) at (at-if2 .if2 .left)) (start .pre)
 
 pub offset-before-spec : {M : Type 1} → statement M
 offset-before-spec =
@@ -48,7 +48,7 @@ offset-before-spec =
     returns
     failed-requires-2
     returns-2
-    part-read-last-offset-from-buffer-start
-    part-read-last-offset-from-buffer-end
-    read-last-offset-from-buffer-requires
+    part-last-in-start
+    part-last-in-end
+    last-in-requires
     returns-3)

@@ -77,8 +77,16 @@ array·array-elements-requires t c κs =
     let at-item-of = at-if2 .before .before in
     let at-if1 = at-item-of .before .before in
     let at-in-array = at-if1 .before in
-    let start = at-in-array .before .before .before .before .before in
-    (omega (arith, level-falls (at-in-array .in-array .ensures .deeper (at-if1 .if1 .left)), start .pre .0), ((item-at _ _ _ (start .pre .1 .0) (start .pre .1 .1) _ (at-item-of .item-of .ensures)) .repeated, at-if2 .if2 .taken, inside-deeper (at-in-array .in-array .ensures .deeper (at-if1 .if1 .left)) (start .pre .1 .2), start .pre .1 .3))
+    let start = at-in-array .before .before .before .before .before in (
+      omega (arith, level-falls (at-in-array .in-array .ensures .deeper (at-if1 .if1 .left)), start .pre .0),
+      (
+        (item-at _ _ _ (start .pre .1 .0) (start .pre .1 .1) _ (at-item-of .item-of .ensures)) .repeated,
+        at-if2 .if2 .taken,
+        inside-deeper
+            (at-in-array .in-array .ensures .deeper (at-if1 .if1 .left)) (start .pre .1 .2),
+        start .pre .1 .3,
+      ),
+    )
 
 array·array-add-close : (t : ℕ) → array·array-lts.Need-add-close (array·array-callees t) (array·array-at t) array·array.Post
 array·array-add-close t c =
@@ -105,7 +113,9 @@ array·array-returns-2 t c =
     let at-if1 = at-item-of .before .before in
     let at-in-array = at-if1 .before in
     let start = at-in-array .before .before .before .before .before in
-    array-fixed (item-at _ _ _ (start .pre .1 .0) (start .pre .1 .1) _ (at-item-of .item-of .ensures)) _ _ _ _ _ _ (at-in-array .in-array .ensures .deeper (at-if1 .if1 .left)) _ _ _ _ (at-if2 .if2 .taken) (at-emit .emit .ensures .0) (rw (at-item-kind .item-kind .ensures) at (at-emit .emit .ensures .1)) (at-close .close .ensures _ _ _ _ _ (at-elements .elements .ensures))
+    array-fixed (item-at _ _ _ (start .pre .1 .0) (start .pre .1 .1) _ (at-item-of .item-of .ensures)) _ _ _ _ _ _
+    (at-in-array .in-array .ensures .deeper (at-if1 .if1 .left)) _ _ _ _ (at-if2 .if2 .taken) (at-emit .emit .ensures .0)
+    (rw (at-item-kind .item-kind .ensures) at (at-emit .emit .ensures .1)) (at-close .close .ensures _ _ _ _ _ (at-elements .elements .ensures))
 
 array·array-sub-from-encoded-array : (t : ℕ) → array·array-lts.Need-sub-from-encoded-array (array·array-callees t) (array·array-at t) array·array.Post
 array·array-sub-from-encoded-array t c = omega arith
@@ -131,7 +141,9 @@ array·array-returns-3 t c =
     let at-if1 = at-item-of .before .before in
     let at-in-array = at-if1 .before in
     let start = at-in-array .before .before .before .before .before in
-    told (c .refused2 .ensures) (array-no-table (item-at _ _ _ (start .pre .1 .0) (start .pre .1 .1) _ (at-item-of .item-of .ensures)) _ _ _ _ _ _ (at-in-array .in-array .ensures .deeper (at-if1 .if1 .left)) (at-if2 .if2 .left) _ (rw (tail (start .args .lead) (start .args .part .now)) at (at-from-encoded-array .from-encoded-array .ensures)) (at-if3 .if3 .taken))
+    told (c .refused2 .ensures) (array-no-table (item-at _ _ _ (start .pre .1 .0) (start .pre .1 .1) _ (at-item-of .item-of .ensures)) _ _ _ _ _ _
+    (at-in-array .in-array .ensures .deeper (at-if1 .if1 .left)) (at-if2 .if2 .left) _
+    (rw (tail (start .args .lead) (start .args .part .now)) at (at-from-encoded-array .from-encoded-array .ensures)) (at-if3 .if3 .taken))
 
 array·array-add-emit-2 : (t : ℕ) → array·array-lts.Need-add-emit-2 (array·array-callees t) (array·array-at t) array·array.Post
 array·array-add-emit-2 t c =
@@ -149,8 +161,18 @@ array·array-framed-requires t c κs =
     let at-item-of = at-if2 .before .before in
     let at-if1 = at-item-of .before .before in
     let at-in-array = at-if1 .before in
-    let start = at-in-array .before .before .before .before .before in
-    (omega (arith, level-falls (at-in-array .in-array .ensures .deeper (at-if1 .if1 .left)), start .pre .0), ((item-at _ _ _ (start .pre .1 .0) (start .pre .1 .1) _ (at-item-of .item-of .ensures)) .repeated, at-if2 .if2 .left, inside-deeper (at-in-array .in-array .ensures .deeper (at-if1 .if1 .left)) (start .pre .1 .2), start .pre .1 .3, stands-by _ _ (rw (tail (start .args .lead) (start .args .part .now)) at (at-from-encoded-array .from-encoded-array .ensures)) (at-if3 .if3 .left)))
+    let start = at-in-array .before .before .before .before .before in (
+      omega (arith, level-falls (at-in-array .in-array .ensures .deeper (at-if1 .if1 .left)), start .pre .0),
+      (
+        (item-at _ _ _ (start .pre .1 .0) (start .pre .1 .1) _ (at-item-of .item-of .ensures)) .repeated,
+        at-if2 .if2 .left,
+        inside-deeper
+            (at-in-array .in-array .ensures .deeper (at-if1 .if1 .left)) (start .pre .1 .2),
+        start .pre .1 .3,
+        stands-by _ _
+            (rw (tail (start .args .lead) (start .args .part .now)) at (at-from-encoded-array .from-encoded-array .ensures)) (at-if3 .if3 .left),
+      ),
+    )
 
 array·array-add-close-2 : (t : ℕ) → array·array-lts.Need-add-close-2 (array·array-callees t) (array·array-at t) array·array.Post
 array·array-add-close-2 t c =
@@ -179,7 +201,11 @@ array·array-returns-4 t c =
     let at-if1 = at-item-of .before .before in
     let at-in-array = at-if1 .before in
     let start = at-in-array .before .before .before .before .before in
-    array-framed (item-at _ _ _ (start .pre .1 .0) (start .pre .1 .1) _ (at-item-of .item-of .ensures)) _ _ _ _ _ _ (at-in-array .in-array .ensures .deeper (at-if1 .if1 .left)) (at-if2 .if2 .left) _ (rw (tail (start .args .lead) (start .args .part .now)) at (at-from-encoded-array .from-encoded-array .ensures)) _ _ _ _ (at-if3 .if3 .left) (at-emit2 .emit2 .ensures .0) (rw (at-item-kind .item-kind .ensures) at (at-emit2 .emit2 .ensures .1)) (at-close2 .close2 .ensures _ _ _ _ _ (at-framed .framed .ensures))
+    array-framed (item-at _ _ _ (start .pre .1 .0) (start .pre .1 .1) _ (at-item-of .item-of .ensures)) _ _ _ _ _ _
+    (at-in-array .in-array .ensures .deeper (at-if1 .if1 .left)) (at-if2 .if2 .left) _
+    (rw (tail (start .args .lead) (start .args .part .now)) at (at-from-encoded-array .from-encoded-array .ensures)) _ _ _ _ (at-if3 .if3 .left)
+    (at-emit2 .emit2 .ensures .0) (rw (at-item-kind .item-kind .ensures) at (at-emit2 .emit2 .ensures .1))
+    (at-close2 .close2 .ensures _ _ _ _ _ (at-framed .framed .ensures))
 
 pub array·array-spec : {M : Type 1} (t : ℕ) → array·array-lts.Closed (array·array-callees t) (array·array-at t) array·array.Post M
 array·array-spec t =

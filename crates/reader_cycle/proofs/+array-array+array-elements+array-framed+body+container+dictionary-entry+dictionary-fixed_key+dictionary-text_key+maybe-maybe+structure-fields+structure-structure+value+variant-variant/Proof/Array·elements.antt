@@ -39,11 +39,11 @@ array·elements-callees t = (
 )
 
 abbrev array·elements-Inv-loop : array·elements-lts.InvT-loop
-array·elements-Inv-loop text shapes item part lead place context out₀ n is-entry child len u₀ m₀ out u m =
+array·elements-Inv-loop text shapes item part lead place context out₀ n is-entry child b u₀ m₀ out u m =
     ElementsLeft (stepIn context text item place part (length part)) part lead n out₀ u m out
 
 abbrev array·elements-μ-loop : array·elements-lts.MeasureT-loop
-array·elements-μ-loop text shapes item part lead place context out₀ n is-entry child len u₀ m₀ out u m =
+array·elements-μ-loop text shapes item part lead place context out₀ n is-entry child b u₀ m₀ out u m =
     length part - (lead + u)
 
 array·elements-enum-known-plain : (t : ℕ) → array·elements-lts.Need-enum-known-plain (array·elements-callees t) (array·elements-at t) array·elements.Post array·elements-Inv-loop array·elements-μ-loop
@@ -63,7 +63,9 @@ array·elements-returns t c =
     let at-numbers = c .before .before in
     let at-plain = at-numbers .before .before .before in
     let start = at-plain .before .before .before .before .before .before in
-    plain-numbers _ _ _ _ (start .pre .1 .0 .number _ _ (at-plain .plain .given .1)) (start .args .context .position) (start .args .context .big) (start .args .context .depths .variant) (depthsOf (start .args .context .depths)) (start .args .place) (start .args .part .now) (length (start .args .part .now)) (start .args .lead) _ _ _ _ _ _ (start .pre .1 .1) (at-numbers .numbers .ensures)
+    plain-numbers _ _ _ _ (start .pre .1 .0 .number _ _ (at-plain .plain .given .1)) (start .args .context .position) (start .args .context .big)
+    (start .args .context .depths .variant) (depthsOf (start .args .context .depths)) (start .args .place) (start .args .part .now)
+    (length (start .args .part .now)) (start .args .lead) _ _ _ _ _ _ (start .pre .1 .1) (at-numbers .numbers .ensures)
 
 array·elements-loop-holds : (t : ℕ) → array·elements-lts.Need-loop-holds (array·elements-callees t) (array·elements-at t) array·elements.Post array·elements-Inv-loop array·elements-μ-loop
 array·elements-loop-holds t c =
@@ -96,12 +98,25 @@ array·elements-value-requires t c κs =
 
 -- what one turn reads: an element, or an entry
 array·elements-turn : (t : ℕ) (c : array·elements-lts.Joined1 (array·elements-callees t) (array·elements-at t) array·elements.Post array·elements-Inv-loop array·elements-μ-loop)
-    → Between (stepIn (c .before .before .before .before .before .before .before .before .before .args .context) (c .before .before .before .before .before .before .before .before .before .args .text .now) (c .before .before .before .before .before .before .before .before .before .args .item) (c .before .before .before .before .before .before .before .before .before .args .place) (c .before .before .before .before .before .before .before .before .before .args .part .now) (length (c .before .before .before .before .before .before .before .before .before .args .part .now)) (c .before .before .before .before .before .before .before .before .before .args .lead + c .before .before .loop .u) (length (c .before .before .before .before .before .before .before .before .before .args .part .now))) (c .before .before .before .before .before .before .before .before .before .args .part .now) (c .before .before .before .before .before .before .before .before .before .args .lead + c .before .before .loop .u) (length (c .before .before .before .before .before .before .before .before .before .args .part .now)) (c .before .before .loop .m) (c .before .before .loop .out) (c .if1 .out) (c .if1 .r)
+    → Between (stepIn (c .before .before .before .before .before .before .before .before .before .args .context)
+    (c .before .before .before .before .before .before .before .before .before .args .text .now)
+    (c .before .before .before .before .before .before .before .before .before .args .item)
+    (c .before .before .before .before .before .before .before .before .before .args .place)
+    (c .before .before .before .before .before .before .before .before .before .args .part .now)
+    (length (c .before .before .before .before .before .before .before .before .before .args .part .now))
+    (c .before .before .before .before .before .before .before .before .before .args .lead + c .before .before .loop .u)
+    (length (c .before .before .before .before .before .before .before .before .before .args .part .now)))
+    (c .before .before .before .before .before .before .before .before .before .args .part .now)
+    (c .before .before .before .before .before .before .before .before .before .args .lead + c .before .before .loop .u)
+    (length (c .before .before .before .before .before .before .before .before .before .args .part .now)) (c .before .before .loop .m)
+    (c .before .before .loop .out) (c .if1 .out) (c .if1 .r)
 array·elements-turn t c =
     let at-loop = c .before .before in
     let start = at-loop .before .before .before .before .before .before .before in
     ⊎-elim (λ x. arrived (x .5) (x .6) (x .2 .ensures))
-    (λ x. arrived (x .5) (x .6) (step-child (start .args .context) (start .args .text .now) (start .args .item) (start .args .place) (start .args .part .now) (length (start .args .part .now)) (start .args .lead + at-loop .loop .u) (length (start .args .part .now)) _ _ _ _ (x .0 .left) (x .2 .ensures)))
+    (λ x. arrived (x .5) (x .6) (step-child (start .args .context) (start .args .text .now) (start .args .item) (start .args .place)
+    (start .args .part .now) (length (start .args .part .now)) (start .args .lead + at-loop .loop .u) (length (start .args .part .now)) _ _ _ _
+    (x .0 .left) (x .2 .ensures)))
     (c .if1 .came)
 
 array·elements-behind-requires : (t : ℕ) → array·elements-lts.Need-behind-requires (array·elements-callees t) (array·elements-at t) array·elements.Post array·elements-Inv-loop array·elements-μ-loop
@@ -148,7 +163,9 @@ array·elements-loop-again t c =
     let at-loop-test = at-2 .before in
     let at-loop = at-loop-test .before in
     let start = at-loop .before .before .before .before .before .before .before in
-    elements-next _ _ _ _ _ _ _ _ (at-loop .loop .inv) (at-loop-test .loop-test .taken) _ _ (array·elements-turn t (at-2)) (at-if2 .if2 .left) (item-least _ _ _ (start .pre .1 .0) (start .pre .1 .1) _ _ _ _ _ _ _ _ _ _ _ _ _ _ (at-loop .loop .inv .bound) (array·elements-turn t (at-2)) (at-if2 .if2 .left))
+    elements-next _ _ _ _ _ _ _ _ (at-loop .loop .inv) (at-loop-test .loop-test .taken) _ _ (array·elements-turn t (at-2)) (at-if2 .if2 .left)
+    (item-least _ _ _ (start .pre .1 .0) (start .pre .1 .1) _ _ _ _ _ _ _ _ _ _ _ _ _ _ (at-loop .loop .inv .bound) (array·elements-turn t (at-2))
+    (at-if2 .if2 .left))
 
 array·elements-done-requires : (t : ℕ) → array·elements-lts.Need-done-requires (array·elements-callees t) (array·elements-at t) array·elements.Post array·elements-Inv-loop array·elements-μ-loop
 array·elements-done-requires t c κs = search needs

@@ -95,7 +95,9 @@ array·framed-returns-2 t c =
     let at-plain = at-texts .before .before .before in
     let at-element-kind = at-plain .before .before in
     let start = at-element-kind .before .before .before .before .before .before in
-    held-texts (start .args .context) (start .args .text .now) (start .args .shapes .now) (start .args .item) _ (start .pre .1 .0) (sym (at-plain .plain .given .1) ∙ at-element-kind .element-kind .ensures) (start .args .offsets) (start .args .place) (start .args .part .now) (start .args .lead) _ _ _ _ _ _ (at-texts .texts .ensures)
+    held-texts (start .args .context) (start .args .text .now) (start .args .shapes .now) (start .args .item) _ (start .pre .1 .0)
+    (sym (at-plain .plain .given .1) ∙ at-element-kind .element-kind .ensures) (start .args .offsets) (start .args .place) (start .args .part .now)
+    (start .args .lead) _ _ _ _ _ _ (at-texts .texts .ensures)
 
 array·framed-sub-table : (t : ℕ) → array·framed-lts.Need-sub-table (array·framed-callees t) (array·framed-at t) array·framed.Post array·framed-Inv-loop array·framed-μ-loop
 array·framed-sub-table t c = omega arith
@@ -129,7 +131,16 @@ array·framed-add-e t c =
     let at-loop-test = at-next .before in
     let at-loop = at-loop-test .before in
     let start = at-loop .before .before .before .before .before .before .before .before .before .before .before in
-    omega (arith, (next-end (start .pre .1 .4) (at-loop .loop .i) (at-next .next .result) (at-loop-test .loop-test .taken) (rw (tail (start .args .lead) (start .args .part .now)) at (at-next .next .ensures))), ends-below (start .pre .1 .4) (at-loop .loop .i), start .pre .1 .4 .start, length-drop (start .args .lead) (start .args .part .now), start .pre .1 .2 .in-frame, start .pre .1 .3)
+    omega (
+      arith,
+      (next-end (start .pre .1 .4) (at-loop .loop .i) (at-next .next .result) (at-loop-test .loop-test .taken)
+          (rw (tail (start .args .lead) (start .args .part .now)) at (at-next .next .ensures))),
+      ends-below (start .pre .1 .4) (at-loop .loop .i),
+      start .pre .1 .4 .start,
+      length-drop (start .args .lead) (start .args .part .now),
+      start .pre .1 .2 .in-frame,
+      start .pre .1 .3,
+    )
 
 array·framed-entry-requires : (t : ℕ) → array·framed-lts.Need-entry-requires (array·framed-callees t) (array·framed-at t) array·framed.Post array·framed-Inv-loop array·framed-μ-loop
 array·framed-entry-requires t c κs =
@@ -137,8 +148,26 @@ array·framed-entry-requires t c κs =
     let at-next = at-if1 .before .before in
     let at-loop-test = at-next .before in
     let at-loop = at-loop-test .before in
-    let start = at-loop .before .before .before .before .before .before .before .before .before .before .before in
-    (omega (arith, start .pre .0), (start .pre .1 .0, at-if1 .if1 .taken, start .pre .1 .2, omega (arith, at-loop .loop .inv .bound, start .pre .1 .4 .start, length-drop (start .args .lead) (start .args .part .now), start .pre .1 .3), omega (arith, (next-end (start .pre .1 .4) (at-loop .loop .i) (at-next .next .result) (at-loop-test .loop-test .taken) (rw (tail (start .args .lead) (start .args .part .now)) at (at-next .next .ensures))), ends-below (start .pre .1 .4) (at-loop .loop .i)), omega (arith, start .pre .1 .4 .start, length-drop (start .args .lead) (start .args .part .now), start .pre .1 .3), λ z. absurd (false≢true (sym (start .pre .1 .1) ∙ z))))
+    let start = at-loop .before .before .before .before .before .before .before .before .before .before .before in (
+      omega (arith, start .pre .0),
+      (
+        start .pre .1 .0,
+        at-if1 .if1 .taken,
+        start .pre .1 .2,
+        omega
+            (arith, at-loop .loop .inv .bound, start .pre .1 .4 .start, length-drop (start .args .lead) (start .args .part .now), start .pre .1 .3),
+        omega (
+          arith,
+          (next-end (start .pre .1 .4) (at-loop .loop .i) (at-next .next .result) (at-loop-test .loop-test .taken)
+              (rw (tail (start .args .lead) (start .args .part .now)) at (at-next .next .ensures))),
+          ends-below (start .pre .1 .4) (at-loop .loop .i),
+        ),
+        omega
+            (arith, start .pre .1 .4 .start, length-drop (start .args .lead) (start .args .part .now), start .pre .1 .3),
+        λ z. absurd
+            (false≢true (sym (start .pre .1 .1) ∙ z)),
+      ),
+    )
 
 array·framed-value-requires : (t : ℕ) → array·framed-lts.Need-value-requires (array·framed-callees t) (array·framed-at t) array·framed.Post array·framed-Inv-loop array·framed-μ-loop
 array·framed-value-requires t c κs =
@@ -148,13 +177,24 @@ array·framed-value-requires t c κs =
 
 -- what one turn reads: an element, or an entry
 array·framed-turn : (t : ℕ) (c : array·framed-lts.Joined1 (array·framed-callees t) (array·framed-at t) array·framed.Post array·framed-Inv-loop array·framed-μ-loop)
-    → Between (stepIn (c .before .before .before .before .before .before .before .before .before .before .before .before .before .before .before .args .context) (c .before .before .before .before .before .before .before .before .before .before .before .before .before .before .before .args .text .now) (c .before .before .before .before .before .before .before .before .before .before .before .before .before .before .before .args .item) (c .before .before .before .before .before .before .before .before .before .before .before .before .before .before .before .args .place) (c .before .before .before .before .before .before .before .before .before .before .before .before .before .before .before .args .part .now) (c .before .before .before .before .before .before .before .before .before .before .before .before .before .before .before .args .lead + c .before .before .before .before .before .before .before .before .before .before .before .before .before .before .before .args .offsets .start) (c .before .before .before .before .before .before .before .before .before .before .before .before .before .before .before .args .lead + c .before .before .before .before .loop .u) (c .before .before .before .before .before .before .before .before .before .before .before .before .before .before .before .args .lead + c .before .before .next .result .value)) (c .before .before .before .before .before .before .before .before .before .before .before .before .before .before .before .args .part .now) (c .before .before .before .before .before .before .before .before .before .before .before .before .before .before .before .args .lead + c .before .before .before .before .loop .u) (c .before .before .before .before .before .before .before .before .before .before .before .before .before .before .before .args .lead + c .before .before .next .result .value) (c .before .before .before .before .loop .m) (c .before .before .before .before .loop .out) (c .if1 .out) (c .if1 .r)
+    → Between (stepIn (c .before .before .before .before .before .before .before .before .before .before .before .before .before .before .before .args .context)
+    (c .before .before .before .before .before .before .before .before .before .before .before .before .before .before .before .args .text .now) (c .before .before .before .before .before .before .before .before .before .before .before .before .before .before .before .args .item)
+    (c .before .before .before .before .before .before .before .before .before .before .before .before .before .before .before .args .place) (c .before .before .before .before .before .before .before .before .before .before .before .before .before .before .before .args .part .now)
+    (c .before .before .before .before .before .before .before .before .before .before .before .before .before .before .before .args .lead + c .before .before .before .before .before .before .before .before .before .before .before .before .before .before .before .args .offsets .start)
+    (c .before .before .before .before .before .before .before .before .before .before .before .before .before .before .before .args .lead + c .before .before .before .before .loop .u)
+    (c .before .before .before .before .before .before .before .before .before .before .before .before .before .before .before .args .lead + c .before .before .next .result .value))
+    (c .before .before .before .before .before .before .before .before .before .before .before .before .before .before .before .args .part .now)
+    (c .before .before .before .before .before .before .before .before .before .before .before .before .before .before .before .args .lead + c .before .before .before .before .loop .u)
+    (c .before .before .before .before .before .before .before .before .before .before .before .before .before .before .before .args .lead + c .before .before .next .result .value) (c .before .before .before .before .loop .m) (c .before .before .before .before .loop .out) (c .if1 .out)
+    (c .if1 .r)
 array·framed-turn t c =
     let at-next = c .before .before in
     let at-loop = at-next .before .before in
     let start = at-loop .before .before .before .before .before .before .before .before .before .before .before in
     ⊎-elim (λ x. arrived (x .5) (x .6) (x .2 .ensures))
-    (λ x. arrived (x .5) (x .6) (step-child (start .args .context) (start .args .text .now) (start .args .item) (start .args .place) (start .args .part .now) (start .args .lead + start .args .offsets .start) (start .args .lead + at-loop .loop .u) (start .args .lead + at-next .next .result .value) _ _ _ _ (x .0 .left) (x .2 .ensures)))
+    (λ x. arrived (x .5) (x .6) (step-child (start .args .context) (start .args .text .now) (start .args .item) (start .args .place)
+    (start .args .part .now) (start .args .lead + start .args .offsets .start) (start .args .lead + at-loop .loop .u)
+    (start .args .lead + at-next .next .result .value) _ _ _ _ (x .0 .left) (x .2 .ensures)))
     (c .if1 .came)
 
 array·framed-behind-requires : (t : ℕ) → array·framed-lts.Need-behind-requires (array·framed-callees t) (array·framed-at t) array·framed.Post array·framed-Inv-loop array·framed-μ-loop
@@ -178,7 +218,12 @@ array·framed-returns-3 t c =
     let at-loop-test = at-next .before in
     let at-loop = at-loop-test .before in
     let start = at-loop .before .before .before .before .before .before .before .before .before .before .before in
-    told (c .behind .ensures) (framed-stop _ _ _ _ _ _ _ _ _ _ _ (at-loop .loop .inv) (omega (arith, start .pre .1 .4 .start, length-drop (start .args .lead) (start .args .part .now), start .pre .1 .3)) (omega (arith, length-ends (tableIn (start .args .offsets)) (drop (start .args .lead) (start .args .part .now)), at-loop-test .loop-test .taken)) _ _ (omega (arith, ends-below (start .pre .1 .4) (at-loop .loop .i))) (rw (next-end (start .pre .1 .4) (at-loop .loop .i) (at-next .next .result) (at-loop-test .loop-test .taken) (rw (tail (start .args .lead) (start .args .part .now)) at (at-next .next .ensures))) at (array·framed-turn t (at-2))) (at-if2 .if2 .taken))
+    told (c .behind .ensures) (framed-stop _ _ _ _ _ _ _ _ _ _ _ (at-loop .loop .inv)
+    (omega (arith, start .pre .1 .4 .start, length-drop (start .args .lead) (start .args .part .now), start .pre .1 .3))
+    (omega (arith, length-ends (tableIn (start .args .offsets)) (drop (start .args .lead) (start .args .part .now)), at-loop-test .loop-test .taken)) _ _
+    (omega (arith, ends-below (start .pre .1 .4) (at-loop .loop .i)))
+    (rw (next-end (start .pre .1 .4) (at-loop .loop .i) (at-next .next .result) (at-loop-test .loop-test .taken)
+    (rw (tail (start .args .lead) (start .args .part .now)) at (at-next .next .ensures))) at (array·framed-turn t (at-2))) (at-if2 .if2 .taken))
 
 array·framed-add-u : (t : ℕ) → array·framed-lts.Need-add-u (array·framed-callees t) (array·framed-at t) array·framed.Post array·framed-Inv-loop array·framed-μ-loop
 array·framed-add-u t c =
@@ -203,7 +248,12 @@ array·framed-loop-again t c =
     let at-loop-test = at-next .before in
     let at-loop = at-loop-test .before in
     let start = at-loop .before .before .before .before .before .before .before .before .before .before .before in
-    framed-next _ _ _ _ _ _ _ _ _ _ _ (at-loop .loop .inv) (omega (arith, start .pre .1 .4 .start, length-drop (start .args .lead) (start .args .part .now), start .pre .1 .3)) (omega (arith, length-ends (tableIn (start .args .offsets)) (drop (start .args .lead) (start .args .part .now)), at-loop-test .loop-test .taken)) _ _ (omega (arith, ends-below (start .pre .1 .4) (at-loop .loop .i))) (rw (next-end (start .pre .1 .4) (at-loop .loop .i) (at-next .next .result) (at-loop-test .loop-test .taken) (rw (tail (start .args .lead) (start .args .part .now)) at (at-next .next .ensures))) at (array·framed-turn t (at-2))) (at-if2 .if2 .left)
+    framed-next _ _ _ _ _ _ _ _ _ _ _ (at-loop .loop .inv) (omega
+    (arith, start .pre .1 .4 .start, length-drop (start .args .lead) (start .args .part .now), start .pre .1 .3))
+    (omega (arith, length-ends (tableIn (start .args .offsets)) (drop (start .args .lead) (start .args .part .now)), at-loop-test .loop-test .taken)) _ _
+    (omega (arith, ends-below (start .pre .1 .4) (at-loop .loop .i)))
+    (rw (next-end (start .pre .1 .4) (at-loop .loop .i) (at-next .next .result) (at-loop-test .loop-test .taken)
+    (rw (tail (start .args .lead) (start .args .part .now)) at (at-next .next .ensures))) at (array·framed-turn t (at-2))) (at-if2 .if2 .left)
 
 array·framed-sub-done : (t : ℕ) → array·framed-lts.Need-sub-done (array·framed-callees t) (array·framed-at t) array·framed.Post array·framed-Inv-loop array·framed-μ-loop
 array·framed-sub-done t c =
@@ -227,7 +277,9 @@ array·framed-returns-4 t c =
     let at-loop-test = c .before in
     let at-loop = at-loop-test .before in
     let start = at-loop .before .before .before .before .before .before .before .before .before .before .before in
-    told (c .done .ensures) (framed-end _ _ _ _ _ _ _ _ _ _ _ (at-loop .loop .inv) (omega (arith, start .pre .1 .4 .start, length-drop (start .args .lead) (start .args .part .now), start .pre .1 .3)) (omega (arith, length-ends (tableIn (start .args .offsets)) (drop (start .args .lead) (start .args .part .now)), at-loop-test .loop-test .left)))
+    told (c .done .ensures) (framed-end _ _ _ _ _ _ _ _ _ _ _ (at-loop .loop .inv)
+    (omega (arith, start .pre .1 .4 .start, length-drop (start .args .lead) (start .args .part .now), start .pre .1 .3))
+    (omega (arith, length-ends (tableIn (start .args .offsets)) (drop (start .args .lead) (start .args .part .now)), at-loop-test .loop-test .left)))
 
 pub array·framed-spec : {M : Type 1} (t : ℕ) → array·framed-lts.Closed (array·framed-callees t) (array·framed-at t) array·framed.Post M
 array·framed-spec t =

@@ -56,8 +56,18 @@ dictionary·entry-add-from t c =
 dictionary·entry-fixed-key-requires : (t : ℕ) → dictionary·entry-lts.Need-fixed-key-requires (dictionary·entry-callees t) (dictionary·entry-at t) dictionary·entry.Post
 dictionary·entry-fixed-key-requires t c κs =
     let at-parse-padding = c .before .before .before in
-    let start = at-parse-padding .before .before .before .before .before .before in
-    (omega (arith, start .pre .0), (start .pre .1 .0, start .pre .1 .2, entry-within (entry-padded (start .args .context) (start .args .part .now) _ _ (start .pre .1 .0) (start .pre .1 .1) (start .pre .1 .2) (start .pre .1 .3) (at-parse-padding .parse-padding .ensures)), omega (arith, start .pre .1 .4, start .pre .1 .5), start .pre .1 .6))
+    let start = at-parse-padding .before .before .before .before .before .before in (
+      omega (arith, start .pre .0),
+      (
+        start .pre .1 .0,
+        start .pre .1 .2,
+        entry-within
+            (entry-padded (start .args .context) (start .args .part .now) _ _ (start .pre .1 .0) (start .pre .1 .1) (start .pre .1 .2) (start .pre .1 .3)
+            (at-parse-padding .parse-padding .ensures)),
+        omega (arith, start .pre .1 .4, start .pre .1 .5),
+        start .pre .1 .6,
+      ),
+    )
 
 dictionary·entry-behind-requires : (t : ℕ) → dictionary·entry-lts.Need-behind-requires (dictionary·entry-callees t) (dictionary·entry-at t) dictionary·entry.Post
 dictionary·entry-behind-requires t c κs =
@@ -76,13 +86,25 @@ dictionary·entry-returns-2 t c =
     let at-if1 = at-if2 .before in
     let at-parse-padding = at-if1 .before in
     let start = at-parse-padding .before .before .before .before .before .before in
-    told (c .behind .ensures) (step-keyed (entry-padded (start .args .context) (start .args .part .now) _ _ (start .pre .1 .0) (start .pre .1 .1) (start .pre .1 .2) (start .pre .1 .3) (at-parse-padding .parse-padding .ensures)) _ _ _ _ (at-if1 .if1 .left) _ _ (at-if2 .if2 .taken) (at-fixed-key .fixed-key .ensures _))
+    told (c .behind .ensures) (step-keyed (entry-padded (start .args .context) (start .args .part .now) _ _ (start .pre .1 .0) (start .pre .1 .1)
+    (start .pre .1 .2) (start .pre .1 .3) (at-parse-padding .parse-padding .ensures)) _ _ _ _ (at-if1 .if1 .left) _ _ (at-if2 .if2 .taken)
+    (at-fixed-key .fixed-key .ensures _))
 
 dictionary·entry-text-key-requires : (t : ℕ) → dictionary·entry-lts.Need-text-key-requires (dictionary·entry-callees t) (dictionary·entry-at t) dictionary·entry.Post
 dictionary·entry-text-key-requires t c κs =
     let at-parse-padding = c .before .before .before in
-    let start = at-parse-padding .before .before .before .before .before .before in
-    (omega (arith, start .pre .0), (start .pre .1 .0, start .pre .1 .2, entry-within (entry-padded (start .args .context) (start .args .part .now) _ _ (start .pre .1 .0) (start .pre .1 .1) (start .pre .1 .2) (start .pre .1 .3) (at-parse-padding .parse-padding .ensures)), start .pre .1 .4, start .pre .1 .5))
+    let start = at-parse-padding .before .before .before .before .before .before in (
+      omega (arith, start .pre .0),
+      (
+        start .pre .1 .0,
+        start .pre .1 .2,
+        entry-within
+            (entry-padded (start .args .context) (start .args .part .now) _ _ (start .pre .1 .0) (start .pre .1 .1) (start .pre .1 .2) (start .pre .1 .3)
+            (at-parse-padding .parse-padding .ensures)),
+        start .pre .1 .4,
+        start .pre .1 .5,
+      ),
+    )
 
 dictionary·entry-behind-requires-2 : (t : ℕ) → dictionary·entry-lts.Need-behind-requires-2 (dictionary·entry-callees t) (dictionary·entry-at t) dictionary·entry.Post
 dictionary·entry-behind-requires-2 t c κs =
@@ -101,7 +123,9 @@ dictionary·entry-returns-3 t c =
     let at-if1 = at-if2 .before in
     let at-parse-padding = at-if1 .before in
     let start = at-parse-padding .before .before .before .before .before .before in
-    told (c .behind2 .ensures) (step-text (entry-padded (start .args .context) (start .args .part .now) _ _ (start .pre .1 .0) (start .pre .1 .1) (start .pre .1 .2) (start .pre .1 .3) (at-parse-padding .parse-padding .ensures)) _ _ _ _ (at-if1 .if1 .left) _ _ (at-if2 .if2 .left) (at-text-key .text-key .ensures))
+    told (c .behind2 .ensures) (step-text (entry-padded (start .args .context) (start .args .part .now) _ _ (start .pre .1 .0) (start .pre .1 .1)
+    (start .pre .1 .2) (start .pre .1 .3) (at-parse-padding .parse-padding .ensures)) _ _ _ _ (at-if1 .if1 .left) _ _ (at-if2 .if2 .left)
+    (at-text-key .text-key .ensures))
 
 pub dictionary·entry-spec : {M : Type 1} (t : ℕ) → dictionary·entry-lts.Closed (dictionary·entry-callees t) (dictionary·entry-at t) dictionary·entry.Post M
 dictionary·entry-spec t =

@@ -77,7 +77,15 @@ dictionary·text-key-add-if3 t c =
     let at-if1 = at-child-key .before .before in
     let at-key-ends = at-if1 .before in
     let start = at-key-ends .before .before .before .before .before in
-    omega (arith, at-child-key .child-key .ensures (depthsOf (start .args .context .depths)) .fits, start .pre .1 .1 .in-frame, start .pre .1 .2, (key-there _ _ _ _ _ (at-key-ends .key-ends .ensures) (at-if1 .if1 .left)) .width, width-small (start .args .e - start .args .j) (omega (arith, start .pre .1 .1 .in-frame, start .pre .1 .3, start .pre .1 .4)))
+    omega (
+      arith,
+      at-child-key .child-key .ensures (depthsOf (start .args .context .depths)) .fits,
+      start .pre .1 .1 .in-frame,
+      start .pre .1 .2,
+      (key-there _ _ _ _ _ (at-key-ends .key-ends .ensures) (at-if1 .if1 .left)) .width,
+      width-small (start .args .e - start .args .j)
+          (omega (arith, start .pre .1 .1 .in-frame, start .pre .1 .3, start .pre .1 .4)),
+    )
 
 dictionary·text-key-refused-requires-2 : (t : ℕ) → dictionary·text-key-lts.Need-refused-requires-2 (dictionary·text-key-callees t) (dictionary·text-key-at t) dictionary·text-key.Post
 dictionary·text-key-refused-requires-2 t c κs = search needs
@@ -95,8 +103,8 @@ dictionary·text-key-returns-3 t c =
     let start = at-key-ends .before .before .before .before .before in
     told (c .refused2 .ensures) (text-key-narrow _ _ _ _ _ _ _ (key-there _ _ _ _ _ (at-key-ends .key-ends .ensures) (at-if1 .if1 .left)) _ _ (start .pre .1 .3) (start .pre .1 .4) _ _ (at-child-key .child-key .ensures _) (at-if2 .if2 .left) (at-if3 .if3 .taken))
 
-dictionary·text-key-sub-stop : (t : ℕ) → dictionary·text-key-lts.Need-sub-stop (dictionary·text-key-callees t) (dictionary·text-key-at t) dictionary·text-key.Post
-dictionary·text-key-sub-stop t c = omega (arith, c .before .before .if3 .left)
+dictionary·text-key-sub-end : (t : ℕ) → dictionary·text-key-lts.Need-sub-end (dictionary·text-key-callees t) (dictionary·text-key-at t) dictionary·text-key.Post
+dictionary·text-key-sub-end t c = omega (arith, c .before .before .if3 .left)
 
 dictionary·text-key-value-requires : (t : ℕ) → dictionary·text-key-lts.Need-value-requires (dictionary·text-key-callees t) (dictionary·text-key-at t) dictionary·text-key.Post
 dictionary·text-key-value-requires t c κs =
@@ -118,7 +126,17 @@ dictionary·text-key-behind-requires t c κs =
     let at-if3 = at-value .before .before .before .before in
     let at-child-key = at-if3 .before .before .before .before .before in
     let start = at-child-key .before .before .before .before .before .before .before .before in
-    omega (arith, at-child-key .child-key .ensures (depthsOf (start .args .context .depths)) .fits, c .past .ensures _ (start .args .e - (start .args .j + at-child-key .child-key .result .used)) _ (length (start .args .part .now) - (start .args .j + at-child-key .child-key .result .used)) _ _ _ (λ x. omega (arith, at-value .value .ensures .ends x, at-if3 .if3 .left)) (omega (arith, start .pre .1 .3, start .pre .1 .4)) (at-value .value .ensures) .fits, start .pre .1 .1 .in-frame, start .pre .1 .2)
+    omega (
+      arith,
+      at-child-key .child-key .ensures (depthsOf (start .args .context .depths)) .fits,
+      c .past .ensures _
+          (start .args .e - (start .args .j + at-child-key .child-key .result .used)) _
+          (length (start .args .part .now) - (start .args .j + at-child-key .child-key .result .used)) _ _ _
+          (λ x. omega (arith, at-value .value .ensures .ends x, at-if3 .if3 .left)) (omega (arith, start .pre .1 .3, start .pre .1 .4))
+          (at-value .value .ensures) .fits,
+      start .pre .1 .1 .in-frame,
+      start .pre .1 .2,
+    )
 
 dictionary·text-key-same-length-3 : (t : ℕ) → dictionary·text-key-lts.Need-same-length-3 (dictionary·text-key-callees t) (dictionary·text-key-at t) dictionary·text-key.Post
 dictionary·text-key-same-length-3 t c = search needs
@@ -133,7 +151,9 @@ dictionary·text-key-returns-4 t c =
     let at-if1 = at-child-key .before .before in
     let at-key-ends = at-if1 .before in
     let start = at-key-ends .before .before .before .before .before in
-    told (c .behind .ensures) (text-key-value _ _ _ _ _ _ _ (key-there _ _ _ _ _ (at-key-ends .key-ends .ensures) (at-if1 .if1 .left)) _ _ (start .pre .1 .3) (start .pre .1 .4) _ _ (at-child-key .child-key .ensures _) (at-if2 .if2 .left) (at-if3 .if3 .left) _ _ _ (at-value .value .ensures) (at-past .past .ensures))
+    told (c .behind .ensures) (text-key-value _ _ _ _ _ _ _ (key-there _ _ _ _ _ (at-key-ends .key-ends .ensures) (at-if1 .if1 .left)) _ _
+    (start .pre .1 .3) (start .pre .1 .4) _ _ (at-child-key .child-key .ensures _) (at-if2 .if2 .left) (at-if3 .if3 .left) _ _ _
+    (at-value .value .ensures) (at-past .past .ensures))
 
 pub dictionary·text-key-spec : {M : Type 1} (t : ℕ) → dictionary·text-key-lts.Closed (dictionary·text-key-callees t) (dictionary·text-key-at t) dictionary·text-key.Post M
 dictionary·text-key-spec t =
@@ -149,7 +169,7 @@ dictionary·text-key-spec t =
     (dictionary·text-key-refused-requires-2 t)
     (dictionary·text-key-same-length-2 t)
     (dictionary·text-key-returns-3 t)
-    (dictionary·text-key-sub-stop t)
+    (dictionary·text-key-sub-end t)
     (dictionary·text-key-value-requires t)
     (dictionary·text-key-past-requires t)
     (dictionary·text-key-behind-requires t)

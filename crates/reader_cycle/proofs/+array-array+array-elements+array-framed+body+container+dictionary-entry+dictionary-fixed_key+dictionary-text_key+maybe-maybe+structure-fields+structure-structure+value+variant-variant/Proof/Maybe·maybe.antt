@@ -96,8 +96,14 @@ maybe·maybe-value-requires t c κs =
     let at-shape-in = c .before .before in
     let at-if2 = at-shape-in .before .before .before .before .before .before .before in
     let at-in-maybe = at-if2 .before in
-    let start = at-in-maybe .before .before .before .before .before .before in
-    (omega (arith, level-falls (at-in-maybe .in-maybe .ensures .deeper (at-if2 .if2 .left)), start .pre .0), ((described-as (at-shape-in .shape-in .ensures) (maybe-described _ _ (start .pre .1 .0 .typed) (start .pre .1 .1) _ (start .pre .1 .0 .table))), inside-deeper (at-in-maybe .in-maybe .ensures .deeper (at-if2 .if2 .left)) (start .pre .1 .2), start .pre .1 .3))
+    let start = at-in-maybe .before .before .before .before .before .before in (
+      omega (arith, level-falls (at-in-maybe .in-maybe .ensures .deeper (at-if2 .if2 .left)), start .pre .0),
+      (
+        (described-as (at-shape-in .shape-in .ensures) (maybe-described _ _ (start .pre .1 .0 .typed) (start .pre .1 .1) _ (start .pre .1 .0 .table))),
+        inside-deeper (at-in-maybe .in-maybe .ensures .deeper (at-if2 .if2 .left)) (start .pre .1 .2),
+        start .pre .1 .3,
+      ),
+    )
 
 maybe·maybe-same-length-2 : (t : ℕ) → maybe·maybe-lts.Need-same-length-2 (maybe·maybe-callees t) (maybe·maybe-at t) maybe·maybe.Post
 maybe·maybe-same-length-2 t c = search needs
@@ -112,7 +118,10 @@ maybe·maybe-returns-3 t c =
     let at-in-maybe = at-if2 .before in
     let at-if1 = at-in-maybe .before in
     let start = at-if1 .before .before .before .before .before in
-    maybe-fixed (start .pre .1 .0 .typed) (start .pre .1 .1) _ _ _ _ _ _ (at-if1 .if1 .left) (at-in-maybe .in-maybe .ensures .deeper (at-if2 .if2 .left)) (at-emit2 .emit2 .ensures .0) (at-emit2 .emit2 .ensures .1) (ap (λ (s : Shape). s .at) (at-shape-in .shape-in .ensures)) (described-fixed (described-as (at-shape-in .shape-in .ensures) (maybe-described _ _ (start .pre .1 .0 .typed) (start .pre .1 .1) _ (start .pre .1 .0 .table)))) _ _ (at-if3 .if3 .taken) (at-value .value .ensures)
+    maybe-fixed (start .pre .1 .0 .typed) (start .pre .1 .1) _ _ _ _ _ _ (at-if1 .if1 .left) (at-in-maybe .in-maybe .ensures .deeper (at-if2 .if2 .left))
+    (at-emit2 .emit2 .ensures .0) (at-emit2 .emit2 .ensures .1) (ap (λ (s : Shape). s .at) (at-shape-in .shape-in .ensures))
+    (described-fixed (described-as (at-shape-in .shape-in .ensures)
+    (maybe-described _ _ (start .pre .1 .0 .typed) (start .pre .1 .1) _ (start .pre .1 .0 .table)))) _ _ (at-if3 .if3 .taken) (at-value .value .ensures)
 
 maybe·maybe-sub-stop : (t : ℕ) → maybe·maybe-lts.Need-sub-stop (maybe·maybe-callees t) (maybe·maybe-at t) maybe·maybe.Post
 maybe·maybe-sub-stop t c = omega arith
@@ -122,8 +131,14 @@ maybe·maybe-value-requires-2 t c κs =
     let at-shape-in = c .before .before in
     let at-if2 = at-shape-in .before .before .before .before .before .before .before in
     let at-in-maybe = at-if2 .before in
-    let start = at-in-maybe .before .before .before .before .before .before in
-    (omega (arith, level-falls (at-in-maybe .in-maybe .ensures .deeper (at-if2 .if2 .left)), start .pre .0), ((described-as (at-shape-in .shape-in .ensures) (maybe-described _ _ (start .pre .1 .0 .typed) (start .pre .1 .1) _ (start .pre .1 .0 .table))), inside-deeper (at-in-maybe .in-maybe .ensures .deeper (at-if2 .if2 .left)) (start .pre .1 .2), start .pre .1 .3))
+    let start = at-in-maybe .before .before .before .before .before .before in (
+      omega (arith, level-falls (at-in-maybe .in-maybe .ensures .deeper (at-if2 .if2 .left)), start .pre .0),
+      (
+        (described-as (at-shape-in .shape-in .ensures) (maybe-described _ _ (start .pre .1 .0 .typed) (start .pre .1 .1) _ (start .pre .1 .0 .table))),
+        inside-deeper (at-in-maybe .in-maybe .ensures .deeper (at-if2 .if2 .left)) (start .pre .1 .2),
+        start .pre .1 .3,
+      ),
+    )
 
 maybe·maybe-end-byte-requires : (t : ℕ) → maybe·maybe-lts.Need-end-byte-requires (maybe·maybe-callees t) (maybe·maybe-at t) maybe·maybe.Post
 maybe·maybe-end-byte-requires t c κs =
@@ -145,7 +160,11 @@ maybe·maybe-returns-4 t c =
     let at-in-maybe = at-if2 .before in
     let at-if1 = at-in-maybe .before in
     let start = at-if1 .before .before .before .before .before in
-    maybe-other (start .pre .1 .0 .typed) (start .pre .1 .1) _ _ _ _ _ _ (at-if1 .if1 .left) (at-in-maybe .in-maybe .ensures .deeper (at-if2 .if2 .left)) (at-emit2 .emit2 .ensures .0) (at-emit2 .emit2 .ensures .1) (ap (λ (s : Shape). s .at) (at-shape-in .shape-in .ensures)) (described-fixed (described-as (at-shape-in .shape-in .ensures) (maybe-described _ _ (start .pre .1 .0 .typed) (start .pre .1 .1) _ (start .pre .1 .0 .table)))) _ _ (at-if3 .if3 .left) (c .end-byte .ensures _ _ _ _ _ (at-value2 .value2 .ensures))
+    maybe-other (start .pre .1 .0 .typed) (start .pre .1 .1) _ _ _ _ _ _ (at-if1 .if1 .left) (at-in-maybe .in-maybe .ensures .deeper (at-if2 .if2 .left))
+    (at-emit2 .emit2 .ensures .0) (at-emit2 .emit2 .ensures .1) (ap (λ (s : Shape). s .at) (at-shape-in .shape-in .ensures))
+    (described-fixed (described-as (at-shape-in .shape-in .ensures)
+    (maybe-described _ _ (start .pre .1 .0 .typed) (start .pre .1 .1) _ (start .pre .1 .0 .table)))) _ _ (at-if3 .if3 .left)
+    (c .end-byte .ensures _ _ _ _ _ (at-value2 .value2 .ensures))
 
 pub maybe·maybe-spec : {M : Type 1} (t : ℕ) → maybe·maybe-lts.Closed (maybe·maybe-callees t) (maybe·maybe-at t) maybe·maybe.Post M
 maybe·maybe-spec t =

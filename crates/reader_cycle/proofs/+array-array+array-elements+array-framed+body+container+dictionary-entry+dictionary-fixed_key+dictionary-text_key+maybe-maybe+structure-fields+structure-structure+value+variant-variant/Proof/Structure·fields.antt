@@ -107,7 +107,9 @@ structure·fields-returns t c =
     let at-shape-in = at-closes-at .before in
     let at-loop = at-shape-in .before in
     let start = at-loop .before .before .before .before .before .before in
-    told (c .behind .ensures) (fields-last (at-loop .loop .inv) (few-variants (start .pre .1 .2)) _ _ (last-field-of _ _ _ (at-loop .loop .inv .rowed) (start .pre .1 .0 .table) _ (at-shape-in .shape-in .ensures) _ refl (at-closes-at .closes-at .ensures .there (at-if1 .if1 .taken))) (at-close-fields .close-fields .ensures _ _ _ _ (at-value .value .ensures)))
+    told (c .behind .ensures) (fields-last (at-loop .loop .inv) (few-variants (start .pre .1 .2)) _ _
+    (last-field-of _ _ _ (at-loop .loop .inv .rowed) (start .pre .1 .0 .table) _ (at-shape-in .shape-in .ensures) _ refl
+    (at-closes-at .closes-at .ensures .there (at-if1 .if1 .taken))) (at-close-fields .close-fields .ensures _ _ _ _ (at-value .value .ensures)))
 
 structure·fields-field-ends-requires : (t : ℕ) → structure·fields-lts.Need-field-ends-requires (structure·fields-callees t) (structure·fields-at t) structure·fields.Post structure·fields-Inv-loop structure·fields-μ-loop
 structure·fields-field-ends-requires t c κs =
@@ -130,7 +132,9 @@ structure·fields-returns-2 t c =
     let at-shape-in = at-closes-at .before in
     let at-loop = at-shape-in .before in
     let start = at-loop .before .before .before .before .before .before in
-    told (c .refused .ensures) (fields-no-offset (at-loop .loop .inv) (few-variants (start .pre .1 .2)) (next-field-of _ _ _ (at-loop .loop .inv .rowed) (start .pre .1 .0 .table) _ (at-shape-in .shape-in .ensures) _ refl (at-closes-at .closes-at .ensures .missing (at-if1 .if1 .left))) _ (at-field-ends .field-ends .ensures) (at-if2 .if2 .taken))
+    told (c .refused .ensures) (fields-no-offset (at-loop .loop .inv) (few-variants (start .pre .1 .2))
+    (next-field-of _ _ _ (at-loop .loop .inv .rowed) (start .pre .1 .0 .table) _ (at-shape-in .shape-in .ensures) _ refl
+    (at-closes-at .closes-at .ensures .missing (at-if1 .if1 .left))) _ (at-field-ends .field-ends .ensures) (at-if2 .if2 .taken))
 
 structure·fields-value-requires-2 : (t : ℕ) → structure·fields-lts.Need-value-requires-2 (structure·fields-callees t) (structure·fields-at t) structure·fields.Post structure·fields-Inv-loop structure·fields-μ-loop
 structure·fields-value-requires-2 t c κs =
@@ -162,7 +166,13 @@ structure·fields-returns-3 t c =
     let at-shape-in = at-closes-at .before in
     let at-loop = at-shape-in .before in
     let start = at-loop .before .before .before .before .before .before in
-    told (c .behind2 .ensures) (fields-stop (at-loop .loop .inv) (few-variants (start .pre .1 .2)) (next-field-of _ _ _ (at-loop .loop .inv .rowed) (start .pre .1 .0 .table) _ (at-shape-in .shape-in .ensures) _ refl (at-closes-at .closes-at .ensures .missing (at-if1 .if1 .left))) (field-turn (at-loop .loop .inv) (few-variants (start .pre .1 .2)) (next-field-of _ _ _ (at-loop .loop .inv .rowed) (start .pre .1 .0 .table) _ (at-shape-in .shape-in .ensures) _ refl (at-closes-at .closes-at .ensures .missing (at-if1 .if1 .left))) _ (at-field-ends .field-ends .ensures) (at-if2 .if2 .left)) _ _ (at-value2 .value2 .ensures) (at-if3 .if3 .taken))
+    told (c .behind2 .ensures) (fields-stop (at-loop .loop .inv) (few-variants (start .pre .1 .2))
+    (next-field-of _ _ _ (at-loop .loop .inv .rowed) (start .pre .1 .0 .table) _ (at-shape-in .shape-in .ensures) _ refl
+    (at-closes-at .closes-at .ensures .missing (at-if1 .if1 .left)))
+    (field-turn (at-loop .loop .inv) (few-variants (start .pre .1 .2))
+    (next-field-of _ _ _ (at-loop .loop .inv .rowed) (start .pre .1 .0 .table) _ (at-shape-in .shape-in .ensures) _ refl
+    (at-closes-at .closes-at .ensures .missing (at-if1 .if1 .left))) _ (at-field-ends .field-ends .ensures) (at-if2 .if2 .left)) _ _
+    (at-value2 .value2 .ensures) (at-if3 .if3 .taken))
 
 structure·fields-sub-end : (t : ℕ) → structure·fields-lts.Need-sub-end (structure·fields-callees t) (structure·fields-at t) structure·fields.Post structure·fields-Inv-loop structure·fields-μ-loop
 structure·fields-sub-end t c =
@@ -197,7 +207,13 @@ structure·fields-loop-again t c =
     let at-shape-in = at-closes-at .before in
     let at-loop = at-shape-in .before in
     let start = at-loop .before .before .before .before .before .before in
-    fields-next (at-loop .loop .inv) (few-variants (start .pre .1 .2)) (next-field-of _ _ _ (at-loop .loop .inv .rowed) (start .pre .1 .0 .table) _ (at-shape-in .shape-in .ensures) _ refl (at-closes-at .closes-at .ensures .missing (at-if1 .if1 .left))) (field-turn (at-loop .loop .inv) (few-variants (start .pre .1 .2)) (next-field-of _ _ _ (at-loop .loop .inv .rowed) (start .pre .1 .0 .table) _ (at-shape-in .shape-in .ensures) _ refl (at-closes-at .closes-at .ensures .missing (at-if1 .if1 .left))) _ (at-field-ends .field-ends .ensures) (at-if2 .if2 .left)) _ _ (at-value2 .value2 .ensures) (at-if3 .if3 .left)
+    fields-next (at-loop .loop .inv) (few-variants (start .pre .1 .2))
+    (next-field-of _ _ _ (at-loop .loop .inv .rowed) (start .pre .1 .0 .table) _ (at-shape-in .shape-in .ensures) _ refl
+    (at-closes-at .closes-at .ensures .missing (at-if1 .if1 .left)))
+    (field-turn (at-loop .loop .inv) (few-variants (start .pre .1 .2))
+    (next-field-of _ _ _ (at-loop .loop .inv .rowed) (start .pre .1 .0 .table) _ (at-shape-in .shape-in .ensures) _ refl
+    (at-closes-at .closes-at .ensures .missing (at-if1 .if1 .left))) _ (at-field-ends .field-ends .ensures) (at-if2 .if2 .left)) _ _
+    (at-value2 .value2 .ensures) (at-if3 .if3 .left)
 
 pub structure·fields-spec : {M : Type 1} (t : ℕ) → structure·fields-lts.Closed (structure·fields-callees t) (structure·fields-at t) structure·fields.Post M
 structure·fields-spec t =

@@ -105,8 +105,20 @@ variant·variant-basic-variant-requires t c κs =
     let at-only-letter = at-key-alignment .before in
     let at-if1 = at-only-letter .before .before in
     let at-separator = at-if1 .before in
-    let start = at-separator .before .before .before .before in
-    (start .pre .1 .0, holds-basic _ _ _ _ (rw (tail (start .args .lead) (start .args .part .now)) at (at-separator .separator .ensures .0)) (at-if1 .if1 .left) (omega (arith, start .pre .1 .0 .in-frame, start .pre .1 .1, at-separator .separator .ensures .1, length-take (length (start .args .part .now) - start .args .lead) (drop (start .args .lead) (start .args .part .now)))) (at-only-letter .only-letter .ensures ∙ ap onlyLetter (tail (start .args .lead + at-separator .separator .result) (start .args .part .now))) _ (at-key-alignment .key-alignment .ensures) (at-if2 .if2 .taken))
+    let start = at-separator .before .before .before .before in (
+      start .pre .1 .0,
+      holds-basic _ _ _ _ (rw (tail (start .args .lead) (start .args .part .now)) at (at-separator .separator .ensures .0))
+          (at-if1 .if1 .left) (omega (
+            arith,
+            start .pre .1 .0 .in-frame,
+            start .pre .1 .1,
+            at-separator .separator .ensures .1,
+            length-take
+                (length (start .args .part .now) - start .args .lead) (drop (start .args .lead) (start .args .part .now)),
+          ))
+          (at-only-letter .only-letter .ensures ∙ ap onlyLetter (tail (start .args .lead + at-separator .separator .result) (start .args .part .now))) _
+          (at-key-alignment .key-alignment .ensures) (at-if2 .if2 .taken),
+    )
 
 variant·variant-same-length : (t : ℕ) → variant·variant-lts.Need-same-length (variant·variant-callees t) (variant·variant-at t) variant·variant.Post
 variant·variant-same-length t c = search needs
@@ -160,7 +172,11 @@ variant·variant-returns-4 t c =
     let at-if1 = at-type-text .before .before .before .before .before .before in
     let at-separator = at-if1 .before in
     let start = at-separator .before .before .before .before in
-    told (c .refused2 .ensures) (variant-type _ _ _ _ _ _ _ (rw (tail (start .args .lead) (start .args .part .now)) at (at-separator .separator .ensures .0)) (at-if1 .if1 .left) _ _ (rw (tail (start .args .lead + at-separator .separator .result) (start .args .part .now)) at (at-type-text .type-text .ensures)) (at-if3 .if3 .left) (rw (tail (start .args .lead + at-separator .separator .result) (start .args .part .now)) at (table-refused _ _ _ _ refl (at-shapes-of .shapes-of .ensures) (denied (at-if4 .if4 .taken)))))
+    told (c .refused2 .ensures) (variant-type _ _ _ _ _ _ _ (rw (tail (start .args .lead) (start .args .part .now)) at
+    (at-separator .separator .ensures .0)) (at-if1 .if1 .left) _ _
+    (rw (tail (start .args .lead + at-separator .separator .result) (start .args .part .now)) at (at-type-text .type-text .ensures)) (at-if3 .if3 .left)
+    (rw (tail (start .args .lead + at-separator .separator .result) (start .args .part .now)) at
+    (table-refused _ _ _ _ refl (at-shapes-of .shapes-of .ensures) (denied (at-if4 .if4 .taken)))))
 
 variant·variant-in-variant-requires : (t : ℕ) → variant·variant-lts.Need-in-variant-requires (variant·variant-callees t) (variant·variant-at t) variant·variant.Post
 variant·variant-in-variant-requires t c κs = search needs
@@ -182,7 +198,12 @@ variant·variant-returns-5 t c =
     let at-if1 = at-type-text .before .before .before .before .before .before in
     let at-separator = at-if1 .before in
     let start = at-separator .before .before .before .before in
-    told (c .refused3 .ensures) (variant-deep _ _ _ _ _ _ _ (rw (tail (start .args .lead) (start .args .part .now)) at (at-separator .separator .ensures .0)) (at-if1 .if1 .left) _ _ (rw (tail (start .args .lead + at-separator .separator .result) (start .args .part .now)) at (at-type-text .type-text .ensures)) (at-if3 .if3 .left) _ ((front _ (rw (tail (start .args .lead + at-separator .separator .result) (start .args .part .now)) at (table-type _ _ _ _ refl (at-shapes-of .shapes-of .ensures) (granted (at-if4 .if4 .left))))) .type) (at-in-variant .in-variant .ensures) (at-if5 .if5 .taken))
+    told (c .refused3 .ensures) (variant-deep _ _ _ _ _ _ _ (rw (tail (start .args .lead) (start .args .part .now)) at
+    (at-separator .separator .ensures .0)) (at-if1 .if1 .left) _ _
+    (rw (tail (start .args .lead + at-separator .separator .result) (start .args .part .now)) at (at-type-text .type-text .ensures)) (at-if3 .if3 .left)
+    _ ((front _ (rw (tail (start .args .lead + at-separator .separator .result) (start .args .part .now)) at
+    (table-type _ _ _ _ refl (at-shapes-of .shapes-of .ensures) (granted (at-if4 .if4 .left))))) .type) (at-in-variant .in-variant .ensures)
+    (at-if5 .if5 .taken))
 
 variant·variant-slice-aggregate-shape-in : (t : ℕ) → variant·variant-lts.Need-slice-aggregate-shape-in (variant·variant-callees t) (variant·variant-at t) variant·variant.Post
 variant·variant-slice-aggregate-shape-in t c = search needs
@@ -205,8 +226,17 @@ variant·variant-value-requires t c κs =
     let at-in-variant = at-if5 .before in
     let at-if4 = at-in-variant .before in
     let at-shapes-of = at-if4 .before .before in
-    let start = at-shapes-of .before .before .before .before .before .before .before .before .before .before .before .before .before .before .before .before in
-    (omega (arith, level-falls (at-in-variant .in-variant .ensures .deeper (at-if5 .if5 .left)), start .pre .0), (described-as (at-shape-in .shape-in .ensures) (front-described _ _ (table-filled _ _ _ _ refl (at-shapes-of .shapes-of .ensures) (at-shapes-of .shapes-of .kept .1 .0) (granted (at-if4 .if4 .left))) (front _ (table-type _ _ _ _ refl (at-shapes-of .shapes-of .ensures) (granted (at-if4 .if4 .left))))), inside-deeper (at-in-variant .in-variant .ensures .deeper (at-if5 .if5 .left)) (start .pre .1 .0), start .pre .1 .1))
+    let start = at-shapes-of .before .before .before .before .before .before .before .before .before .before .before .before .before .before .before .before in (
+      omega (arith, level-falls (at-in-variant .in-variant .ensures .deeper (at-if5 .if5 .left)), start .pre .0),
+      (
+        described-as (at-shape-in .shape-in .ensures) (front-described _ _
+            (table-filled _ _ _ _ refl (at-shapes-of .shapes-of .ensures) (at-shapes-of .shapes-of .kept .1 .0) (granted (at-if4 .if4 .left)))
+            (front _ (table-type _ _ _ _ refl (at-shapes-of .shapes-of .ensures) (granted (at-if4 .if4 .left))))),
+        inside-deeper
+            (at-in-variant .in-variant .ensures .deeper (at-if5 .if5 .left)) (start .pre .1 .0),
+        start .pre .1 .1,
+      ),
+    )
 
 variant·variant-close-variant-requires : (t : ℕ) → variant·variant-lts.Need-close-variant-requires (variant·variant-callees t) (variant·variant-at t) variant·variant.Post
 variant·variant-close-variant-requires t c κs =
@@ -227,7 +257,16 @@ variant·variant-same-length-5 t c =
     let at-if1 = at-type-text .before .before .before .before .before .before in
     let at-separator = at-if1 .before in
     let start = at-separator .before .before .before .before in
-    kept (variant-closed (start .args .part .now) (start .args .lead) (start .args .place) (start .args .context) (start .args .n) (start .args .out .now) (at-separator .separator .result) (rw (tail (start .args .lead) (start .args .part .now)) at (at-separator .separator .ensures .0)) (at-if1 .if1 .left) _ _ (rw (tail (start .args .lead + at-separator .separator .result) (start .args .part .now)) at (at-type-text .type-text .ensures)) (at-if3 .if3 .left) _ ((front _ (rw (tail (start .args .lead + at-separator .separator .result) (start .args .part .now)) at (table-type _ _ _ _ refl (at-shapes-of .shapes-of .ensures) (granted (at-if4 .if4 .left))))) .type) (at-in-variant .in-variant .ensures .deeper (at-if5 .if5 .left)) (few-variants (start .pre .1 .0)) _ _ (same-value (at-in-variant .in-variant .result .context) _ _ _ (tail (start .args .lead + at-separator .separator .result) (start .args .part .now)) (ap (λ (s : Shape). s .at) (at-shape-in .shape-in .ensures))) (omega (arith, at-if1 .if1 .left)) _ _ (at-close-variant .close-variant .ensures _ _ _ _ (at-value .value .ensures)))
+    kept (variant-closed (start .args .part .now) (start .args .lead) (start .args .place) (start .args .context) (start .args .n)
+    (start .args .out .now) (at-separator .separator .result) (rw (tail (start .args .lead) (start .args .part .now)) at
+    (at-separator .separator .ensures .0)) (at-if1 .if1 .left) _ _
+    (rw (tail (start .args .lead + at-separator .separator .result) (start .args .part .now)) at (at-type-text .type-text .ensures)) (at-if3 .if3 .left)
+    _ ((front _ (rw (tail (start .args .lead + at-separator .separator .result) (start .args .part .now)) at
+    (table-type _ _ _ _ refl (at-shapes-of .shapes-of .ensures) (granted (at-if4 .if4 .left))))) .type)
+    (at-in-variant .in-variant .ensures .deeper (at-if5 .if5 .left)) (few-variants (start .pre .1 .0)) _ _
+    (same-value (at-in-variant .in-variant .result .context) _ _ _ (tail (start .args .lead + at-separator .separator .result) (start .args .part .now))
+    (ap (λ (s : Shape). s .at) (at-shape-in .shape-in .ensures))) (omega (arith, at-if1 .if1 .left)) _ _
+    (at-close-variant .close-variant .ensures _ _ _ _ (at-value .value .ensures)))
 
 variant·variant-returns-6 : (t : ℕ) → variant·variant-lts.Need-returns-6 (variant·variant-callees t) (variant·variant-at t) variant·variant.Post
 variant·variant-returns-6 t c =
@@ -243,7 +282,14 @@ variant·variant-returns-6 t c =
     let at-if1 = at-type-text .before .before .before .before .before .before in
     let at-separator = at-if1 .before in
     let start = at-separator .before .before .before .before in
-    variant-closed _ _ _ _ _ _ _ (rw (tail (start .args .lead) (start .args .part .now)) at (at-separator .separator .ensures .0)) (at-if1 .if1 .left) _ _ (rw (tail (start .args .lead + at-separator .separator .result) (start .args .part .now)) at (at-type-text .type-text .ensures)) (at-if3 .if3 .left) _ ((front _ (rw (tail (start .args .lead + at-separator .separator .result) (start .args .part .now)) at (table-type _ _ _ _ refl (at-shapes-of .shapes-of .ensures) (granted (at-if4 .if4 .left))))) .type) (at-in-variant .in-variant .ensures .deeper (at-if5 .if5 .left)) (few-variants (start .pre .1 .0)) _ _ (same-value _ _ _ _ (tail (start .args .lead + at-separator .separator .result) (start .args .part .now)) (ap (λ (s : Shape). s .at) (at-shape-in .shape-in .ensures))) (omega (arith, at-if1 .if1 .left)) _ _ (at-close-variant .close-variant .ensures _ _ _ _ (at-value .value .ensures))
+    variant-closed _ _ _ _ _ _ _ (rw (tail (start .args .lead) (start .args .part .now)) at (at-separator .separator .ensures .0)) (at-if1 .if1 .left) _
+    _ (rw (tail (start .args .lead + at-separator .separator .result) (start .args .part .now)) at (at-type-text .type-text .ensures))
+    (at-if3 .if3 .left) _ ((front _ (rw (tail (start .args .lead + at-separator .separator .result) (start .args .part .now)) at
+    (table-type _ _ _ _ refl (at-shapes-of .shapes-of .ensures) (granted (at-if4 .if4 .left))))) .type)
+    (at-in-variant .in-variant .ensures .deeper (at-if5 .if5 .left)) (few-variants (start .pre .1 .0)) _ _
+    (same-value _ _ _ _ (tail (start .args .lead + at-separator .separator .result) (start .args .part .now))
+    (ap (λ (s : Shape). s .at) (at-shape-in .shape-in .ensures))) (omega (arith, at-if1 .if1 .left)) _ _
+    (at-close-variant .close-variant .ensures _ _ _ _ (at-value .value .ensures))
 
 pub variant·variant-spec : {M : Type 1} (t : ℕ) → variant·variant-lts.Closed (variant·variant-callees t) (variant·variant-at t) variant·variant.Post M
 variant·variant-spec t =

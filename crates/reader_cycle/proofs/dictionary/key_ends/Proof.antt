@@ -8,7 +8,7 @@ use Rattle.reader_cycle.proofs.dictionary.key_ends.Tie as tie
 use Rattle.reader_cycle.proofs.dictionary.key_ends.Reads as reads
 use Rattle.reader_cycle.proofs.dictionary.key_ends.Lts as lts
 use Rattle.framing_offset_size.proofs.FramingOffsetSize.for_encoded_container.Reads as for-encoded-container-reads
-use Rattle.framing_offset_size.proofs.FramingOffsetSize.read_last_offset_from_buffer.Reads as read-last-offset-from-buffer-reads
+use Rattle.framing_offsets.proofs.table.last_in.Reads as last-in-reads
 use Rattle.framing_offset_size.proofs.FramingOffsetSize.width.Reads as width-reads
 use Rattle.reader_cycle.proofs.ends.Ends.at.Reads as at-reads
 use Rattle.reader_cycle.proofs.ends.Ends.missing.Reads as missing-reads
@@ -23,14 +23,14 @@ returns c =
 for-encoded-container-requires : tie.Need-for-encoded-container-requires
 for-encoded-container-requires c κs = search needs
 
-part-read-last-offset-from-buffer-start : tie.Need-part-read-last-offset-from-buffer-start
-part-read-last-offset-from-buffer-start c = search needs
+part-last-in-start : tie.Need-part-last-in-start
+part-last-in-start c = search needs
 
-part-read-last-offset-from-buffer-end : tie.Need-part-read-last-offset-from-buffer-end
-part-read-last-offset-from-buffer-end c = search needs
+part-last-in-end : tie.Need-part-last-in-end
+part-last-in-end c = search needs
 
-read-last-offset-from-buffer-requires : tie.Need-read-last-offset-from-buffer-requires
-read-last-offset-from-buffer-requires c κs = search needs
+last-in-requires : tie.Need-last-in-requires
+last-in-requires c κs = search needs
 
 sub-if2 : tie.Need-sub-if2
 sub-if2 c = search needs
@@ -40,7 +40,13 @@ missing-requires-2 c κs = search needs
 
 returns-2 : tie.Need-returns-2
 returns-2 c =
-    c .missing2 .ensures ∙ key-ends-past _ _ _ _ (c .before .before .before .before .before .if1 .left) (c .before .before .before .before .before .before .before .pre .0) _ (key-end _ _ _ _ _ (c .before .before .before .before .before .if1 .left) (omega (arith, c .before .before .before .before .before .before .before .pre .0, c .before .before .before .before .before .before .before .pre .1)) (c .before .before .before .before .for-encoded-container .ensures) (c .before .before .read-last-offset-from-buffer .ensures) .end) (c .before .if2 .taken)
+    let at-last-in = c .before .before in
+    let at-for-encoded-container = at-last-in .before .before in
+    let at-if1 = at-for-encoded-container .before in
+    let start = at-if1 .before .before in
+    c .missing2 .ensures ∙ key-ends-past _ _ _ _ (at-if1 .if1 .left) (start .pre .0) _
+    (key-end _ _ _ _ _ (at-if1 .if1 .left) (omega (arith, start .pre .0, start .pre .1)) (at-for-encoded-container .for-encoded-container .ensures)
+    (at-last-in .last-in .ensures) .end) (c .before .if2 .taken)
 
 add-at : tie.Need-add-at
 add-at c = search needs
@@ -53,7 +59,14 @@ at-requires c κs = search needs
 
 returns-3 : tie.Need-returns-3
 returns-3 c =
-    c .at .ensures ∙ key-ends-there _ _ _ _ (c .before .before .before .before .before .before .if1 .left) (c .before .before .before .before .before .before .before .before .pre .0) _ (key-end _ _ _ _ _ (c .before .before .before .before .before .before .if1 .left) (omega (arith, c .before .before .before .before .before .before .before .before .pre .0, c .before .before .before .before .before .before .before .before .pre .1)) (c .before .before .before .before .before .for-encoded-container .ensures) (c .before .before .before .read-last-offset-from-buffer .ensures) .end) _ (c .before .width .ensures ∙ c .before .before .before .before .before .for-encoded-container .ensures) (c .before .before .if2 .left)
+    let at-if2 = c .before .before in
+    let at-last-in = at-if2 .before in
+    let at-for-encoded-container = at-last-in .before .before in
+    let at-if1 = at-for-encoded-container .before in
+    let start = at-if1 .before .before in
+    c .at .ensures ∙ key-ends-there _ _ _ _ (at-if1 .if1 .left) (start .pre .0) _
+    (key-end _ _ _ _ _ (at-if1 .if1 .left) (omega (arith, start .pre .0, start .pre .1)) (at-for-encoded-container .for-encoded-container .ensures)
+    (at-last-in .last-in .ensures) .end) _ (c .before .width .ensures ∙ at-for-encoded-container .for-encoded-container .ensures) (at-if2 .if2 .left)
 
 pub key-ends-spec : {M : Type 1} → statement M
 key-ends-spec =
@@ -62,9 +75,9 @@ key-ends-spec =
     missing-requires
     returns
     for-encoded-container-requires
-    part-read-last-offset-from-buffer-start
-    part-read-last-offset-from-buffer-end
-    read-last-offset-from-buffer-requires
+    part-last-in-start
+    part-last-in-end
+    last-in-requires
     sub-if2
     missing-requires-2
     returns-2

@@ -40,7 +40,22 @@ returns-2 c =
 
 add-at : tie.Need-add-at
 add-at c =
-    omega (arith, offset-small _ _ _ (c .before .before .before .before .before .before .args .part .now) _ (λ i. omega (arith, c .before .before .before .before .before .shared-slice-known .given i)) (omega (arith, c .before .before .before .for-encoded-container .ensures, width-small (length (c .before .before .before .before .before .before .args .part .now) - c .before .before .before .before .before .before .args .lead) (omega (arith, c .before .before .before .before .before .before .pre .2)))) (offset-there _ _ _ _ _ (c .before .before .offset-before .ensures) (c .before .if2 .left)), c .before .before .before .before .before .before .pre .0, c .before .before .before .before .before .before .pre .2)
+    let at-offset-before = c .before .before in
+    let at-for-encoded-container = at-offset-before .before in
+    let at-shared-slice-known = at-for-encoded-container .before .before in
+    let start = at-shared-slice-known .before in
+    omega (
+      arith,
+      offset-small _ _ _ (start .args .part .now) _ (λ i. omega (arith, at-shared-slice-known .shared-slice-known .given i))
+          (omega (
+            arith,
+            at-for-encoded-container .for-encoded-container .ensures,
+            width-small (length (start .args .part .now) - start .args .lead)
+                (omega (arith, start .pre .2)),
+          )) (offset-there _ _ _ _ _ (at-offset-before .offset-before .ensures) (c .before .if2 .left)),
+      start .pre .0,
+      start .pre .2,
+    )
 
 width-requires : tie.Need-width-requires
 width-requires c κs = search needs
@@ -50,7 +65,12 @@ at-requires-2 c κs = search needs
 
 returns-3 : tie.Need-returns-3
 returns-3 c =
-    c .at2 .ensures ∙ rw (c .before .width .ensures) (ends-there _ _ _ _ _ _ (c .before .before .before .before .before .for-encoded-container .ensures) _ (c .before .before .before .before .offset-before .ensures) (c .before .before .before .before .before .before .if1 .left) (c .before .before .before .if2 .left))
+    let at-if2 = c .before .before .before in
+    let at-offset-before = at-if2 .before in
+    let at-for-encoded-container = at-offset-before .before in
+    let at-if1 = at-for-encoded-container .before in
+    c .at2 .ensures ∙ rw (c .before .width .ensures) (ends-there _ _ _ _ _ _ (at-for-encoded-container .for-encoded-container .ensures) _
+    (at-offset-before .offset-before .ensures) (at-if1 .if1 .left) (at-if2 .if2 .left))
 
 pub field-ends-spec : {M : Type 1} → statement M
 field-ends-spec =

@@ -36,25 +36,46 @@ same-length c = search needs
 
 returns : tie.Need-returns
 returns c =
-    told (c .refused .ensures) (basic-deep _ _ _ _ _ _ _ _ (c .before .before .before .before .before .before .before .before .before .before .before .before .before .pre .1) _ _ (c .before .before .before .before .before .before .before .before .before .emit .ensures .0) (c .before .before .before .before .before .before .before .before .before .emit .ensures .1) _ _ (c .before .before .before .before .before .emit2 .ensures .0) (c .before .before .before .before .before .emit2 .ensures .1) (c .before .before .in-variant .ensures) (c .before .if1 .taken))
+    let at-in-variant = c .before .before in
+    let at-emit2 = at-in-variant .before .before .before in
+    let at-emit = at-emit2 .before .before .before .before in
+    let start = at-emit .before .before .before .before in
+    told (c .refused .ensures) (basic-deep _ _ _ _ _ _ _ _ (start .pre .1) _ _ (at-emit .emit .ensures .0) (at-emit .emit .ensures .1) _ _
+    (at-emit2 .emit2 .ensures .0) (at-emit2 .emit2 .ensures .1) (at-in-variant .in-variant .ensures) (c .before .if1 .taken))
 
 sub-child-key : tie.Need-sub-child-key
 sub-child-key c = search needs
 
 child-key-requires : tie.Need-child-key-requires
 child-key-requires c κs =
-    (inside-deeper (c .before .before .in-variant .ensures .deeper (c .before .if1 .left)) (c .before .before .before .before .before .before .before .before .before .before .before .before .before .pre .0), omega (arith, c .before .before .before .before .before .before .before .before .before .before .before .before .before .pre .1 .there, c .before .before .before .before .before .before .before .before .before .before .before .before .before .pre .1 .inside), basic-aligned (basic-type _ _ (c .before .before .before .before .before .before .before .before .before .before .before .before .before .pre .1 .one) (c .before .before .before .before .before .before .before .before .before .before .before .before .before .pre .1 .basic)))
+    let at-in-variant = c .before .before in
+    let start = at-in-variant .before .before .before .before .before .before .before .before .before .before .before in (
+      inside-deeper (at-in-variant .in-variant .ensures .deeper (c .before .if1 .left)) (start .pre .0),
+      omega
+          (arith, start .pre .1 .there, start .pre .1 .inside),
+      basic-aligned (basic-type _ _ (start .pre .1 .one) (start .pre .1 .basic)),
+    )
 
 close-variant-requires : tie.Need-close-variant-requires
 close-variant-requires c κs =
-    (c .before .before .before .before .before .before .before .before .before .before .before .before .before .before .before .before .before .pre .0 .in-frame, omega (arith, c .before .before .before .before .before .before .before .before .before .before .before .before .before .before .before .before .before .pre .1 .there, c .before .before .before .before .before .before .before .before .before .before .before .before .before .before .before .before .before .pre .1 .inside))
+    let start = c .before .before .before .before .before .before .before .before .before .before .before .before .before .before .before .before .before in
+    (start .pre .0 .in-frame, omega (arith, start .pre .1 .there, start .pre .1 .inside))
 
 same-length-2 : tie.Need-same-length-2
 same-length-2 c = search needs
 
 returns-2 : tie.Need-returns-2
 returns-2 c =
-    basic-closed _ _ _ _ _ _ _ _ (c .before .before .before .before .before .before .before .before .before .before .before .before .before .before .before .before .before .before .before .before .pre .1) _ _ (c .before .before .before .before .before .before .before .before .before .before .before .before .before .before .before .before .emit .ensures .0) (c .before .before .before .before .before .before .before .before .before .before .before .before .before .before .before .before .emit .ensures .1) _ _ (c .before .before .before .before .before .before .before .before .before .before .before .before .emit2 .ensures .0) (c .before .before .before .before .before .before .before .before .before .before .before .before .emit2 .ensures .1) (c .before .before .before .before .before .before .before .before .before .in-variant .ensures .deeper (c .before .before .before .before .before .before .before .before .if1 .left)) (few-variants (c .before .before .before .before .before .before .before .before .before .before .before .before .before .before .before .before .before .before .before .before .pre .0)) _ _ (c .before .before .close-variant .ensures _ _ _ _ (c .before .before .before .before .before .before .child-key .ensures _))
+    let at-close-variant = c .before .before in
+    let at-child-key = at-close-variant .before .before .before .before in
+    let at-if1 = at-child-key .before .before in
+    let at-in-variant = at-if1 .before in
+    let at-emit2 = at-in-variant .before .before .before in
+    let at-emit = at-emit2 .before .before .before .before in
+    let start = at-emit .before .before .before .before in
+    basic-closed _ _ _ _ _ _ _ _ (start .pre .1) _ _ (at-emit .emit .ensures .0) (at-emit .emit .ensures .1) _ _ (at-emit2 .emit2 .ensures .0)
+    (at-emit2 .emit2 .ensures .1) (at-in-variant .in-variant .ensures .deeper (at-if1 .if1 .left)) (few-variants (start .pre .0)) _ _
+    (at-close-variant .close-variant .ensures _ _ _ _ (at-child-key .child-key .ensures _))
 
 pub basic-variant-spec : {M : Type 1} → statement M
 basic-variant-spec =

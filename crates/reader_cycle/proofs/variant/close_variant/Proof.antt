@@ -30,7 +30,11 @@ same-length c = search needs
 
 returns-2 : tie.Need-returns-2
 returns-2 c =
-    λ o end n l d. told (c .done .ensures) (variant-end o (c .before .before .before .before .before .before .before .before .args .part .now) (c .before .before .before .before .before .before .before .before .args .lead) (c .before .before .before .before .before .before .before .before .args .place) end n l _ _ d _ _ (c .before .before .before .before .before .before .before .before .pre .1) (c .before .before .before .before .before .if1 .left) (c .before .before .before .emit .ensures .0) (c .before .before .before .emit .ensures .1))
+    let at-emit = c .before .before .before in
+    let at-if1 = at-emit .before .before in
+    let start = at-if1 .before .before .before in
+    λ o end n l d. told (c .done .ensures) (variant-end o (start .args .part .now) (start .args .lead) (start .args .place) end n l _ _ d _ _
+    (start .pre .1) (at-if1 .if1 .left) (at-emit .emit .ensures .0) (at-emit .emit .ensures .1))
 
 pub close-variant-spec : {M : Type 1} → statement M
 close-variant-spec =

@@ -31,7 +31,11 @@ same-length c = search needs
 
 returns : tie.Need-returns
 returns c =
-    told (c .refused .ensures) (type-text-refused _ _ _ _ _ _ _ (c .before .before .before .before .before .before .emit .ensures .0) (c .before .before .before .before .before .before .emit .ensures .1) _ (c .before .before .text-refusal .ensures ∙ ap textRefusal (c .before .before .before .text .ensures)) (c .before .if1 .taken))
+    let at-text-refusal = c .before .before in
+    let at-text = at-text-refusal .before in
+    let at-emit = at-text .before .before .before in
+    told (c .refused .ensures) (type-text-refused _ _ _ _ _ _ _ (at-emit .emit .ensures .0) (at-emit .emit .ensures .1) _
+    (at-text-refusal .text-refusal .ensures ∙ ap textRefusal (at-text .text .ensures)) (c .before .if1 .taken))
 
 emit-requires-2 : tie.Need-emit-requires-2
 emit-requires-2 c κs = search needs
@@ -44,7 +48,14 @@ same-length-2 c = search needs
 
 returns-2 : tie.Need-returns-2
 returns-2 c =
-    told (c .done .ensures) (type-text-there _ _ _ _ _ _ _ (c .before .before .before .before .before .before .before .before .before .before .emit .ensures .0) (c .before .before .before .before .before .before .before .before .before .before .emit .ensures .1) _ _ (sym (c .before .before .before .before .before .before .text-refusal .ensures ∙ ap textRefusal (c .before .before .before .before .before .before .before .text .ensures)) ∙ c .before .before .before .before .before .if1 .left) (c .before .before .before .emit2 .ensures .0) (rw (c .before .before .before .before .before .before .before .text .ensures) at (c .before .before .before .emit2 .ensures .1)))
+    let at-emit2 = c .before .before .before in
+    let at-if1 = at-emit2 .before .before in
+    let at-text-refusal = at-if1 .before in
+    let at-text = at-text-refusal .before in
+    let at-emit = at-text .before .before .before in
+    told (c .done .ensures) (type-text-there _ _ _ _ _ _ _ (at-emit .emit .ensures .0) (at-emit .emit .ensures .1) _ _
+    (sym (at-text-refusal .text-refusal .ensures ∙ ap textRefusal (at-text .text .ensures)) ∙ at-if1 .if1 .left) (at-emit2 .emit2 .ensures .0)
+    (rw (at-text .text .ensures) at (at-emit2 .emit2 .ensures .1)))
 
 pub type-text-spec : {M : Type 1} → statement M
 type-text-spec =

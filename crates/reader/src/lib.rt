@@ -42,22 +42,33 @@ pub fn read(signature: &[u8], big: bool, position: usize, frame: &[u8], out: &mu
     if !shapes_of(signature, &mut shapes) {
         return refused(TYPE_REFUSED, 0, 0);
     }
-    if in_one_walk(signature.len(), frame.len()) {
+    if in_one_walk(signature, frame.len()) {
         return read_once(signature, &shapes, big, position, frame, out);
     }
     read_twice(signature, &shapes, big, position, frame, out)
 }
 
-// Whether a frame is read in one walk: one of middling length, whose events are likely to be few enough to hold. An array of numbers is
-// no such frame, since a walk that only sizes it counts them.
-fn in_one_walk(type_length: usize, length: usize) -> bool {
-    if type_length <= 2 {
+// Whether a type has more than a number, a text, or an array of these, which are judged or counted faster than held.
+fn is_walked(signature: &[u8]) -> bool {
+    let length = signature.len();
+    if 2 < length {
+        return true;
+    }
+    if length == 0 {
         return false;
     }
+    signature[length - 1] == b'v'
+}
+
+// Whether a frame is read in one walk: one of middling length, whose events are likely to be few enough to hold.
+fn in_one_walk(signature: &[u8], length: usize) -> bool {
     if length < 64 {
         return false;
     }
-    length <= 768
+    if 768 < length {
+        return false;
+    }
+    is_walked(signature)
 }
 
 // Reads a frame by one walk, whose events are held until all is read; by a second walk where they are too many to hold.

@@ -9,20 +9,21 @@ use mathlib.Core.Bool.{Bool, true, false, _&&_, false≢true}
 use Prim.Native.Nat.{ℕ, _+_, _-_, _≤_, _<_}
 use native.Mathlib.Omega.{arith}
 use lib.Dec.{eqb}
-use lib.ListN.{length, take, drop}
-use borrow.Author.Tests.{eq-eqb}
+use lib.ListN.{length, take, drop, getD}
+use borrow.Author.Tests.{eq-eqb, ne-eqb, eqb-true}
 use Rattle.meaning.specs.Choice.{pick}
 use Rattle.meaning.specs.Padding.{padding, Aligns}
 use Rattle.meaning.specs.Depths.{Depths}
-use Rattle.meaning.specs.Types.{Number as NumberType, numberWidth, Basic, bool, number, text, Tree, basic, maybe, array, dictionary, basicFixed, alignment, fixed, entryAlignment, entryFixed}
+use Rattle.meaning.specs.Types.{Number as NumberType, numberWidth, Basic, bool, number, text, Tree, basic, variant, maybe, array, dictionary, basicFixed, alignment, fixed, entryAlignment, entryFixed}
 use Rattle.meaning.specs.Letters.{numberLetter}
+use Rattle.meaning.specs.TypeText.{typeOf, basicAmong}
 use Rattle.meaning_writing.specs.Shapes.{part, sizesFrom}
 use Rattle.meaning_writing.specs.Strict.{Test, testShapes, basicWritten, basicTest, presentWritten, maybeWritten, maybeTest, childWritten, arrayTest, entryTest, testOf}
 use Rattle.meaning.proofs.Tests.{both-true}
 use Rattle.meaning.proofs.PaddingLaws.{by1, padding-below}
 use Rattle.meaning.proofs.TypeLaws.{aligns-most, number-aligned, aligned}
 use Rattle.meaning_writing.proofs.StrictSteps.{test-basic, test-maybe, test-array, test-dictionary}
-use Rattle.signature.specs.Places.{Child, basicKind, letterAt, childAt, isType}
+use Rattle.signature.specs.Places.{Child, basicKind, letterAt, letterBy, letterOf, childAt, isType}
 use Rattle.signature.specs.Items as its
 use Rattle.signature.specs.Items.{itemIn, EntryOf, ElementOf}
 use Rattle.signature.specs.Trees.{treeAt, Described}
@@ -31,13 +32,13 @@ use Rattle.signature.specs.declared.Letter.the-variants.{End, Bad, Boolean, Num
 use Rattle.signature.specs.declared.items.Item as signature-item
 use Rattle.signature.specs.declared.shapes.Shape.{Shape}
 use Rattle.signature.proofs.Letter.{the-type}
-use Rattle.signature.proofs.Letters.{alone, loneChild, child-lone}
+use Rattle.signature.proofs.Letters.{alone, loneChild, child-lone, letter-some}
 use Rattle.signature.proofs.Children.{child-found}
 use Rattle.signature.proofs.Answers.{judge-found}
-use Rattle.signature.proofs.Dispatch.{is-boolean, is-number, is-text, is-maybe}
+use Rattle.signature.proofs.Dispatch.{is-boolean, is-number, is-text, is-variant, is-maybe}
 use Rattle.signature.proofs.ItemLaws.{number-held, entry-of, element-of, opens}
 use Rattle.signature.proofs.TreeLaws.{Front, front, described-kind, described-alignment, described-fixed}
-use Rattle.strict_basic.specs.Ends.{letterWritten, letterExtent, extent, letterTest, textTest, isBasic, readingTest, Laid, endOf, StartAt, LoneType}
+use Rattle.strict_basic.specs.Ends.{letterWritten, letterExtent, extent, letterTest, textTest, isBasic, readingTest, Laid, endOf, StartAt, LoneType, loneVariant}
 use Rattle.strict_basic.specs.Sizes.{Tabled, extentIn, anyIn}
 use Rattle.strict_basic.specs.Items.{Placed, treeTest, itemTest, isText, numberWidthOf, heldWidth, entryEnd, entrySize, entryItem, elementItem, Known, Reads, Repeated, ItemAt}
 use Rattle.strict_basic.specs.declared.ends.Extent.{Extent}
@@ -161,6 +162,24 @@ module _ (l : List ℕ) (n : length l ≡ 1) where
       let m = is-text l 0 _ _ c (f .start) h in
       record { it = text (m .it); type = f .type ∙ ap some (m .type); same = q ∙ h ∙ ap Text (m .code-is) }
 
+  variant-lone : getD l 0 0 ≡ 118 → typeOf l ≡ some variant
+  unfolding letterBy basicAmong
+  variant-lone q =
+      let h : letterAt l 0 ≡ Variant = letter-some l 0 (omega (arith, n)) ∙ ap letterOf q in
+      let f = lone-front Variant h refl refl (omega arith) in
+      f .type ∙ ap some (is-variant l 0 _ _ (f .start) h .0)
+
+pub lone-more : (l : List ℕ) → (length l ≡ 1 → ⊥) → false ≡ loneVariant l
+lone-more l h = sym (rw (ne-eqb (length l) 1 h))
+
+pub lone-one : (l : List ℕ) → length l ≡ 1 → eqb (getD l 0 0) 118 ≡ loneVariant l
+lone-one l h = sym (rw (eq-eqb (length l) 1 h))
+
+pub lone-variant : (l : List ℕ) → loneVariant l ≡ true → typeOf l ≡ some variant
+lone-variant l h =
+    let b = both-true (eqb (length l) 1) (eqb (getD l 0 0) 118) h in
+    variant-lone l (eqb-true (length l) 1 (b .0)) (eqb-true (getD l 0 0) 118 (b .1))
+
 -- ---- what is repeated
 
 sizes-two : (u v : Test) → sizesFrom 0 (testShapes (u ∷ v ∷ []))
@@ -262,6 +281,7 @@ module _ {l t : List ℕ} {at : ℕ} (f : signature-item.Item) (w : Tabled l t) 
             known = c;
             key = k .key;
             any = λ h. absurd (false≢true h);
+            single = λ h. absurd (false≢true h);
             reads = λ h. absurd (h refl);
             texts = λ h. absurd (false≢true h);
           };
@@ -337,6 +357,7 @@ module _ {l t : List ℕ} {at : ℕ} (f : signature-item.Item) (w : Tabled l t) 
             known = placed-known element-placed;
             key = record { aligned = by1; small = omega arith };
             any = placed-any element-placed;
+            single = λ h. refl;
             reads = reads-is h hh;
             texts = text-is;
           };

@@ -6,7 +6,7 @@ use mathlib.Core.Option.{some}
 use mathlib.Core.Bool.{Bool, true, false, _&&_}
 use Prim.Native.Nat.{ℕ, _+_, _*_, _≤_}
 use lib.Dec.{eqb}
-use lib.ListN.{length}
+use lib.ListN.{length, getD}
 use Rattle.meaning.specs.Choice.{pick}
 use Rattle.meaning.specs.Limits.{largestFrame}
 use Rattle.meaning.specs.Padding.{Aligns}
@@ -142,3 +142,7 @@ pub record LoneType (l : List ℕ) (k : Letter) : Type 0 where
 
 pub record LoneBasic (l : List ℕ) (r : Lone) : Type 0 where
   pub lone : r .there ≡ true → LoneType l (r .kind)
+
+-- a text that is a variant's letter alone
+abbrev pub loneVariant : List ℕ → Bool
+loneVariant l = eqb (length l) 1 && eqb (getD l 0 0) 118

@@ -104,6 +104,7 @@ pub record Repeated (text tables : List ℕ) (i : Item) : Type 0 where
   pub known : Known (i .extent) (λ n. itemTest n text i)
   pub key : Laid (letterExtent (i .key))
   pub any : i .any ≡ true → Alike (i .extent) (λ n. itemTest n text i)
+  pub single : i .any ≡ true → i .entry ≡ false
   pub reads : (i .held ≡ 0 → ⊥) → Reads (i .held) (λ n. itemTest n text i)
   pub texts : i .text ≡ true → (nested : ℕ) → itemTest nested text i ≡ textTest
 

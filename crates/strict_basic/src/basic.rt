@@ -14,7 +14,7 @@ ghost use Rattle.meaning.specs.Depths.{Depths};
 ghost use Rattle.meaning.specs.Limits.{largestFrame};
 ghost use Rattle.meaning.specs.Padding.{Aligns};
 ghost use Rattle.meaning_writing.specs.Strict.{childWritten, elementsWritten};
-ghost use Rattle.strict_basic.specs.Ends.{boolWritten, textWritten, letterWritten, extent as extentAs, letterExtent, Laid, letterTest, textTest, isBasic, mayOpen, readingOf, readingTest, LoneBasic};
+ghost use Rattle.strict_basic.specs.Ends.{boolWritten, textWritten, letterWritten, extent as extentAs, letterExtent, Laid, letterTest, textTest, isBasic, mayOpen, readingOf, readingTest, LoneBasic, loneVariant};
 
 fn boolean_written(part: &[u8]) -> bool
     ensures { λ r. ⌜ r ≡ boolWritten (now (part .entry)) ⌝ }
@@ -193,4 +193,14 @@ pub fn lone_basic(text: &[u8]) -> Lone
         Letter::Text { code: _ } => lone_if(true, kind),
         _ => lone_if(false, kind),
     }
+}
+
+// Whether a type text is a variant's letter alone.
+pub fn lone_variant(text: &[u8]) -> bool
+    ensures { λ r. ⌜ r ≡ loneVariant (now (text .entry)) ⌝ }
+{
+    if text.len() != 1 {
+        return false;
+    }
+    text[0] == b'v'
 }

@@ -21,7 +21,7 @@ ghost use Rattle.meaning.specs.Choice.{pick};
 ghost use Rattle.meaning.specs.Types.{allFixed, largestAlignment, fixedSize, structure};
 ghost use Rattle.signature.specs.Places.{letterAt};
 ghost use Rattle.signature.specs.Trees.{treeAt, Typed, fieldsAt, Rowed};
-ghost use Rattle.strict_basic.specs.Sizes.{tableLength, sizeAndAny, anyBytes, offsetsIn, measureOf, Behind, Tabling, extentIn, anyIn, offsetsBy};
+ghost use Rattle.strict_basic.specs.Sizes.{tableLength, sizeAndAny, anyBytes, offsetsIn, measureOf, Behind, Tabling, extentIn, anyIn, offsetsBy, ClosesAt};
 
 // Two numbers for each character of the longest type.
 pub const TABLE: usize = 510;
@@ -59,6 +59,16 @@ fn both(a: bool, b: bool) -> bool
     false
 }
 
+// Whether a structure's type ends at a place of the text.
+pub fn closes_at(text: &[u8], at: usize) -> bool
+    ensures { λ r. ⌜ ClosesAt (now (text .entry)) at r ⌝ }
+{
+    if text.len() <= at {
+        return false;
+    }
+    text[at] == b')'
+}
+
 // The fields of a structure that is fixed, from its first on: its size, and whether any bytes will do.
 fn fixed_measure(text: &[u8], tables: &[u16], at: usize, alignment: usize) -> usize
     requires { ⌜ Rowed (now text) at × Behind (now text) at (now tables) × (allFixed (fieldsAt (now text) at) ≡ true) × (alignment ≡ largestAlignment (fieldsAt (now text) at)) ⌝ }
@@ -75,8 +85,7 @@ fn fixed_measure(text: &[u8], tables: &[u16], at: usize, alignment: usize) -> us
         let held = measure % 2 == 1;
         any = both(any, both(tight, held));
         end = start + measure / 2;
-        let behind = letter_at(text, field.next);
-        if let Letter::CloseStructure = behind {
+        if closes_at(text, field.next) {
             let size = aligned(end, alignment);
             let whole = size == end;
             return pack(size, both(any, whole));
@@ -94,8 +103,7 @@ fn offsets_of(text: &[u8], tables: &[u16], at: usize) -> usize
     let mut count = 0;
     loop {
         let field = shape_in(text, tables, i);
-        let behind = letter_at(text, field.next);
-        if let Letter::CloseStructure = behind {
+        if closes_at(text, field.next) {
             return count;
         }
         count = one_more(field.fixed, count);

@@ -2,30 +2,32 @@
 use mathlib.Core.Path.{_≡_, refl, sym, ap, _∙_}
 use mathlib.Core.List.{List, [], _∷_}
 use mathlib.Core.Bool.{Bool, true, false, _&&_}
-use Prim.Native.Nat.{ℕ, _+_, _-_, _*_, _≤_, _<_}
+use Prim.Native.Nat.{ℕ, zero, suc, _+_, _-_, _*_, _/_, _≤_, _<_}
+use native.Mathlib.Nat.{suc-mul}
 use native.Mathlib.Omega.{arith}
 use lib.Dec.{eqb}
 use lib.ListN.{length, take, drop}
 use Rattle.meaning.specs.Choice.{pick}
-use Rattle.meaning.specs.Padding.{Aligns}
+use Rattle.meaning.specs.Padding.{padding, Aligns}
 use Rattle.meaning.specs.Depths as Depth
 use Rattle.meaning.specs.Depths.{Depths, opened}
 use Rattle.meaning.specs.Written.{deeper}
 use Rattle.meaning_writing.specs.Shapes.{oneMore, offsetCount, fieldEnd, offsetsLeft}
-use Rattle.meaning_writing.specs.Strict.{Test, testShapes, childWritten, elementsWritten, arrayWritten, arrayTest, fieldsWritten, structureWritten, entryTest}
+use Rattle.meaning_writing.specs.Strict.{Test, testShapes, allZero, childWritten, elementsWritten, arrayWritten, arrayTest, fieldsWritten, structureWritten, entryTest}
 use Rattle.container_depths.specs.Opening.{depthsOf, Raises}
 use Rattle.container_depths.specs.declared.ContainerDepths.{ContainerDepths}
 use Rattle.container_depths.specs.declared.Raised.{Raised}
 use Rattle.container_depths.proofs.Levels.{raised-to}
-use Rattle.strict_basic.specs.Ends.{letterExtent, letterTest, textTest, mayOpen, readingTest, endOf, RowsOf, TableOf}
-use Rattle.strict_basic.specs.Items.{treeTest, itemTest, Repeated, ItemAt}
+use Rattle.strict_basic.specs.Ends.{letterExtent, letterTest, textTest, mayOpen, readingTest, endOf, start, RowsOf, TableOf}
+use Rattle.strict_basic.specs.Items.{treeTest, itemTest, Known, Alike, Repeated, ItemAt}
 use Rattle.strict_basic.specs.declared.ends.Extent.{Extent}
 use Rattle.strict_basic.specs.declared.ends.Rows.{Rows}
 use Rattle.strict_basic.specs.declared.items.Item.{Item}
-use Rattle.strict_basic.proofs.EndLaws.{child-within}
+use Rattle.strict_basic.proofs.EndLaws.{child-within, start-here}
+use Rattle.strict_basic.proofs.ElementLaws.{any-first}
 use Rattle.strict_basic.proofs.SizeLaws.{Some}
 use Rattle.strict_cycle.specs.Walks.{lastWritten}
-use Rattle.strict_cycle.proofs.Values.{deeper-not, deeper-on}
+use Rattle.strict_cycle.proofs.Values.{deeper-not, deeper-on, child-on}
 use Rattle.strict_cycle.proofs.Structures.{fields-one, fields-turn, offsets-one, offsets-two}
 
 -- ---- an array or a dictionary
@@ -98,20 +100,35 @@ module _ {text tables : List ℕ} {at : ℕ} (i : Item) (g : ItemAt text tables 
 
 -- ---- what is repeated
 
-pub plain-is : (nested : ℕ) (text : List ℕ) (i : Item) → i .entry ≡ false → itemTest nested text i ≡ treeTest nested text (i .child .at)
+plain-is : (nested : ℕ) (text : List ℕ) (i : Item) → i .entry ≡ false → itemTest nested text i ≡ treeTest nested text (i .child .at)
 unfolding itemTest
 plain-is nested text i h =
     ap (λ (b : Bool). pick b (entryTest (i .extent .alignment) (i .extent .fixed) (letterTest (i .key) ∷ treeTest nested text (i .child .at) ∷ [])) (treeTest nested text (i .child .at))) h
 
-pub step-plain : (nested : ℕ) (text : List ℕ) (i : Item) (d : Depths) (l : List ℕ) (s k e : ℕ) → i .entry ≡ false → (b : Bool) → b ≡ childWritten (treeTest nested text (i .child .at)) d l s k e
-    → b ≡ childWritten (itemTest nested text i) d l s k e
-step-plain nested text i d l s k e h b g = g ∙ ap (λ (t : Test). childWritten t d l s k e) (sym (plain-is nested text i h))
+pub plain-accepts : (nested : ℕ) (text : List ℕ) (i : Item) (d : Depths) (l : List ℕ) → i .entry ≡ false → (b : Bool) → b ≡ treeTest nested text (i .child .at) .accepts d l → b ≡ itemTest nested text i .accepts d l
+plain-accepts nested text i d l h b g = g ∙ ap (λ (t : Test). t .accepts d l) (sym (plain-is nested text i h))
 
 entry-is : (nested : ℕ) (text : List ℕ) (i : Item) → i .entry ≡ true
     → itemTest nested text i ≡ entryTest (i .extent .alignment) (i .extent .fixed) (letterTest (i .key) ∷ treeTest nested text (i .child .at) ∷ [])
 unfolding itemTest
 entry-is nested text i h =
     ap (λ (b : Bool). pick b (entryTest (i .extent .alignment) (i .extent .fixed) (letterTest (i .key) ∷ treeTest nested text (i .child .at) ∷ [])) (treeTest nested text (i .child .at))) h
+
+-- ---- elements for which any bytes will do
+
+pub first-fits : (m n len : ℕ) → m * n ≡ len → (m ≡ 0 → ⊥) → n ≤ len
+first-fits zero n len e z = absurd (z refl)
+first-fits (suc m) n len e z = omega (arith, suc-mul m n, e)
+
+pub first-tells : (x : Extent) (test : ℕ → Test) → Known x test → Alike x test → (nested : ℕ) (d : Depths) (l : List ℕ) (m : ℕ) → m ≡ length l / x .size → m * x .size ≡ length l → (m ≡ 0 → ⊥)
+    → (b : Bool) → b ≡ test nested .accepts d (take (x .size) l) → b ≡ arrayWritten (x .fixed) (test nested) l d
+unfolding allZero
+first-tells x test g a nested d l m h e z b q =
+    let v : x .size ≡ x .size - 0 = omega arith in
+    let y : 0 * x .size ≡ 0 = omega arith in
+    let p : padding 0 (x .alignment) ≡ 0 = rw y at (a .close 0) in
+    let s = start-here l (length l) 0 (x .size) (x .alignment) 0 (omega (arith, p)) true (omega arith) (first-fits m (x .size) (length l) e z) refl in
+    any-first x test g a nested d l m h e z b (child-on (test nested) d l (length l) 0 (x .size) (x .alignment) (g .same-alignment nested) (start true 0) s b refl (q ∙ ap (λ (n : ℕ). test nested .accepts d (take n l)) v))
 
 -- ---- an entry
 

@@ -76,6 +76,9 @@ module _ (d : ContainerDepths) (l : List ℕ) (w : Inside (length l) d) (s : ℕ
           ∙ ap (λ (x : Test). x .accepts (depthsOf (r .depths)) (take end l)) (ap letterTest (j .same) ∙ letter-test (j .it) ∙ sym (test-basic (65 - r .depths .variant) (j .it)))
           ∙ sym (variant-typed (basic (j .it)) (j .type))
 
+      pub variant-nested : typeOf sig ≡ some variant → (b : Bool) → b ≡ variantAccepts (r .depths) (take end l) → b ≡ variantAccepts d l
+      variant-nested t b g = g ∙ sym (variant-typed variant t)
+
       pub variant-untyped : isType sig ≡ false → false ≡ variantAccepts d l
       unfolding typedWritten
       variant-untyped h = sym (variant-accepts ∙ rw (ne-eqb s 0 z, ← q, judged-none sig h))

@@ -9,19 +9,17 @@ use Rattle.meaning.proofs.TypeLaws.{aligns-most}
 use Prim.Native.Nat.{_+_, _/_}
 use Rattle.meaning.proofs.PaddingLaws.{padding-below}
 use Rattle.strict_basic.proofs.TableLaws.{SizeLeft, size-begin, size-last, size-next, field-small, field-described, field-place, aligned-by}
-use Rattle.signature.specs.declared.Letter.the-variants.{CloseStructure}
-use Rattle.signature.proofs.Letters.{apart-from}
 use Rattle.signature.proofs.TreeLaws.{last-field-of, next-field-of}
 use Rattle.strict_basic.proofs.sizes.fixed_measure.Statement.{statement}
 use Rattle.strict_basic.proofs.sizes.fixed_measure.Tie as tie
 use Rattle.strict_basic.proofs.sizes.fixed_measure.Reads as reads
 use Rattle.strict_basic.proofs.sizes.fixed_measure.Lts as lts
-use Rattle.signature.proofs.letter_at.Reads as letter-at-reads
 use Rattle.signature.proofs.shapes.shape_in.Reads as shape-in-reads
 use Rattle.strict_basic.proofs.ends.aligned.Reads as aligned-reads
 use Rattle.strict_basic.proofs.sizes.both.Reads as both-reads
 use Rattle.strict_basic.proofs.sizes.measure_at.Reads as measure-at-reads
 use Rattle.strict_basic.proofs.sizes.pack.Reads as pack-reads
+use Rattle.strict_basic.proofs.sizes.closes_at.Reads as closes-at-reads
 
 abbrev Inv-loop : tie.InvT-loop
 Inv-loop text tables at alignment i₀ end₀ any₀ i end any =
@@ -31,39 +29,39 @@ abbrev μ-loop : tie.MeasureT-loop
 μ-loop text tables at alignment i₀ end₀ any₀ i end any =
     length text - i
 
--- src/sizes.rt:70:5
+-- src/sizes.rt:80:5
 loop-holds : tie.Need-loop-holds Inv-loop μ-loop
 loop-holds c =
     size-begin _ _ (c .before .before .pre .0) (c .before .before .pre .2)
 
--- src/sizes.rt:71:13
+-- src/sizes.rt:81:13
 shape-in-requires : tie.Need-shape-in-requires Inv-loop μ-loop
 shape-in-requires c κs =
     search needs
 
--- src/sizes.rt:72:13
+-- src/sizes.rt:82:13
 measure-at-requires : tie.Need-measure-at-requires Inv-loop μ-loop
 measure-at-requires c κs =
     (c .before .before .before .before .pre .1 .room, field-place _ _ _ (c .before .loop .inv .rowed) (c .before .before .before .before .pre .1 .shapes))
 
--- src/sizes.rt:73:13
+-- src/sizes.rt:83:13
 aligned-requires : tie.Need-aligned-requires Inv-loop μ-loop
 aligned-requires c κs = (
   omega (arith, c .before .before .loop .inv .small, field-place _ _ _ (c .before .before .loop .inv .rowed) (c .before .before .before .before .before .pre .1 .shapes)),
   described-aligned (field-described _ _ _ (c .before .before .loop .inv .rowed) (c .before .before .before .before .before .pre .1 .shapes) _ (c .before .shape-in .ensures)),
 )
 
--- src/sizes.rt:76:25
+-- src/sizes.rt:86:25
 both-requires : tie.Need-both-requires Inv-loop μ-loop
 both-requires c κs =
     search needs
 
--- src/sizes.rt:76:9
+-- src/sizes.rt:86:9
 both-requires-2 : tie.Need-both-requires-2 Inv-loop μ-loop
 both-requires-2 c κs =
     search needs
 
--- src/sizes.rt:77:15
+-- src/sizes.rt:87:15
 add-end : tie.Need-add-end Inv-loop μ-loop
 add-end c =
     omega (
@@ -72,72 +70,66 @@ add-end c =
           (c .before .before .before .measure-at .ensures) _ (c .before .before .aligned .ensures),
     )
 
--- src/sizes.rt:78:13
-letter-at-requires : tie.Need-letter-at-requires Inv-loop μ-loop
-letter-at-requires c κs =
-    search needs
+-- src/sizes.rt:88:12
+closes-at-requires : tie.Need-closes-at-requires Inv-loop μ-loop
+closes-at-requires c κs = search needs
 
--- src/sizes.rt:80:17
-enum-told : tie.Need-enum-told Inv-loop μ-loop
-enum-told c =
-    search needs
-
--- src/sizes.rt:80:17
+-- src/sizes.rt:89:17
 aligned-requires-2 : tie.Need-aligned-requires-2 Inv-loop μ-loop
 aligned-requires-2 c κs = (
   omega (
     arith,
-    field-small (c .before .before .before .before .before .before .before .before .before .before .before .pre .1) (c .before .before .before .before .before .before .before .before .loop .inv) _
-        (c .before .before .before .before .before .before .before .shape-in .ensures) _ (c .before .before .before .before .before .before .measure-at .ensures) _ (c .before .before .before .before .before .aligned .ensures),
+    field-small (c .before .before .before .before .before .before .before .before .before .before .pre .1) (c .before .before .before .before .before .before .before .loop .inv) _
+        (c .before .before .before .before .before .before .shape-in .ensures) _ (c .before .before .before .before .before .measure-at .ensures) _ (c .before .before .before .before .aligned .ensures),
   ),
-  aligned-by _ (c .before .before .before .before .before .before .before .before .before .before .before .pre .3),
+  aligned-by _ (c .before .before .before .before .before .before .before .before .before .before .pre .3),
 )
 
--- src/sizes.rt:82:31
+-- src/sizes.rt:91:31
 both-requires-3 : tie.Need-both-requires-3 Inv-loop μ-loop
 both-requires-3 c κs =
     search needs
 
--- src/sizes.rt:82:13
+-- src/sizes.rt:91:13
 pack-requires : tie.Need-pack-requires Inv-loop μ-loop
 pack-requires c κs =
-    let a = aligned-by _ (c .before .before .before .before .before .before .before .before .before .before .before .before .before .pre .3) in omega (
+    let a = aligned-by _ (c .before .before .before .before .before .before .before .before .before .before .before .before .pre .3) in omega (
       arith,
-      field-small (c .before .before .before .before .before .before .before .before .before .before .before .before .before .pre .1)
-          (c .before .before .before .before .before .before .before .before .before .before .loop .inv) _ (c .before .before .before .before .before .before .before .before .before .shape-in .ensures) _
-          (c .before .before .before .before .before .before .before .before .measure-at .ensures) _ (c .before .before .before .before .before .before .before .aligned .ensures),
+      field-small (c .before .before .before .before .before .before .before .before .before .before .before .before .pre .1)
+          (c .before .before .before .before .before .before .before .before .before .loop .inv) _ (c .before .before .before .before .before .before .before .before .shape-in .ensures) _
+          (c .before .before .before .before .before .before .before .measure-at .ensures) _ (c .before .before .before .before .before .before .aligned .ensures),
       c .before .aligned2 .ensures,
-      padding-below a (c .before .before .before .before .before .before .before .aligned .result + c .before .before .before .before .before .before .before .before .measure-at .result / 2),
+      padding-below a (c .before .before .before .before .before .before .aligned .result + c .before .before .before .before .before .before .before .measure-at .result / 2),
       aligns-most a,
     )
 
--- src/sizes.rt:82:13
+-- src/sizes.rt:91:13
 returns : tie.Need-returns Inv-loop μ-loop
 returns c =
-    size-last (c .before .before .before .before .before .before .before .before .before .before .before .before .before .before .pre .1) (c .before .before .before .before .before .before .before .before .before .before .before .loop .inv) _
-    (c .before .before .before .before .before .before .before .before .before .before .shape-in .ensures) _ (c .before .before .before .before .before .before .before .before .before .measure-at .ensures) _
-    (c .before .before .before .before .before .before .before .before .aligned .ensures) _ _ (c .before .before .before .before .before .before .before .both .ensures) (c .before .before .before .before .before .before .both2 .ensures)
-    (last-field-of _ _ _ (c .before .before .before .before .before .before .before .before .before .before .before .loop .inv .rowed) (c .before .before .before .before .before .before .before .before .before .before .before .before .before .before .pre .1 .shapes) _
-    (c .before .before .before .before .before .before .before .before .before .before .shape-in .ensures) _ (c .before .before .before .before .before .letter-at .ensures)
-    (c .before .before .before .enum-told .given .1)) (c .before .before .before .before .before .before .before .before .before .before .before .before .before .before .pre .2) _ _ _ _
-    (c .before .before .before .before .before .before .before .before .before .before .before .before .before .before .pre .3) (c .before .before .aligned2 .ensures) (c .before .both3 .ensures)
+    size-last (c .before .before .before .before .before .before .before .before .before .before .before .before .before .pre .1) (c .before .before .before .before .before .before .before .before .before .before .loop .inv) _
+    (c .before .before .before .before .before .before .before .before .before .shape-in .ensures) _ (c .before .before .before .before .before .before .before .before .measure-at .ensures) _
+    (c .before .before .before .before .before .before .before .aligned .ensures) _ _ (c .before .before .before .before .before .before .both .ensures) (c .before .before .before .before .before .both2 .ensures)
+    (last-field-of _ _ _ (c .before .before .before .before .before .before .before .before .before .before .loop .inv .rowed) (c .before .before .before .before .before .before .before .before .before .before .before .before .before .pre .1 .shapes) _
+    (c .before .before .before .before .before .before .before .before .before .shape-in .ensures) _ refl
+    (c .before .before .before .before .closes-at .ensures .there (c .before .before .before .if1 .taken))) (c .before .before .before .before .before .before .before .before .before .before .before .before .before .pre .2) _ _ _ _
+    (c .before .before .before .before .before .before .before .before .before .before .before .before .before .pre .3) (c .before .before .aligned2 .ensures) (c .before .both3 .ensures)
     (c .pack .ensures)
 
--- src/sizes.rt:70:5
+-- src/sizes.rt:80:5
 loop-less : tie.Need-loop-less Inv-loop μ-loop
 loop-less c =
     let g = (next-field-of _ _ _ (c .before .before .before .before .before .before .before .loop .inv .rowed) (c .before .before .before .before .before .before .before .before .before .before .pre .1 .shapes) _
-    (c .before .before .before .before .before .before .shape-in .ensures) _ (c .before .letter-at .ensures) (λ q. apart-from CloseStructure (c .before .letter-at .result) (c .match .keys2) q)) in omega
+    (c .before .before .before .before .before .before .shape-in .ensures) _ refl (c .before .closes-at .ensures .missing (c .if1 .left))) in omega
     (arith, g .onward, g .within)
 
--- src/sizes.rt:70:5
+-- src/sizes.rt:80:5
 loop-again : tie.Need-loop-again Inv-loop μ-loop
 loop-again c =
     size-next (c .before .before .before .before .before .before .before .before .before .before .pre .1) (c .before .before .before .before .before .before .before .loop .inv) _
     (c .before .before .before .before .before .before .shape-in .ensures) _ (c .before .before .before .before .before .measure-at .ensures) _ (c .before .before .before .before .aligned .ensures) _ _
     (c .before .before .before .both .ensures) (c .before .before .both2 .ensures) (next-field-of _ _ _ (c .before .before .before .before .before .before .before .loop .inv .rowed)
     (c .before .before .before .before .before .before .before .before .before .before .pre .1 .shapes) _ (c .before .before .before .before .before .before .shape-in .ensures) _
-    (c .before .letter-at .ensures) (λ q. apart-from CloseStructure (c .before .letter-at .result) (c .match .keys2) q))
+    refl (c .before .closes-at .ensures .missing (c .if1 .left)))
 
 pub fixed-measure-spec : {M : Type 1} → statement M
 fixed-measure-spec =
@@ -152,8 +144,7 @@ fixed-measure-spec =
     both-requires
     both-requires-2
     add-end
-    letter-at-requires
-    enum-told
+    closes-at-requires
     aligned-requires-2
     both-requires-3
     pack-requires

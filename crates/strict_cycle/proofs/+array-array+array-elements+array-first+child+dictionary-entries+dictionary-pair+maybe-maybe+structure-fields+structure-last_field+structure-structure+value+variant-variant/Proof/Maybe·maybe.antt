@@ -1,7 +1,7 @@
--- The needs of `maybe`, and what answers each.
+-- The needs of `maybe·maybe`, and what answers each.
 use Prim.Native.Nat.{_-_, ℕ}
-use Rattle.container_depths.specs.Opening.{depthsOf}
 use Rattle.container_depths.proofs.Levels.{level-falls}
+use Rattle.container_depths.specs.Opening.{depthsOf}
 use Rattle.signature.proofs.TreeLaws.{described-kind}
 use Rattle.strict_basic.proofs.TableLaws.{placed-at}
 use Rattle.strict_cycle.proofs.Values.{basic-is, held-placed, inside-deeper, inside-take, maybe-deep, maybe-fixed, maybe-none, maybe-open, maybe-other}
@@ -10,19 +10,19 @@ use lib.ListN.{length, length-take}
 use mathlib.Core.Path.{_∙_, sym}
 use native.Mathlib.Omega.{arith}
 use Rattle.strict_cycle.proofs as of
-use Rattle.strict_cycle.proofs.+array+child+elements+fields+first+last_field+maybe+pair+step+structure+value+variant as cycle
-use cycle.Proof.Measures.{maybe-at, value-below}
+use Rattle.strict_cycle.proofs.+array-array+array-elements+array-first+child+dictionary-entries+dictionary-pair+maybe-maybe+structure-fields+structure-last_field+structure-structure+value+variant-variant as cycle
+use cycle.Proof.Measures.{maybe·maybe-at, value-below}
 use Rattle.container_depths.proofs.ContainerDepths.inc_maybe.Reads as inc-maybe-reads
 use Rattle.meaning.specs.Depths as Depth
 use Rattle.signature.proofs.shapes.shape_in.Reads as shape-in-reads
 use Rattle.strict_basic.proofs.basic.is_basic.Reads as is-basic-reads
 use Rattle.strict_basic.proofs.basic.letter_written.Reads as letter-written-reads
-use cycle.Lts-maybe as maybe-lts
-use of.maybe.Reads as maybe
+use cycle.Lts-maybe-maybe as maybe·maybe-lts
+use of.maybe.maybe.Reads as maybe·maybe
 use of.value.Reads as value
 
-abbrev maybe-callees : ℕ → maybe-lts.Claims
-maybe-callees t = (
+abbrev maybe·maybe-callees : ℕ → maybe·maybe-lts.Claims
+maybe·maybe-callees t = (
   inc-maybe-reads.Asked,
   inc-maybe-reads.Learnt,
   shape-in-reads.Asked,
@@ -35,37 +35,37 @@ maybe-callees t = (
   value.Post,
 )
 
-maybe-returns : (t : ℕ) → maybe-lts.Need-returns (maybe-callees t) (maybe-at t) maybe.Post
-maybe-returns t c =
+maybe·maybe-returns : (t : ℕ) → maybe·maybe-lts.Need-returns (maybe·maybe-callees t) (maybe·maybe-at t) maybe·maybe.Post
+maybe·maybe-returns t c =
     let start = c .before .before .before .before in
     maybe-none (start .pre .1 .0) (start .pre .1 .1) (start .args .d) (start .args .part .now) (c .if1 .taken)
 
-maybe-inc-maybe-requires : (t : ℕ) → maybe-lts.Need-inc-maybe-requires (maybe-callees t) (maybe-at t) maybe.Post
-maybe-inc-maybe-requires t c κs = search needs
+maybe·maybe-inc-maybe-requires : (t : ℕ) → maybe·maybe-lts.Need-inc-maybe-requires (maybe·maybe-callees t) (maybe·maybe-at t) maybe·maybe.Post
+maybe·maybe-inc-maybe-requires t c κs = search needs
 
-maybe-returns-2 : (t : ℕ) → maybe-lts.Need-returns-2 (maybe-callees t) (maybe-at t) maybe.Post
-maybe-returns-2 t c =
+maybe·maybe-returns-2 : (t : ℕ) → maybe·maybe-lts.Need-returns-2 (maybe·maybe-callees t) (maybe·maybe-at t) maybe·maybe.Post
+maybe·maybe-returns-2 t c =
     let at-inc-maybe = c .before .before in
     let at-if1 = at-inc-maybe .before in
     let start = at-if1 .before .before .before .before in
     maybe-deep (start .pre .1 .0) (start .pre .1 .1) (start .args .d) (start .args .part .now) (at-if1 .if1 .left) (at-inc-maybe .inc-maybe .result) (at-inc-maybe .inc-maybe .ensures) (c .if2 .taken)
 
-maybe-add-shape-in : (t : ℕ) → maybe-lts.Need-add-shape-in (maybe-callees t) (maybe-at t) maybe.Post
-maybe-add-shape-in t c =
+maybe·maybe-add-shape-in : (t : ℕ) → maybe·maybe-lts.Need-add-shape-in (maybe·maybe-callees t) (maybe·maybe-at t) maybe·maybe.Post
+maybe·maybe-add-shape-in t c =
     let start = c .before .before .before .before .before .before .before .before in
     omega (arith, placed-at (start .pre .1 .0))
 
-maybe-shape-in-requires : (t : ℕ) → maybe-lts.Need-shape-in-requires (maybe-callees t) (maybe-at t) maybe.Post
-maybe-shape-in-requires t c κs = search needs
+maybe·maybe-shape-in-requires : (t : ℕ) → maybe·maybe-lts.Need-shape-in-requires (maybe·maybe-callees t) (maybe·maybe-at t) maybe·maybe.Post
+maybe·maybe-shape-in-requires t c κs = search needs
 
-maybe-is-basic-requires : (t : ℕ) → maybe-lts.Need-is-basic-requires (maybe-callees t) (maybe-at t) maybe.Post
-maybe-is-basic-requires t c κs = search needs
+maybe·maybe-is-basic-requires : (t : ℕ) → maybe·maybe-lts.Need-is-basic-requires (maybe·maybe-callees t) (maybe·maybe-at t) maybe·maybe.Post
+maybe·maybe-is-basic-requires t c κs = search needs
 
-maybe-letter-written-requires : (t : ℕ) → maybe-lts.Need-letter-written-requires (maybe-callees t) (maybe-at t) maybe.Post
-maybe-letter-written-requires t c κs = search needs
+maybe·maybe-letter-written-requires : (t : ℕ) → maybe·maybe-lts.Need-letter-written-requires (maybe·maybe-callees t) (maybe·maybe-at t) maybe·maybe.Post
+maybe·maybe-letter-written-requires t c κs = search needs
 
-maybe-returns-3 : (t : ℕ) → maybe-lts.Need-returns-3 (maybe-callees t) (maybe-at t) maybe.Post
-maybe-returns-3 t c =
+maybe·maybe-returns-3 : (t : ℕ) → maybe·maybe-lts.Need-returns-3 (maybe·maybe-callees t) (maybe·maybe-at t) maybe·maybe.Post
+maybe·maybe-returns-3 t c =
     let at-if4 = c .before in
     let at-is-basic = at-if4 .before in
     let at-if3 = at-is-basic .before in
@@ -80,8 +80,8 @@ maybe-returns-3 t c =
     (at-shape-in .shape-in .ensures) .shape .typed) (described-kind (held-placed (start .pre .1 .0) (start .pre .1 .1) _ (at-shape-in .shape-in .ensures) .shape)) (sym
     (at-is-basic .is-basic .ensures) ∙ at-if4 .if4 .taken) (c .letter-written .ensures))
 
-maybe-value-requires : (t : ℕ) → maybe-lts.Need-value-requires (maybe-callees t) (maybe-at t) maybe.Post
-maybe-value-requires t c κs =
+maybe·maybe-value-requires : (t : ℕ) → maybe·maybe-lts.Need-value-requires (maybe·maybe-callees t) (maybe·maybe-at t) maybe·maybe.Post
+maybe·maybe-value-requires t c κs =
     let at-shape-in = c .before .before .before in
     let at-if2 = at-shape-in .before .before in
     let at-inc-maybe = at-if2 .before .before in
@@ -94,8 +94,8 @@ maybe-value-requires t c κs =
       ),
     )
 
-maybe-returns-4 : (t : ℕ) → maybe-lts.Need-returns-4 (maybe-callees t) (maybe-at t) maybe.Post
-maybe-returns-4 t c =
+maybe·maybe-returns-4 : (t : ℕ) → maybe·maybe-lts.Need-returns-4 (maybe·maybe-callees t) (maybe·maybe-at t) maybe·maybe.Post
+maybe·maybe-returns-4 t c =
     let at-if3 = c .before .before .before in
     let at-shape-in = at-if3 .before in
     let at-if2 = at-shape-in .before .before in
@@ -105,14 +105,14 @@ maybe-returns-4 t c =
     maybe-fixed (start .pre .1 .0) (start .pre .1 .1) (start .args .d) (start .args .part .now) (at-if1 .if1 .left) (at-inc-maybe .inc-maybe .result) (at-inc-maybe .inc-maybe .ensures)
     (at-if2 .if2 .left) _ (at-shape-in .shape-in .ensures) _ (at-if3 .if3 .taken) (c .value .ensures)
 
-maybe-sub-end : (t : ℕ) → maybe-lts.Need-sub-end (maybe-callees t) (maybe-at t) maybe.Post
-maybe-sub-end t c = omega arith
+maybe·maybe-sub-end : (t : ℕ) → maybe·maybe-lts.Need-sub-end (maybe·maybe-callees t) (maybe·maybe-at t) maybe·maybe.Post
+maybe·maybe-sub-end t c = omega arith
 
-maybe-shared-slice-read-if5 : (t : ℕ) → maybe-lts.Need-shared-slice-read-if5 (maybe-callees t) (maybe-at t) maybe.Post
-maybe-shared-slice-read-if5 t c = omega arith
+maybe·maybe-shared-slice-read-if5 : (t : ℕ) → maybe·maybe-lts.Need-shared-slice-read-if5 (maybe·maybe-callees t) (maybe·maybe-at t) maybe·maybe.Post
+maybe·maybe-shared-slice-read-if5 t c = omega arith
 
-maybe-returns-5 : (t : ℕ) → maybe-lts.Need-returns-5 (maybe-callees t) (maybe-at t) maybe.Post
-maybe-returns-5 t c =
+maybe·maybe-returns-5 : (t : ℕ) → maybe·maybe-lts.Need-returns-5 (maybe·maybe-callees t) (maybe·maybe-at t) maybe·maybe.Post
+maybe·maybe-returns-5 t c =
     let at-if3 = c .before .before in
     let at-shape-in = at-if3 .before in
     let at-if2 = at-shape-in .before .before in
@@ -122,11 +122,11 @@ maybe-returns-5 t c =
     maybe-open (start .pre .1 .0) (start .pre .1 .1) (start .args .d) (start .args .part .now) (at-if1 .if1 .left) (at-inc-maybe .inc-maybe .result) (at-inc-maybe .inc-maybe .ensures)
     (at-if2 .if2 .left) _ (at-shape-in .shape-in .ensures) (at-if3 .if3 .left) (c .if5 .taken)
 
-maybe-slice-aggregate-value : (t : ℕ) → maybe-lts.Need-slice-aggregate-value (maybe-callees t) (maybe-at t) maybe.Post
-maybe-slice-aggregate-value t c = simp length-take (omega arith)
+maybe·maybe-slice-aggregate-value : (t : ℕ) → maybe·maybe-lts.Need-slice-aggregate-value (maybe·maybe-callees t) (maybe·maybe-at t) maybe·maybe.Post
+maybe·maybe-slice-aggregate-value t c = simp length-take (omega arith)
 
-maybe-value-requires-2 : (t : ℕ) → maybe-lts.Need-value-requires-2 (maybe-callees t) (maybe-at t) maybe.Post
-maybe-value-requires-2 t c κs =
+maybe·maybe-value-requires-2 : (t : ℕ) → maybe·maybe-lts.Need-value-requires-2 (maybe·maybe-callees t) (maybe·maybe-at t) maybe·maybe.Post
+maybe·maybe-value-requires-2 t c κs =
     let at-shape-in = c .before .before .before .before in
     let at-if2 = at-shape-in .before .before in
     let at-inc-maybe = at-if2 .before .before in
@@ -139,8 +139,8 @@ maybe-value-requires-2 t c κs =
       ),
     )
 
-maybe-returns-6 : (t : ℕ) → maybe-lts.Need-returns-6 (maybe-callees t) (maybe-at t) maybe.Post
-maybe-returns-6 t c =
+maybe·maybe-returns-6 : (t : ℕ) → maybe·maybe-lts.Need-returns-6 (maybe·maybe-callees t) (maybe·maybe-at t) maybe·maybe.Post
+maybe·maybe-returns-6 t c =
     let at-if5 = c .before .before in
     let at-if3 = at-if5 .before .before in
     let at-shape-in = at-if3 .before in
@@ -151,22 +151,22 @@ maybe-returns-6 t c =
     maybe-other (start .pre .1 .0) (start .pre .1 .1) (start .args .d) (start .args .part .now) (at-if1 .if1 .left) (at-inc-maybe .inc-maybe .result) (at-inc-maybe .inc-maybe .ensures)
     (at-if2 .if2 .left) _ (at-shape-in .shape-in .ensures) _ (at-if3 .if3 .left) (at-if5 .if5 .left) (c .value2 .ensures)
 
-pub maybe-spec : {M : Type 1} (t : ℕ) → maybe-lts.Closed (maybe-callees t) (maybe-at t) maybe.Post M
-maybe-spec t =
-    maybe-lts.spec (maybe-callees t) (maybe-at t) maybe.Post
-    (maybe-returns t)
-    (maybe-inc-maybe-requires t)
-    (maybe-returns-2 t)
-    (maybe-add-shape-in t)
-    (maybe-shape-in-requires t)
-    (maybe-is-basic-requires t)
-    (maybe-letter-written-requires t)
-    (maybe-returns-3 t)
-    (maybe-value-requires t)
-    (maybe-returns-4 t)
-    (maybe-sub-end t)
-    (maybe-shared-slice-read-if5 t)
-    (maybe-returns-5 t)
-    (maybe-slice-aggregate-value t)
-    (maybe-value-requires-2 t)
-    (maybe-returns-6 t)
+pub maybe·maybe-spec : {M : Type 1} (t : ℕ) → maybe·maybe-lts.Closed (maybe·maybe-callees t) (maybe·maybe-at t) maybe·maybe.Post M
+maybe·maybe-spec t =
+    maybe·maybe-lts.spec (maybe·maybe-callees t) (maybe·maybe-at t) maybe·maybe.Post
+    (maybe·maybe-returns t)
+    (maybe·maybe-inc-maybe-requires t)
+    (maybe·maybe-returns-2 t)
+    (maybe·maybe-add-shape-in t)
+    (maybe·maybe-shape-in-requires t)
+    (maybe·maybe-is-basic-requires t)
+    (maybe·maybe-letter-written-requires t)
+    (maybe·maybe-returns-3 t)
+    (maybe·maybe-value-requires t)
+    (maybe·maybe-returns-4 t)
+    (maybe·maybe-sub-end t)
+    (maybe·maybe-shared-slice-read-if5 t)
+    (maybe·maybe-returns-5 t)
+    (maybe·maybe-slice-aggregate-value t)
+    (maybe·maybe-value-requires-2 t)
+    (maybe·maybe-returns-6 t)

@@ -7,26 +7,26 @@ use borrow.Author.Needs.{needs}
 use mathlib.Core.Path.{_∙_, sym}
 use native.Mathlib.Omega.{arith}
 use Rattle.strict_cycle.proofs as of
-use Rattle.strict_cycle.proofs.+array+child+elements+fields+first+last_field+maybe+pair+step+structure+value+variant as cycle
-use cycle.Proof.Measures.{array-below, maybe-below, structure-below, value-at, variant-below}
+use Rattle.strict_cycle.proofs.+array-array+array-elements+array-first+child+dictionary-entries+dictionary-pair+maybe-maybe+structure-fields+structure-last_field+structure-structure+value+variant-variant as cycle
+use cycle.Proof.Measures.{array·array-below, maybe·maybe-below, structure·structure-below, value-at, variant·variant-below}
 use Rattle.strict_basic.proofs.basic.letter_written.Reads as letter-written-reads
 use cycle.Lts-value as value-lts
-use of.array.Reads as array
-use of.maybe.Reads as maybe
-use of.structure.Reads as structure
+use of.array.array.Reads as array·array
+use of.maybe.maybe.Reads as maybe·maybe
+use of.structure.structure.Reads as structure·structure
 use of.value.Reads as value
-use of.variant.Reads as variant
+use of.variant.variant.Reads as variant·variant
 
 abbrev value-callees : ℕ → value-lts.Claims
 value-callees t = (
-  maybe-below t,
-  maybe.Post,
-  array-below t,
-  array.Post,
-  structure-below t,
-  structure.Post,
-  variant-below t,
-  variant.Post,
+  maybe·maybe-below t,
+  maybe·maybe.Post,
+  array·array-below t,
+  array·array.Post,
+  structure·structure-below t,
+  structure·structure.Post,
+  variant·variant-below t,
+  variant·variant.Post,
   letter-written-reads.Asked,
   letter-written-reads.Learnt,
 )

@@ -1,7 +1,7 @@
--- The needs of `structure`, and what answers each.
+-- The needs of `structure·structure`, and what answers each.
 use Prim.Native.Nat.{ℕ}
-use Rattle.reader_basic.proofs.Answers.{denied, granted}
 use Rattle.container_depths.proofs.Levels.{level-falls}
+use Rattle.reader_basic.proofs.Answers.{denied, granted}
 use Rattle.signature.proofs.TreeLaws.{structure-rowed}
 use Rattle.strict_basic.proofs.ItemLaws.{laid-as}
 use Rattle.strict_basic.proofs.TableLaws.{offsets-most, placed-at, placed-known}
@@ -10,19 +10,19 @@ use Rattle.strict_cycle.proofs.Values.{inside-deeper}
 use borrow.Author.Needs.{needs}
 use native.Mathlib.Omega.{arith}
 use Rattle.strict_cycle.proofs as of
-use Rattle.strict_cycle.proofs.+array+child+elements+fields+first+last_field+maybe+pair+step+structure+value+variant as cycle
-use cycle.Proof.Measures.{fields-below, structure-at}
+use Rattle.strict_cycle.proofs.+array-array+array-elements+array-first+child+dictionary-entries+dictionary-pair+maybe-maybe+structure-fields+structure-last_field+structure-structure+value+variant-variant as cycle
+use cycle.Proof.Measures.{structure·fields-below, structure·structure-at}
 use Rattle.container_depths.proofs.ContainerDepths.inc_structure.Reads as inc-structure-reads
 use Rattle.meaning.specs.Depths as Depth
 use Rattle.strict_basic.proofs.ends.rows_behind.Reads as rows-behind-reads
 use Rattle.strict_basic.proofs.sizes.extent_in.Reads as extent-in-reads
 use Rattle.strict_basic.proofs.sizes.offsets_in.Reads as offsets-in-reads
-use cycle.Lts-structure as structure-lts
-use of.fields.Reads as fields
-use of.structure.Reads as structure
+use cycle.Lts-structure-structure as structure·structure-lts
+use of.structure.fields.Reads as structure·fields
+use of.structure.structure.Reads as structure·structure
 
-abbrev structure-callees : ℕ → structure-lts.Claims
-structure-callees t = (
+abbrev structure·structure-callees : ℕ → structure·structure-lts.Claims
+structure·structure-callees t = (
   inc-structure-reads.Asked,
   inc-structure-reads.Learnt,
   extent-in-reads.Asked,
@@ -31,36 +31,36 @@ structure-callees t = (
   offsets-in-reads.Learnt,
   rows-behind-reads.Asked,
   rows-behind-reads.Learnt,
-  fields-below t,
-  fields.Post,
+  structure·fields-below t,
+  structure·fields.Post,
 )
 
-structure-inc-structure-requires : (t : ℕ) → structure-lts.Need-inc-structure-requires (structure-callees t) (structure-at t) structure.Post
-structure-inc-structure-requires t c κs = search needs
+structure·structure-inc-structure-requires : (t : ℕ) → structure·structure-lts.Need-inc-structure-requires (structure·structure-callees t) (structure·structure-at t) structure·structure.Post
+structure·structure-inc-structure-requires t c κs = search needs
 
-structure-returns : (t : ℕ) → structure-lts.Need-returns (structure-callees t) (structure-at t) structure.Post
-structure-returns t c =
+structure·structure-returns : (t : ℕ) → structure·structure-lts.Need-returns (structure·structure-callees t) (structure·structure-at t) structure·structure.Post
+structure·structure-returns t c =
     let at-inc-structure = c .before .before in
     let start = at-inc-structure .before .before .before .before in
     structure-deep (start .pre .1 .0) (start .pre .1 .1) (start .args .d) (start .args .part .now) (at-inc-structure .inc-structure .result) (at-inc-structure .inc-structure .ensures) (c .if1 .taken)
 
-structure-extent-in-requires : (t : ℕ) → structure-lts.Need-extent-in-requires (structure-callees t) (structure-at t) structure.Post
-structure-extent-in-requires t c κs =
+structure·structure-extent-in-requires : (t : ℕ) → structure·structure-lts.Need-extent-in-requires (structure·structure-callees t) (structure·structure-at t) structure·structure.Post
+structure·structure-extent-in-requires t c κs =
     let start = c .before .before .before .before .before .before in
     (start .pre .1 .0 .table .room, placed-at (start .pre .1 .0))
 
-structure-offsets-in-requires : (t : ℕ) → structure-lts.Need-offsets-in-requires (structure-callees t) (structure-at t) structure.Post
-structure-offsets-in-requires t c κs =
+structure·structure-offsets-in-requires : (t : ℕ) → structure·structure-lts.Need-offsets-in-requires (structure·structure-callees t) (structure·structure-at t) structure·structure.Post
+structure·structure-offsets-in-requires t c κs =
     let start = c .before .before .before .before .before .before .before in
     (start .pre .1 .0 .table .room, placed-at (start .pre .1 .0))
 
-structure-rows-behind-requires : (t : ℕ) → structure-lts.Need-rows-behind-requires (structure-callees t) (structure-at t) structure.Post
-structure-rows-behind-requires t c κs =
+structure·structure-rows-behind-requires : (t : ℕ) → structure·structure-lts.Need-rows-behind-requires (structure·structure-callees t) (structure·structure-at t) structure·structure.Post
+structure·structure-rows-behind-requires t c κs =
     let start = c .before .before .before .before .before .before .before .before in
     (start .pre .1 .2 .in-frame, omega (arith, c .offsets-in .ensures, offsets-most (start .pre .1 .0) (start .pre .1 .1)))
 
-structure-returns-2 : (t : ℕ) → structure-lts.Need-returns-2 (structure-callees t) (structure-at t) structure.Post
-structure-returns-2 t c =
+structure·structure-returns-2 : (t : ℕ) → structure·structure-lts.Need-returns-2 (structure·structure-callees t) (structure·structure-at t) structure·structure.Post
+structure·structure-returns-2 t c =
     let at-rows-behind = c .before in
     let at-offsets-in = at-rows-behind .before in
     let at-extent-in = at-offsets-in .before in
@@ -70,13 +70,13 @@ structure-returns-2 t c =
     structure-not (start .pre .1 .0) (start .pre .1 .1) (start .args .d) (start .args .part .now) (at-inc-structure .inc-structure .result) (at-inc-structure .inc-structure .ensures)
     (at-if1 .if1 .left) _ (at-extent-in .extent-in .ensures) _ (at-offsets-in .offsets-in .ensures) _ (at-rows-behind .rows-behind .ensures) (denied (c .if2 .taken))
 
-structure-add-fields : (t : ℕ) → structure-lts.Need-add-fields (structure-callees t) (structure-at t) structure.Post
-structure-add-fields t c =
+structure·structure-add-fields : (t : ℕ) → structure·structure-lts.Need-add-fields (structure·structure-callees t) (structure·structure-at t) structure·structure.Post
+structure·structure-add-fields t c =
     let start = c .before .before .before .before .before .before .before .before .before .before .before in
     omega (arith, placed-at (start .pre .1 .0))
 
-structure-fields-requires : (t : ℕ) → structure-lts.Need-fields-requires (structure-callees t) (structure-at t) structure.Post
-structure-fields-requires t c κs =
+structure·structure-fields-requires : (t : ℕ) → structure·structure-lts.Need-fields-requires (structure·structure-callees t) (structure·structure-at t) structure·structure.Post
+structure·structure-fields-requires t c κs =
     let at-if2 = c .before in
     let at-rows-behind = at-if2 .before in
     let at-offsets-in = at-rows-behind .before in
@@ -104,8 +104,8 @@ structure-fields-requires t c κs =
       ),
     )
 
-structure-returns-3 : (t : ℕ) → structure-lts.Need-returns-3 (structure-callees t) (structure-at t) structure.Post
-structure-returns-3 t c =
+structure·structure-returns-3 : (t : ℕ) → structure·structure-lts.Need-returns-3 (structure·structure-callees t) (structure·structure-at t) structure·structure.Post
+structure·structure-returns-3 t c =
     let at-if2 = c .before .before in
     let at-rows-behind = at-if2 .before in
     let at-offsets-in = at-rows-behind .before in
@@ -117,15 +117,15 @@ structure-returns-3 t c =
     (at-if1 .if1 .left) _ (at-extent-in .extent-in .ensures) _ (at-offsets-in .offsets-in .ensures) _ (at-rows-behind .rows-behind .ensures) _ (granted (at-if2 .if2 .left))
     (c .fields .ensures)
 
-pub structure-spec : {M : Type 1} (t : ℕ) → structure-lts.Closed (structure-callees t) (structure-at t) structure.Post M
-structure-spec t =
-    structure-lts.spec (structure-callees t) (structure-at t) structure.Post
-    (structure-inc-structure-requires t)
-    (structure-returns t)
-    (structure-extent-in-requires t)
-    (structure-offsets-in-requires t)
-    (structure-rows-behind-requires t)
-    (structure-returns-2 t)
-    (structure-add-fields t)
-    (structure-fields-requires t)
-    (structure-returns-3 t)
+pub structure·structure-spec : {M : Type 1} (t : ℕ) → structure·structure-lts.Closed (structure·structure-callees t) (structure·structure-at t) structure·structure.Post M
+structure·structure-spec t =
+    structure·structure-lts.spec (structure·structure-callees t) (structure·structure-at t) structure·structure.Post
+    (structure·structure-inc-structure-requires t)
+    (structure·structure-returns t)
+    (structure·structure-extent-in-requires t)
+    (structure·structure-offsets-in-requires t)
+    (structure·structure-rows-behind-requires t)
+    (structure·structure-returns-2 t)
+    (structure·structure-add-fields t)
+    (structure·structure-fields-requires t)
+    (structure·structure-returns-3 t)

@@ -1,15 +1,18 @@
 // Dictionaries.
-use crate::structure::last_field;
+use crate::child;
 use container_depths::ContainerDepths;
 use strict_basic::basic::extent_of;
 use strict_basic::basic::key_written;
 use strict_basic::ends::Rows;
 use strict_basic::ends::element_end;
 use strict_basic::ends::field_end;
+use strict_basic::ends::finished;
+use strict_basic::ends::last_end;
 use strict_basic::ends::one_more;
 use strict_basic::ends::rows_behind;
 use strict_basic::ends::start_of;
 use strict_basic::items::Item;
+use strict_basic::sizes::extent_in;
 ghost use mathlib.Core.Path.{_≡_};
 ghost use mathlib.Core.Bool.{true, false};
 ghost use Prim.Native.Nat.{_+_, _*_, _≤_};
@@ -79,5 +82,17 @@ pub(crate) fn pair(text: &[u8], tables: &[u16], item: Item, part: &[u8], d: Cont
     }
     let whole = item.extent;
     let inner = item.child;
-    last_field(text, tables, inner, whole, part, body, stop, d)
+    let extent = extent_in(tables, inner);
+    let end = last_end(extent, body, stop);
+    let start = start_of(part, body, stop, end, extent.alignment);
+    let from = start.at;
+    let there = start.there;
+    if !there {
+        return false;
+    }
+    let held = child(text, tables, inner, &part[from..end], d);
+    if !held {
+        return false;
+    }
+    finished(part, whole.fixed, whole.alignment, end, body)
 }

@@ -16,7 +16,7 @@ mod Variant·variant
 use Rattle.strict_cycle.proofs.+array-array+array-elements+array-first+child+dictionary-entries+dictionary-pair+maybe-maybe+structure-fields+structure-last_field+structure-structure+value+variant-variant as cycle
 use cycle.{statement}
 use cycle.Tie.{close}
-use Measures.{μ-array·array, μ-child, μ-array·elements, μ-dictionary·entries, μ-structure·fields, μ-array·first, μ-structure·last-field, μ-maybe·maybe, μ-dictionary·pair, μ-structure·structure, μ-value, μ-variant·variant}
+use Measures.{μ-array·array, μ-array·elements, μ-array·first, μ-child, μ-dictionary·entries, μ-dictionary·pair, μ-maybe·maybe, μ-structure·fields, μ-structure·last-field, μ-structure·structure, μ-value, μ-variant·variant}
 use Array·array.{array·array-spec}
 use Array·elements.{array·elements-spec}
 use Array·first.{array·first-spec}

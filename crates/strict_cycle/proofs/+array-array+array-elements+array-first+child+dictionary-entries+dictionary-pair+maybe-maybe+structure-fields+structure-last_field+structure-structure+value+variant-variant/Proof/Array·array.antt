@@ -8,7 +8,7 @@ use borrow.Author.Needs.{needs}
 use native.Mathlib.Omega.{arith}
 use Rattle.strict_cycle.proofs as of
 use Rattle.strict_cycle.proofs.+array-array+array-elements+array-first+child+dictionary-entries+dictionary-pair+maybe-maybe+structure-fields+structure-last_field+structure-structure+value+variant-variant as cycle
-use cycle.Proof.Measures.{array·array-at, array·elements-below, dictionary·entries-below, array·first-below}
+use cycle.Proof.Measures.{array·array-at, array·elements-below, array·first-below, dictionary·entries-below}
 use Rattle.container_depths.proofs.ContainerDepths.inc_array.Reads as inc-array-reads
 use Rattle.container_depths.proofs.ContainerDepths.inc_maybe.Reads as inc-maybe-reads
 use Rattle.meaning.specs.Depths as Depth

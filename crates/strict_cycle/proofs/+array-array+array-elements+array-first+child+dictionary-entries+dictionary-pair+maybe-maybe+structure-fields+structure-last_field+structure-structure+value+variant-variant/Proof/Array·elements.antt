@@ -10,7 +10,7 @@ use mathlib.Core.Path.{refl}
 use native.Mathlib.Omega.{arith}
 use Rattle.strict_cycle.proofs as of
 use Rattle.strict_cycle.proofs.+array-array+array-elements+array-first+child+dictionary-entries+dictionary-pair+maybe-maybe+structure-fields+structure-last_field+structure-structure+value+variant-variant as cycle
-use cycle.Proof.Measures.{child-below, array·elements-at}
+use cycle.Proof.Measures.{array·elements-at, child-below}
 use Rattle.strict_basic.proofs.ends.element_end.Reads as element-end-reads
 use Rattle.strict_basic.proofs.ends.start_of.Reads as start-of-reads
 use cycle.Lts-array-elements as array·elements-lts

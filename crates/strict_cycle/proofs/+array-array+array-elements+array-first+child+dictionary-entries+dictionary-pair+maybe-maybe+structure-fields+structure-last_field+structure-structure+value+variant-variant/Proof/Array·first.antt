@@ -11,7 +11,7 @@ use native.Mathlib.Nat.{div-mul-le-self}
 use native.Mathlib.Omega.{arith}
 use Rattle.strict_cycle.proofs as of
 use Rattle.strict_cycle.proofs.+array-array+array-elements+array-first+child+dictionary-entries+dictionary-pair+maybe-maybe+structure-fields+structure-last_field+structure-structure+value+variant-variant as cycle
-use cycle.Proof.Measures.{child-below, array·first-at}
+use cycle.Proof.Measures.{array·first-at, child-below}
 use cycle.Lts-array-first as array·first-lts
 use of.array.first.Reads as array·first
 use of.child.Reads as child

@@ -155,6 +155,10 @@ single c ns i start top u l l′ s e h g p = rw e (record {
 
 -- ---- bools and numbers
 
+pub length-ordered : (b : Bool) (x : List ℕ) → length (ordered b x) ≡ length x
+length-ordered true x = lib.ListN.length-reverse x
+length-ordered false x = refl
+
 module _ (texts : List ℕ) (big : Bool) (d : Depths) (ns : List ℕ) (i start top : ℕ) (l s : List ℕ) where
   pub bool-short : (l′ : List ℕ) → length ns < i + 3 → Done (emitBasic texts big bool d (drop i ns)) ns i start top l l′ s s (answer 17 0 0)
   unfolding emitBasic buildBasic
@@ -220,10 +224,6 @@ module _ (texts : List ℕ) (big : Bool) (d : Depths) (ns : List ℕ) (i start t
         single (basicPiece big (number n) (getD ns (i + 2) 0)) ns i start top w l l′ s
         (mapped-built _ _ _ _ (at-event ns i _ h ∙ rw (eq-eqb (getD ns i 0) (numberLetter n) e, g))) h (omega (arith, q, width-small, f))
         (λ z. p ∙ rw f)
-      where
-        length-ordered : (b : Bool) (x : List ℕ) → length (ordered b x) ≡ length x
-        length-ordered true x = lib.ListN.length-reverse x
-        length-ordered false x = refl
 
 -- ---- texts
 
@@ -233,7 +233,7 @@ module _ (texts : List ℕ) (big : Bool) (d : Depths) (ns : List ℕ) (i start t
   text-wrong t k l′ e u = let v : Untaken texts (textLetter n) ns i k = rw e at u in wrong (mapped-fault _ _ k (untaken-fault _ v)) (untaken-real v)
 
   pub text-made : (k from to u place : ℕ) (l₁ l₂ : List ℕ) → k ≡ textLetter n → Taken texts k ns i from to → l₁ ≡ puts l start (take (to - from) (drop from texts)) → place ≡ sum start (to - from) → l₂ ≡ set l₁ place 0
-      → u ≡ sum (to - from) 1 → Done (emitBasic texts big (text n) d (drop i ns)) ns i start top l l₂ s s (answer 0 (i + 3) u)
+      → u ≡ sum 1 (to - from) → Done (emitBasic texts big (text n) d (drop i ns)) ns i start top l l₂ s s (answer 0 (i + 3) u)
   unfolding emitBasic buildBasic basicPiece
   text-made k from to u place l₁ l₂ x t₀ h hp g hu =
       let t : Taken texts (textLetter n) ns i from to = rw x at t₀ in

@@ -10,7 +10,7 @@ use lib.ListN.{length, take, drop, getD, length-drop}
 use borrow.Author.Tests.{eq-eqb, ne-eqb, ltb-false, eqb-true, eqb-false}
 use Rattle.meaning.specs.Choice.{pick}
 use Rattle.meaning.specs.Depths as Depth
-use Rattle.meaning.specs.Depths.{Depths, Opened, total, depthRefusal, opened}
+use Rattle.meaning.specs.Depths.{Depths, Opened, opened}
 use Rattle.meaning.specs.Types.{Tree, Fields, variant, maybe, structure, alignment, fixed, largestAlignment, allFixed}
 use Rattle.meaning.specs.TypeText.{typeText, typeOf}
 use Rattle.meaning.specs.Written.{Piece, maybePiece, arrayPiece, structurePiece}
@@ -20,6 +20,7 @@ use Rattle.meaning_writing.proofs.WritingSteps.{Shorter, PlainAt, NotPlain, sho
 use Rattle.container_depths.specs.Opening.{depthsOf, Raises}
 use Rattle.container_depths.specs.declared.ContainerDepths.{ContainerDepths}
 use Rattle.container_depths.specs.declared.Raised.{Raised}
+use Rattle.container_depths.proofs.Levels.{total-most, raised-to, raised-shallow}
 use Rattle.writer_basic.specs.Stores.{cap, puts}
 use Rattle.writer_basic.specs.Wrote.{Taken, Untaken, Done, aroundChild, aroundValue}
 use Rattle.writer_basic.specs.declared.Context.{Context}
@@ -30,46 +31,15 @@ use Rattle.writer_basic.proofs.Answers.{answer, wrong, single, taken-on
 
 -- ---- depths
 
-pub total-most : (d : Depths) → depthRefusal d ≡ 0 → total d ≤ 64
-unfolding depthRefusal
-total-most d h = go (ltb 32 (d .structure)) (ltb 32 (d .array)) (ltb 64 (total d)) refl h
-  where
-    go : (x y z : Bool) → ltb 64 (total d) ≡ z → _≡_ {A = ℕ} (pick x 10 (pick y 11 (pick z 12 0))) 0 → total d ≤ 64
-    go true y z e h = absurd (omega arith)
-    go false true z e h = absurd (omega arith)
-    go false false true e h = absurd (omega arith)
-    go false false false e h = ltb-false 64 (total d) e
-
 pub few-variants : {c : Context} → Shallow c → c .depths .variant ≤ 64
 few-variants {c} w = omega (arith, total-most (depthsOf (c .depths)) (w .is))
 
--- what is left of the depth
-abbrev pub level : ContainerDepths → ℕ
-level d = 64 - total (depthsOf d)
-
 module _ (x : Opened) (d : ContainerDepths) (r : Raised) (h : Raises (depthsOf d) (opened x (depthsOf d)) r) where
-  pub raised-to : r .refusal ≡ 0 → depthsOf (r .depths) ≡ opened x (depthsOf d)
-  raised-to z =
-      let e : eqb (depthRefusal (opened x (depthsOf d))) 0 ≡ true = eq-eqb _ 0 (sym (h .refusal) ∙ z) in
-      h .depths ∙ rw e
-
-  pub raised-shallow : (big : Bool) → r .refusal ≡ 0 → Shallow (record { big = big; depths = r .depths })
-  raised-shallow big z = record { is = rw (raised-to z) (sym (h .refusal) ∙ z) }
-
-  pub level-falls : r .refusal ≡ 0 → level (r .depths) + 1 ≡ level d
-  level-falls z =
-      let a = raised-shallow false z in
-      let b = raised-to z in
-      omega (arith, ap total b, total-opened x (depthsOf d), total-most (depthsOf (r .depths)) (a .is))
-    where
-      total-opened : (x : Opened) (d : Depths) → total (opened x d) ≡ total d + 1
-      total-opened Depth.structure d = omega arith
-      total-opened Depth.array d = omega arith
-      total-opened Depth.variant d = omega arith
-      total-opened Depth.maybe d = omega arith
+  pub raised-in : (big : Bool) → r .refusal ≡ 0 → Shallow (record { big = big; depths = r .depths })
+  raised-in big z = record { is = raised-shallow x d r h z }
 
   pub opened-in : {A : Type 0} (f : Depths → Built A) → r .refusal ≡ 0 → whenShallow (opened x (depthsOf d)) f ≡ f (depthsOf (r .depths))
-  opened-in f z = shallow-open (opened x (depthsOf d)) f (sym (h .refusal) ∙ z) ∙ ap f (sym (raised-to z))
+  opened-in f z = shallow-open (opened x (depthsOf d)) f (sym (h .refusal) ∙ z) ∙ ap f (sym (raised-to x d r h z))
 
   pub opened-not : {A : Type 0} (f : Depths → Built A) → (r .refusal ≡ 0 → ⊥) → whenShallow (opened x (depthsOf d)) f ≡ fault (r .refusal)
   opened-not f z = shallow-fault (opened x (depthsOf d)) f (λ q. z (h .refusal ∙ q)) ∙ ap fault (sym (h .refusal))

@@ -77,6 +77,11 @@ pub bytes-end : (l : List ℕ) (at i w y : ℕ) → w ≤ i → puts l (at + i) 
 unfolding bytes
 bytes-end l at i w y h = let e : w - i ≡ 0 = omega arith in rw e (puts-none l (at + i))
 
+-- two bytes at once
+pub bytes-two : (l : List ℕ) (at x : ℕ) → puts l at (bytes 2 x) ≡ set (set l at (x % 256)) (at + 1) (x / 256 % 256)
+unfolding puts bytes
+bytes-two l at x = let f : at + 1 ≡ suc at = omega arith in rw f
+
 pub length-bytes : (w n : ℕ) → length (bytes w n) ≡ w
 unfolding bytes
 length-bytes zero n = refl

@@ -17,7 +17,7 @@ use Rattle.writer_basic.specs.Ends.{Stored, Room, Kept}
 use Rattle.writer_basic.specs.Wrote.{Faulted, Made, Says, Done, marksOf, MadeAll, SaysAll, DoneAll}
 use Rattle.writer_basic.specs.declared.Answer.{Answer}
 use Rattle.writer_basic.specs.declared.Run.{Run}
-use Rattle.writer_basic.proofs.Puts.{length-puts}
+use Rattle.writer_basic.proofs.Puts.{length-puts, puts-none}
 use Rattle.writer_basic.proofs.EndLaws.{puts-stored, stored-none, stored-then, room-in}
 use Rattle.writer_basic.proofs.Answers.{made-of, fault-of}
 
@@ -312,3 +312,12 @@ module _ (fx : Bool) (b : List ℕ → Built Piece) (ns : List ℕ) (i base top 
         count-small : (x : Bool) → fx ≡ x → o ≤ cap
         count-small true u = omega (arith, kp .skips u .0, v .few)
         count-small false u = omega (arith, kp .counts u)
+
+  -- a child that needs no padding
+  module _ (h : e + 3 ≤ length ns) (z : getD ns e 0 ≡ 41 → ⊥) (start tops : ℕ) (l₂ s₁ : List ℕ) (r : Answer) (d : Done (b (drop e ns)) ns e start tops l l₂ s s₁ r) where
+    pub left-next : (a q o : ℕ) (l₃ s₂ : List ℕ) → Shorter b → ((c : Piece) (rest : List ℕ) → b (drop e ns) ≡ built c rest → c .alignment ≡ a) → padding k a ≡ 0 → r .refusal ≡ 0
+        → start ≡ sum base k → tops ≡ sum top j → q ≡ sum k (r .size) → Kept top j q fx l₂ l₃ s₁ s₂ o
+        → length l₂ ≡ length l₀ → length l₃ ≡ length l₀ → length s₁ ≡ length s₀ → length s₂ ≡ length s₀
+        → Left fx b ns i base top l₀ s₀ (r .next) q o l₃ s₂
+    left-next a q o l₃ s₂ sh al n y hs ht hq kp n₂ n₃ m₁ m₂ =
+        left-on h z start tops l l₂ s₁ r d a 0 q o l₃ s₂ sh al y (sym n) (rw n (sym (puts-none l (base + k)))) (omega (arith, hs)) ht (omega (arith, hq)) kp n₂ n₃ m₁ m₂

@@ -183,7 +183,7 @@ pub fn text_value(
     copy(out, start, &texts[from..to]);
     let place = add(start, count);
     put(out, place, 0);
-    wrote(i + 3, add(count, 1))
+    wrote(i + 3, add(1, count))
 }
 
 // A value that takes one event, by the letter of its type.

@@ -4,10 +4,13 @@ pub mod closing;
 pub mod ends;
 pub mod numbers;
 pub mod store;
+pub mod texts_run;
 
+use crate::store::add;
 use container_depths::ContainerDepths;
 ghost use mathlib.Core.Path.{_≡_};
-ghost use Prim.Native.Nat.{ℕ};
+ghost use Prim.Native.Nat.{ℕ, _≤_, _<_, _^_};
+ghost use Rattle.writer_basic.specs.Stores.{cap, sum};
 
 // The refusal's number, 0 if done; the number of the next event's first number; the bytes written.
 pub struct Answer {
@@ -76,5 +79,17 @@ pub fn ran(next: usize, size: usize, count: usize) -> Run
         next,
         size,
         count,
+    }
+}
+
+// Where a child is written whose first event's number is `next`: so many bytes behind the spot, and so many ends more are kept.
+pub fn child_spot(spot: Spot, next: usize, place: usize, count: usize) -> Spot
+    requires { ⌜ (spot .start ≤ cap) × (spot .top ≤ cap) × (place < 2 ^ 32) × (count ≤ cap) ⌝ }
+    ensures { λ r. ⌜ r ≡ record { next = next; start = sum (spot .start) place; top = sum (spot .top) count } ⌝ }
+{
+    Spot {
+        next,
+        start: add(spot.start, place),
+        top: add(spot.top, count),
     }
 }

@@ -1,10 +1,9 @@
-// Arrays of what takes one event, and of readings: numbers in maybes. What they repeat holds nothing further, so each is one loop of
-// its own.
+// Arrays of numbers, and of readings: numbers in maybes. What they repeat holds nothing further, so each is one loop of its own.
 use crate::Answer;
 use crate::Context;
 use crate::Run;
 use crate::Spot;
-use crate::basic::basic_value;
+use crate::basic::number;
 use crate::basic::plain_at;
 use crate::ends::keep;
 use crate::ran;
@@ -18,68 +17,54 @@ use meaning::letters::MAYBE_LETTER;
 use meaning::letters::NOTHING_LETTER;
 use meaning::refusals::NO_VALUE;
 use signature::Letter;
-ghost use mathlib.Core.Path.{_≡_};
 ghost use mathlib.Core.List.{List};
 ghost use mathlib.Core.Bool.{true, false};
 ghost use Prim.Native.Nat.{ℕ, _≤_};
 ghost use lib.ListN.{length, drop};
-ghost use Rattle.meaning.specs.Types.{basicAlignment, basicFixed};
+ghost use Rattle.meaning.specs.Depths.{Depths};
+ghost use Rattle.meaning.specs.Types.{basicAlignment};
 ghost use Rattle.meaning_writing.specs.Writing.{buildMany};
 ghost use Rattle.meaning_writing.specs.Emitting.{emitBasic, emitMaybe};
 ghost use Rattle.container_depths.specs.Opening.{depthsOf};
 ghost use Rattle.writer_basic.specs.Stores.{cap};
 ghost use Rattle.writer_basic.specs.Wrote.{keyBasic, IsKey, Done, marksOf, DoneAll, Placed};
 
-// Values of one event one behind another, up to an event that closes.
-pub fn basics(
-    key: Letter,
-    fixed: bool,
-    alignment: usize,
-    events: &[u64],
-    texts: &[u8],
-    context: Context,
-    spot: Spot,
-    out: &mut [u8],
-    ends: &mut [u16],
-) -> Run
-    requires { ⌜ IsKey key × (fixed ≡ basicFixed (keyBasic key)) × (alignment ≡ basicAlignment (keyBasic key)) × Placed (length (now events)) spot ⌝ }
-    ensures { λ r. ⌜ DoneAll (marksOf fixed) (buildMany (length (drop (spot .next) (now (events .entry)))) (emitBasic (now (texts .entry)) (context .big) (keyBasic key) (depthsOf (context .depths))) (drop (spot .next) (now (events .entry)))) (now (events .entry)) (spot .next) (spot .start) (spot .top) 0 0 (now (out .entry)) (now (out .exit)) (now (ends .entry)) (now (ends .exit)) r ⌝ }
+// Numbers one behind another, up to an event that closes. Each is as long as its alignment, so that none is padded.
+pub fn numbers(code: u8, width: usize, events: &[u64], big: bool, spot: Spot, out: &mut [u8]) -> Run
+    requires { ⌜ IsKey (Letter.Number code width) × Placed (length (now events)) spot ⌝ }
+    ensures { λ r. ⌜ ((texts : List ℕ) (d : Depths) (s : List ℕ) → DoneAll (marksOf true) (buildMany (length (drop (spot .next) (now (events .entry)))) (emitBasic texts big (keyBasic (Letter.Number code width)) d) (drop (spot .next) (now (events .entry)))) (now (events .entry)) (spot .next) (spot .start) (spot .top) 0 0 (now (out .entry)) (now (out .exit)) s s r) ⌝ }
 {
     let base = spot.start;
-    let top = spot.top;
     let mut e = spot.next;
     let mut k: usize = 0;
-    let mut j: usize = 0;
     while 3 <= events.len() - e {
         if events[e] == CONTAINER_END {
-            return ran(e, k, j);
+            return ran(e, k, 0);
         }
-        let p = pad(out, base + k, k, alignment);
-        let start = add(base, k + p);
-        let r = basic_value(key, events, texts, e, context.big, out, start);
+        let start = add(base, k);
+        let r = number(events, e, code, width, big, out, start);
         let refusal = r.refusal;
         if refusal != 0 {
             return stopped(refusal);
         }
-        k = add(k + p, r.size);
+        k = add(k, r.size);
         e = r.next;
-        j = keep(out, ends, top, j, k, fixed);
     }
     stopped(NO_VALUE)
 }
 
 // A reading: nothing, or a number in a maybe.
 fn reading(
-    key: Letter,
+    code: u8,
+    width: usize,
     events: &[u64],
-    texts: &[u8],
     i: usize,
     context: Context,
     out: &mut [u8],
     start: usize,
 ) -> Answer
-    requires { ⌜ (i ≤ length (now events)) × (start ≤ cap) × IsKey key ⌝ }
-    ensures { λ r. ⌜ ((top : ℕ) (s : List ℕ) → Done (emitMaybe (basicAlignment (keyBasic key)) true (emitBasic (now (texts .entry)) (context .big) (keyBasic key)) (depthsOf (context .depths)) (drop i (now (events .entry)))) (now (events .entry)) i start top (now (out .entry)) (now (out .exit)) s s r) ⌝ }
+    requires { ⌜ (i ≤ length (now events)) × (start ≤ cap) × IsKey (Letter.Number code width) ⌝ }
+    ensures { λ r. ⌜ ((texts : List ℕ) (top : ℕ) (s : List ℕ) → Done (emitMaybe (basicAlignment (keyBasic (Letter.Number code width))) true (emitBasic texts (context .big) (keyBasic (Letter.Number code width))) (depthsOf (context .depths)) (drop i (now (events .entry)))) (now (events .entry)) i start top (now (out .entry)) (now (out .exit)) s s r) ⌝ }
 {
     if plain_at(events, i, NOTHING_LETTER) {
         return wrote(i + 3, 0);
@@ -92,22 +77,21 @@ fn reading(
     if refusal != 0 {
         return refused(refusal);
     }
-    basic_value(key, events, texts, i + 3, context.big, out, start)
+    number(events, i + 3, code, width, context.big, out, start)
 }
 
 // Readings one behind another, up to an event that closes.
 pub fn readings(
-    key: Letter,
-    alignment: usize,
+    code: u8,
+    width: usize,
     events: &[u64],
-    texts: &[u8],
     context: Context,
     spot: Spot,
     out: &mut [u8],
     ends: &mut [u16],
 ) -> Run
-    requires { ⌜ IsKey key × (basicFixed (keyBasic key) ≡ true) × (alignment ≡ basicAlignment (keyBasic key)) × Placed (length (now events)) spot ⌝ }
-    ensures { λ r. ⌜ DoneAll (marksOf false) (buildMany (length (drop (spot .next) (now (events .entry)))) (emitMaybe (basicAlignment (keyBasic key)) true (emitBasic (now (texts .entry)) (context .big) (keyBasic key)) (depthsOf (context .depths))) (drop (spot .next) (now (events .entry)))) (now (events .entry)) (spot .next) (spot .start) (spot .top) 0 0 (now (out .entry)) (now (out .exit)) (now (ends .entry)) (now (ends .exit)) r ⌝ }
+    requires { ⌜ IsKey (Letter.Number code width) × Placed (length (now events)) spot ⌝ }
+    ensures { λ r. ⌜ ((texts : List ℕ) → DoneAll (marksOf false) (buildMany (length (drop (spot .next) (now (events .entry)))) (emitMaybe (basicAlignment (keyBasic (Letter.Number code width))) true (emitBasic texts (context .big) (keyBasic (Letter.Number code width))) (depthsOf (context .depths))) (drop (spot .next) (now (events .entry)))) (now (events .entry)) (spot .next) (spot .start) (spot .top) 0 0 (now (out .entry)) (now (out .exit)) (now (ends .entry)) (now (ends .exit)) r) ⌝ }
 {
     let base = spot.start;
     let top = spot.top;
@@ -118,9 +102,9 @@ pub fn readings(
         if events[e] == CONTAINER_END {
             return ran(e, k, j);
         }
-        let p = pad(out, base + k, k, alignment);
+        let p = pad(out, base + k, k, width);
         let start = add(base, k + p);
-        let r = reading(key, events, texts, e, context, out, start);
+        let r = reading(code, width, events, e, context, out, start);
         let refusal = r.refusal;
         if refusal != 0 {
             return stopped(refusal);

@@ -2,22 +2,21 @@
 ghost use mathlib.Core.Path.{_≡_};
 ghost use Prim.Native.Nat.{ℕ, _+_, _≤_, _<_, _^_, _%_, min};
 ghost use mathlib.Core.Bool.{true, false};
-ghost use lib.ListN.{set};
+ghost use lib.ListN.{length, set};
 ghost use Rattle.meaning.specs.Numbers.{bytes, ordered};
 ghost use Rattle.meaning.specs.Padding.{Aligns, padding, zeros};
 ghost use Rattle.writer_basic.specs.Stores.{cap, sum, puts};
 
 // A sum that stays at the cap.
 pub fn add(a: usize, b: usize) -> usize
+    requires { ⌜ (a < 2 ^ 32) × (b < 2 ^ 63) ⌝ }
     ensures { λ r. ⌜ r ≡ sum a b ⌝ }
 {
-    if 1048576 <= a {
+    let c = a + b;
+    if 1048576 <= c {
         return 1048576;
     }
-    if 1048576 - a <= b {
-        return 1048576;
-    }
-    a + b
+    c
 }
 
 // Stores a byte where there is room for it.
@@ -71,11 +70,28 @@ pub fn low(x: u64) -> u8
     (x % 256) as u8
 }
 
-// A number as so many bytes, the lowest first.
+// Whether the width is two, and there is room for it.
+fn takes_two(out: &[u8], at: usize, width: usize) -> bool
+    requires { ⌜ at + width < 2 ^ 32 ⌝ }
+    ensures { λ r. ⌜ (r ≡ true → (width ≡ 2) × (at + 1 < length (now (out .entry)))) ⌝ }
+{
+    if width != 2 {
+        return false;
+    }
+    let next = at + 1;
+    next < out.len()
+}
+
+// A number as so many bytes, the lowest first. Two, as most offsets have, are stored at once.
 pub fn digits(out: &mut [u8], at: usize, width: usize, x: u64)
     requires { ⌜ at + width < 2 ^ 32 ⌝ }
     ensures { λ r. ⌜ now (out .exit) ≡ puts (now (out .entry)) at (bytes width x) ⌝ }
 {
+    if takes_two(out, at, width) {
+        out[at] = low(x);
+        out[at + 1] = low(x / 256);
+        return;
+    }
     let mut i: usize = 0;
     let mut y = x;
     while i < width {

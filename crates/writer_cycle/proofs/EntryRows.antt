@@ -222,15 +222,6 @@ module _ (texts : List ℕ) (big : Bool) (n : ℕ) (signature : List ℕ) (it : 
       let q : itemOf texts big n signature it ≡ emitMaybe (basicAlignment b) true (emitBasic texts big b) = item-alone texts big n signature it e ∙ ap (λ u. valueOf texts big n u) t ∙ m in
       subst⁻¹ (λ (x : Builder Piece). DoneAll (marksOf (it .fixed)) (buildMany f (x D) l₀) ns i base top 0 0 l l′ s s′ r) q (subst⁻¹ (λ (x : Bool). DoneAll (marksOf x) (buildMany f (emitMaybe (basicAlignment b) true (emitBasic texts big b) D) l₀) ns i base top 0 0 l l′ s s′ r) h g)
 
--- the alignment of what is repeated
-pub alone-basic : (signature shapes : List ℕ) (it : Item) → Repeated signature shapes it → it .entry ≡ false → (b : Basic) → treeAt signature (it .child .at) ≡ basic b → it .alignment ≡ basicAlignment b
-unfolding alignment
-alone-basic signature shapes it h e b t = h .alone e ∙ ap alignment t
-
-pub alone-reading : (signature shapes : List ℕ) (it : Item) → Repeated signature shapes it → it .entry ≡ false → (b : Basic) → treeAt signature (it .child .at) ≡ maybe (basic b) → it .alignment ≡ basicAlignment b
-unfolding alignment
-alone-reading signature shapes it h e b t = h .alone e ∙ ap alignment t
-
 -- an element that is a text
 pub record TextItem (text : List ℕ) (it : Item) (k : Letter) : Type 0 where
   pub key : IsKey k
@@ -246,10 +237,3 @@ text-item signature shapes it h e c q =
     let b : keyBasic (Text c) ≡ text (m .it) = ap keyBasic k ∙ key-of (text (m .it)) in
     let t : treeAt signature (it .child .at) ≡ basic (keyBasic (Text c)) = m .type ∙ ap basic (sym b) in
     record { key = subst⁻¹ IsKey k (is-key (text (m .it))); loose = ap basicFixed b; tree = t; same-fixed = h .loose e ∙ ap fixed t ∙ ap basicFixed b }
-
--- the same, as the code has the letters
-pub held-number : (signature shapes : List ℕ) (it : Item) → Repeated signature shapes it → it .entry ≡ false → (c w : ℕ) → it .number ≡ Number c w → NumberItem signature it (it .number)
-held-number signature shapes it h e c w q = subst⁻¹ (λ (k : Letter). NumberItem signature it k) q (h .number e c w q)
-
-pub held-text : (signature shapes : List ℕ) (it : Item) → Repeated signature shapes it → it .entry ≡ false → (c : ℕ) → it .child .kind ≡ Text c → TextItem signature it (it .child .kind)
-held-text signature shapes it h e c q = subst⁻¹ (λ (k : Letter). TextItem signature it k) q (text-item signature shapes it h e c q)

@@ -38,7 +38,8 @@ use Rattle.writer_basic.proofs.Answers.{answer}
 use Rattle.writer_basic.proofs.Rounds.{part-length}
 use Rattle.writer_cycle.specs.Places.{valueOf, fieldsOf, itemOf, ItemAt}
 use Rattle.writer_cycle.proofs.ItemLaws.{emit-basic, emit-maybe, emit-structure, emit-variant}
-use Rattle.writer_basic.proofs.Openings.{raised-to, maybe-empty, maybe-neither, maybe-deep, maybe-on, array-not, array-deep, array-on, structure-not, structure-deep, structure-on, variant-not, variant-text, variant-type, variant-deep, variant-on}
+use Rattle.container_depths.proofs.Levels.{raised-to}
+use Rattle.writer_basic.proofs.Openings.{maybe-empty, maybe-neither, maybe-deep, maybe-on, array-not, array-deep, array-on, structure-not, structure-deep, structure-on, variant-not, variant-text, variant-type, variant-deep, variant-on}
 
 -- ---- value, by the letter
 
@@ -78,7 +79,7 @@ begins-not {A} signature at t k e h = go (treeAt signature at) (shown signature 
     go (structure us) w = other OpenStructure (w .letter) refl
 
 abbrev notNamed : List ℕ
-notNamed = 0 ∷ 1 ∷ 11 ∷ []
+notNamed = 9 ∷ 10 ∷ 11 ∷ []
 
 module _ (signature : List ℕ) (at : ℕ) (t : Typed signature at) (texts : List ℕ) (big : Bool) (d : ContainerDepths) (ns : List ℕ) (i start top : ℕ) (l l′ s s′ : List ℕ) (r : Answer) where
   abbrev Here : Type 0

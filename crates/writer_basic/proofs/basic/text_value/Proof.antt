@@ -53,7 +53,7 @@ copy-requires c κs = search needs
 
 -- src/basic.rt:184:9
 add-requires : tie.Need-add-requires
-add-requires c κs = search needs
+add-requires c κs = (omega (arith, c .before .before .before .before .before .before .before .before .before .before .before .pre .1), let q = c .before .before .before .before .before .before .text-at .ensures .taken (c .before .before .before .before .before .if1 .left) in omega (arith, q .inside, c .before .before .before .before .before .before .before .before .before .before .before .good .1 .0 .1))
 
 -- src/basic.rt:185:5
 put-requires : tie.Need-put-requires
@@ -65,7 +65,7 @@ add-wrote c = search needs
 
 -- src/basic.rt:186:18
 add-requires-2 : tie.Need-add-requires-2
-add-requires-2 c κs = search needs
+add-requires-2 c κs = (omega arith, let q = c .before .before .before .before .before .before .before .before .before .before .before .text-at .ensures .taken (c .before .before .before .before .before .before .before .before .before .before .if1 .left) in omega (arith, q .inside, c .before .before .before .before .before .before .before .before .before .before .before .before .before .before .before .before .good .1 .0 .1))
 
 -- src/basic.rt:186:5
 wrote-requires : tie.Need-wrote-requires

@@ -46,7 +46,7 @@ mul-add c = let b = c .before .before .before .before .before .before .before .b
 
 -- src/closing.rt:88:19
 add-requires : tie.Need-add-requires
-add-requires c κs = search needs
+add-requires c κs = (omega (arith, c .before .before .before .before .before .before .before .before .before .before .before .before .pre .2 (c .before .before .before .before .before .before .before .before .before .if1 .left)), omega (arith, c .before .before .before .before .before .before .before .before .before .before .before .before .pre .3 (c .before .before .before .before .before .before .before .before .before .if1 .left), product (c .before .before .before .before .before .before .before .before .before .before .before .before .args .r .count) (c .before .before .before .before .before .before .before .width .result) (c .before .before .before .before .before .before .before .width .ensures .2)))
 
 -- src/closing.rt:88:5
 wrote-requires-2 : tie.Need-wrote-requires-2

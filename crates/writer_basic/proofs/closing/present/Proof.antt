@@ -28,7 +28,7 @@ put-requires c κs = search needs
 
 -- src/closing.rt:46:19
 add-requires : tie.Need-add-requires
-add-requires c κs = search needs
+add-requires c κs = (omega (arith, c .before .before .before .before .before .before .before .pre .1 (c .before .before .before .before .before .if1 .left)), omega arith)
 
 -- src/closing.rt:46:5
 wrote-requires : tie.Need-wrote-requires

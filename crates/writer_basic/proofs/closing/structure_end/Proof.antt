@@ -31,7 +31,7 @@ pad-requires c κs = let a = c .before .before .before .before .before .pre .3 (
 
 -- src/closing.rt:112:30
 add-requires : tie.Need-add-requires
-add-requires c κs = search needs
+add-requires c κs = (omega (arith, c .before .before .before .before .before .before .before .before .pre .3 (c .before .before .before .before .before .if1 .left)), omega (arith, c .before .before .pad .ensures .0 .1))
 
 -- src/closing.rt:112:9
 wrote-requires : tie.Need-wrote-requires
@@ -63,7 +63,7 @@ mul-add c = let b = c .before .before .before .before .before .before .before .b
 
 -- src/closing.rt:116:19
 add-requires-2 : tie.Need-add-requires-2
-add-requires-2 c κs = search needs
+add-requires-2 c κs = (omega (arith, c .before .before .before .before .before .before .before .before .before .pre .3 (c .before .before .before .before .before .before .if1 .left)), omega (arith, c .before .before .before .before .before .before .before .before .before .pre .4 (c .before .before .before .before .before .before .if1 .left), product (c .before .before .before .before .before .before .before .before .before .args .r .count) (c .before .before .before .before .width .result) (c .before .before .before .before .width .ensures .2)))
 
 -- src/closing.rt:116:5
 wrote-requires-2 : tie.Need-wrote-requires-2

@@ -63,7 +63,7 @@ add-add c = search needs
 
 -- src/closing.rt:142:32
 add-requires : tie.Need-add-requires
-add-requires c κs = search needs
+add-requires c κs = (omega (arith, c .before .before .before .before .before .before .before .before .before .before .before .before .before .before .before .pre .1 (c .before .before .before .before .before .before .before .before .before .before .before .if1 .left)), omega (arith, c .before .before .before .before .before .before .before .before .before .before .before .before .before .before .before .pre .5))
 
 -- src/closing.rt:142:9
 wrote-requires : tie.Need-wrote-requires

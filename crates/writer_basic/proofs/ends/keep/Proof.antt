@@ -23,7 +23,7 @@ put-end-requires c κs = search needs
 
 -- src/ends.rt:88:5
 add-requires : tie.Need-add-requires
-add-requires c κs = search needs
+add-requires c κs = (omega (arith, c .before .before .before .before .before .before .before .before .before .before .pre), omega arith)
 
 -- src/ends.rt:73:1
 same-length : tie.Need-same-length

@@ -1,74 +1,76 @@
 -- `writer_basic::numbers::reading` meets its contract. Assumes nothing.
 use native.Mathlib.Omega.{arith}
+use borrow.Author.Needs.{needs}
 use borrow.Author.Tests.{not-true, not-false}
+use Rattle.writer_basic.proofs.Answers.{key-aligned}
 use Rattle.writer_basic.proofs.Openings.{maybe-empty, maybe-neither, maybe-deep}
-use Rattle.writer_basic.proofs.NumberRows.{reading-on}
+use Rattle.writer_basic.proofs.NumberRows.{reading-on, number-done}
 use borrow.Author.Needs.{needs}
 use Rattle.writer_basic.proofs.numbers.reading.Statement.{statement}
 use Rattle.writer_basic.proofs.numbers.reading.Tie as tie
 use Rattle.writer_basic.proofs.numbers.reading.Reads as reads
 use Rattle.writer_basic.proofs.numbers.reading.Lts as lts
 use Rattle.container_depths.proofs.ContainerDepths.inc_maybe.Reads as inc-maybe-reads
-use Rattle.writer_basic.proofs.basic.basic_value.Reads as basic-value-reads
+use Rattle.writer_basic.proofs.basic.number.Reads as number-reads
 use Rattle.writer_basic.proofs.basic.plain_at.Reads as plain-at-reads
 use Rattle.writer_basic.proofs.refused.Reads as refused-reads
 use Rattle.writer_basic.proofs.wrote.Reads as wrote-reads
 
--- src/numbers.rt:84:8
+-- src/numbers.rt:69:8
 plain-at-requires : tie.Need-plain-at-requires
 plain-at-requires c κs = search needs
 
--- src/numbers.rt:85:22
+-- src/numbers.rt:70:22
 add-wrote : tie.Need-add-wrote
 add-wrote c = search needs
 
--- src/numbers.rt:85:9
+-- src/numbers.rt:70:9
 wrote-requires : tie.Need-wrote-requires
 wrote-requires c κs = search needs
 
--- src/numbers.rt:85:9
+-- src/numbers.rt:70:9
 returns : tie.Need-returns
-returns c = λ top s. rw (c .wrote .ensures) (maybe-empty _ _ _ _ _ _ _ top _ s (c .before .before .plain-at .ensures .here (c .before .if1 .taken)))
+returns c = λ texts top s. rw (c .wrote .ensures) (maybe-empty _ _ _ _ _ _ _ top _ s (c .before .before .plain-at .ensures .here (c .before .if1 .taken)))
 
--- src/numbers.rt:87:9
+-- src/numbers.rt:72:9
 plain-at-requires-2 : tie.Need-plain-at-requires-2
 plain-at-requires-2 c κs = search needs
 
--- src/numbers.rt:88:9
+-- src/numbers.rt:73:9
 refused-requires : tie.Need-refused-requires
 refused-requires c κs = search needs
 
--- src/numbers.rt:88:9
+-- src/numbers.rt:73:9
 returns-2 : tie.Need-returns-2
-returns-2 c = λ top s. rw (c .refused .ensures) (maybe-neither _ _ _ _ _ _ _ top _ s _ _ (c .before .before .before .before .plain-at .ensures .not (c .before .before .before .if1 .left)) (c .before .before .plain-at2 .ensures .not (not-true _ (c .before .if2 .taken))))
+returns-2 c = λ texts top s. rw (c .refused .ensures) (maybe-neither _ _ _ _ _ _ _ top _ s _ _ (c .before .before .before .before .plain-at .ensures .not (c .before .before .before .if1 .left)) (c .before .before .plain-at2 .ensures .not (not-true _ (c .before .if2 .taken))))
 
--- src/numbers.rt:90:9
+-- src/numbers.rt:75:9
 inc-maybe-requires : tie.Need-inc-maybe-requires
 inc-maybe-requires c κs = search needs
 
--- src/numbers.rt:93:9
+-- src/numbers.rt:78:9
 refused-requires-2 : tie.Need-refused-requires-2
 refused-requires-2 c κs = search needs
 
--- src/numbers.rt:93:9
+-- src/numbers.rt:78:9
 returns-3 : tie.Need-returns-3
-returns-3 c = λ top s. rw (c .refused2 .ensures) (maybe-deep _ _ _ _ _ _ _ top _ s (c .before .before .before .before .plain-at2 .ensures .here (not-false _ (c .before .before .before .if2 .left))) _ (c .before .before .inc-maybe .ensures) _ _ (c .before .if3 .taken))
+returns-3 c = λ texts top s. rw (c .refused2 .ensures) (maybe-deep _ _ _ _ _ _ _ top _ s (c .before .before .before .before .plain-at2 .ensures .here (not-false _ (c .before .before .before .if2 .left))) _ (c .before .before .inc-maybe .ensures) _ _ (c .before .if3 .taken))
 
--- src/numbers.rt:95:37
-add-basic-value : tie.Need-add-basic-value
-add-basic-value c = search needs
+-- src/numbers.rt:80:20
+add-number : tie.Need-add-number
+add-number c = search needs
 
--- src/numbers.rt:95:5
-basic-value-requires : tie.Need-basic-value-requires
-basic-value-requires c κs = (c .before .before .before .before .plain-at2 .ensures .here (not-false _ (c .before .before .before .if2 .left)) .whole, c .before .before .before .before .before .before .before .before .before .before .pre .1, c .before .before .before .before .before .before .before .before .before .before .pre .2)
+-- src/numbers.rt:80:5
+number-requires : tie.Need-number-requires
+number-requires c κs = (c .before .before .before .before .plain-at2 .ensures .here (not-false _ (c .before .before .before .if2 .left)) .whole, c .before .before .before .before .before .before .before .before .before .pre .1, key-aligned _ _ (c .before .before .before .before .before .before .before .before .before .pre .2))
 
--- src/numbers.rt:72:1
+-- src/numbers.rt:57:1
 same-length : tie.Need-same-length
 same-length c = search needs
 
--- src/numbers.rt:72:1
+-- src/numbers.rt:57:1
 returns-4 : tie.Need-returns-4
-returns-4 c = λ top s. reading-on _ _ _ _ _ _ _ top _ _ s _ (c .before .before .before .before .before .before .before .plain-at2 .ensures .here (not-false _ (c .before .before .before .before .before .before .if2 .left))) _ (c .before .before .before .before .before .inc-maybe .ensures) (c .before .before .before .before .if3 .left) (c .before .before .basic-value .ensures)
+returns-4 c = λ texts top s. reading-on texts _ _ _ _ _ _ top _ _ s _ (c .before .before .before .before .before .before .before .plain-at2 .ensures .here (not-false _ (c .before .before .before .before .before .before .if2 .left))) _ (c .before .before .before .before .before .inc-maybe .ensures) (c .before .before .before .before .if3 .left) (λ d top s. number-done _ _ (c .before .before .before .before .before .before .before .before .before .before .before .before .pre .2) _ _ _ _ _ _ _ (c .before .before .number .ensures) texts d top s)
 
 pub reading-spec : {M : Type 1} → statement M
 reading-spec =
@@ -84,7 +86,7 @@ reading-spec =
     inc-maybe-requires
     refused-requires-2
     returns-3
-    add-basic-value
-    basic-value-requires
+    add-number
+    number-requires
     same-length
     returns-4)

@@ -1,21 +1,19 @@
 -- `writer_basic::numbers::readings` meets its contract. Assumes nothing.
 use native.Mathlib.Omega.{arith}
 use borrow.Author.Needs.{needs}
-use mathlib.Core.Path.{refl, sym, _∙_, _≡_}
-use mathlib.Core.List.{[]}
-use mathlib.Core.Bool.{true, false}
-use Prim.Native.Nat.{_+_, _-_, _≤_}
+use Prim.Native.Nat.{_-_, ℕ}
 use lib.ListN.{length}
-use borrow.Author.Tests.{not-true, not-false}
-use Rattle.meaning.specs.Depths.{noneOpen}
+use mathlib.Core.Path.{refl}
+use mathlib.Core.List.{List, []}
+use mathlib.Core.Bool.{true, false}
 use Rattle.meaning.specs.Types.{basicAlignment}
 use Rattle.meaning_writing.specs.Emitting.{emitBasic, emitMaybe}
-use Rattle.meaning_writing.proofs.EmitLaws.{basic-shorter}
 use Rattle.container_depths.specs.Opening.{depthsOf}
+use Rattle.signature.specs.declared.Letter.the-variants.{Number}
 use Rattle.writer_basic.specs.Wrote.{keyBasic}
-use Rattle.writer_basic.proofs.Answers.{bounds}
+use Rattle.writer_basic.proofs.Answers.{bounds, key-aligned}
 use Rattle.writer_basic.proofs.Rows.{Left, left-all, left-short, left-shut, left-stop, left-on}
-use Rattle.writer_basic.proofs.NumberRows.{aligned-as, basic-alignment, reading-alignment, reading-shorter}
+use Rattle.writer_basic.proofs.NumberRows.{number-alignment, number-fixed, reading-alignment, reading-shorter}
 use Rattle.writer_basic.proofs.numbers.readings.Statement.{statement}
 use Rattle.writer_basic.proofs.numbers.readings.Tie as tie
 use Rattle.writer_basic.proofs.numbers.readings.Reads as reads
@@ -28,114 +26,114 @@ use Rattle.writer_basic.proofs.store.add.Reads as add-reads
 use Rattle.writer_basic.proofs.store.pad.Reads as pad-reads
 
 abbrev Inv-loop : tie.InvT-loop
-Inv-loop key alignment events texts context out₀ ends₀ base top e₀ k₀ j₀ out ends e k j = Left false (emitMaybe (basicAlignment (keyBasic key)) true (emitBasic texts (context .big) (keyBasic key)) (depthsOf (context .depths))) events e₀ base top out₀ ends₀ e k j out ends
+Inv-loop code width events context out₀ ends₀ base top e₀ k₀ j₀ out ends e k j = (texts : List ℕ) → Left false (emitMaybe (basicAlignment (keyBasic (Number code width))) true (emitBasic texts (context .big) (keyBasic (Number code width))) (depthsOf (context .depths))) events e₀ base top out₀ ends₀ e k j out ends
 
 abbrev μ-loop : tie.MeasureT-loop
-μ-loop key alignment events texts context out₀ ends₀ base top e₀ k₀ j₀ out ends e k j = length events - e
+μ-loop code width events context out₀ ends₀ base top e₀ k₀ j₀ out ends e k j = length events - e
 
--- src/numbers.rt:117:5
+-- src/numbers.rt:101:5
 loop-holds : tie.Need-loop-holds Inv-loop μ-loop
-loop-holds c = left-all _ _ _ _ _ _ _ _ (c .before .before .before .before .pre .3 .within)
+loop-holds c = λ texts. left-all _ _ _ _ _ _ _ _ (c .before .before .before .pre .1 .within)
 
--- src/numbers.rt:117:16
+-- src/numbers.rt:101:16
 sub-loop : tie.Need-sub-loop Inv-loop μ-loop
-sub-loop c = omega (arith, c .loop .inv .within)
+sub-loop c = omega (arith, c .loop .inv [] .within)
 
--- src/numbers.rt:118:12
+-- src/numbers.rt:102:12
 mul-if1 : tie.Need-mul-if1 Inv-loop μ-loop
 mul-if1 c = omega arith
 
--- src/numbers.rt:118:12
+-- src/numbers.rt:102:12
 shared-slice-read-if1 : tie.Need-shared-slice-read-if1 Inv-loop μ-loop
-shared-slice-read-if1 c = (omega (arith, c .before .before .loop .inv .within, c .before .loop-test .taken))
+shared-slice-read-if1 c = (omega (arith, c .before .before .loop .inv [] .within, c .before .loop-test .taken))
 
--- src/numbers.rt:119:13
+-- src/numbers.rt:103:13
 ran-requires : tie.Need-ran-requires Inv-loop μ-loop
 ran-requires c κs = search needs
 
--- src/numbers.rt:119:13
+-- src/numbers.rt:103:13
 same-length : tie.Need-same-length Inv-loop μ-loop
-same-length c = omega (arith, c .before .before .before .before .loop .inv .same)
+same-length c = omega (arith, c .before .before .before .before .loop .inv [] .same)
 
--- src/numbers.rt:119:13
+-- src/numbers.rt:103:13
 same-length-2 : tie.Need-same-length-2 Inv-loop μ-loop
-same-length-2 c = omega (arith, c .before .before .before .before .loop .inv .sames)
+same-length-2 c = omega (arith, c .before .before .before .before .loop .inv [] .sames)
 
--- src/numbers.rt:119:13
+-- src/numbers.rt:103:13
 returns : tie.Need-returns Inv-loop μ-loop
-returns c = rw (c .ran .ensures) (left-shut _ _ _ _ _ _ _ _ _ _ _ _ _ (c .before .before .before .before .loop .inv) (omega (arith, c .before .before .before .before .loop .inv .within, c .before .before .before .loop-test .taken)) (c .before .if1 .taken))
+returns c = λ texts. rw (c .ran .ensures) (left-shut _ _ _ _ _ _ _ _ _ _ _ _ _ (c .before .before .before .before .loop .inv texts) (omega (arith, c .before .before .before .before .loop .inv [] .within, c .before .before .before .loop-test .taken)) (c .before .if1 .taken))
 
--- src/numbers.rt:121:26
+-- src/numbers.rt:105:26
 add-pad : tie.Need-add-pad Inv-loop μ-loop
-add-pad c = omega (arith, c .before .before .before .before .loop .inv .small, c .before .before .before .before .before .before .before .before .before .pre .3 .near)
+add-pad c = omega (arith, c .before .before .before .before .loop .inv [] .small, c .before .before .before .before .before .before .before .before .pre .1 .near)
 
--- src/numbers.rt:121:13
+-- src/numbers.rt:105:13
 pad-requires : tie.Need-pad-requires Inv-loop μ-loop
-pad-requires c κs = (omega (arith, c .before .before .before .before .loop .inv .small, c .before .before .before .before .before .before .before .before .before .pre .3 .near), aligned-as (keyBasic (c .before .before .before .before .before .before .before .before .before .args .key)) _ (c .before .before .before .before .before .before .before .before .before .pre .2))
+pad-requires c κs = (omega (arith, c .before .before .before .before .loop .inv [] .small, c .before .before .before .before .before .before .before .before .pre .1 .near), key-aligned _ _ (c .before .before .before .before .before .before .before .before .pre .0))
 
--- src/numbers.rt:122:31
+-- src/numbers.rt:106:31
 add-add : tie.Need-add-add Inv-loop μ-loop
-add-add c = omega (arith, c .before .before .before .before .before .before .before .loop .inv .small, c .before .before .pad .ensures .0 .1)
+add-add c = omega (arith, c .before .before .before .before .before .before .before .loop .inv [] .small, c .before .before .pad .ensures .0 .1)
 
--- src/numbers.rt:122:13
+-- src/numbers.rt:106:13
 add-requires : tie.Need-add-requires Inv-loop μ-loop
-add-requires c κs = search needs
+add-requires c κs = (omega (arith, c .before .before .before .before .before .before .before .before .before .before .before .pre .1 .near), omega (arith, c .before .before .before .before .before .before .before .loop .inv [] .small, c .before .before .pad .ensures .0 .1))
 
--- src/numbers.rt:123:13
+-- src/numbers.rt:107:13
 reading-requires : tie.Need-reading-requires Inv-loop μ-loop
-reading-requires c κs = (c .before .before .before .before .before .before .before .before .before .loop .inv .within, omega (arith, c .before .add .ensures), c .before .before .before .before .before .before .before .before .before .before .before .before .before .before .pre .0)
+reading-requires c κs = (c .before .before .before .before .before .before .before .before .before .loop .inv [] .within, omega (arith, c .before .add .ensures), c .before .before .before .before .before .before .before .before .before .before .before .before .before .pre .0)
 
--- src/numbers.rt:126:13
+-- src/numbers.rt:110:13
 stopped-requires : tie.Need-stopped-requires Inv-loop μ-loop
 stopped-requires c κs = search needs
 
--- src/numbers.rt:126:13
+-- src/numbers.rt:110:13
 same-length-3 : tie.Need-same-length-3 Inv-loop μ-loop
-same-length-3 c = omega (arith, c .before .before .before .before .before .before .before .before .before .before .before .before .before .before .loop .inv .same, c .before .before .before .before .reading .kept, c .before .before .before .before .before .before .before .before .before .pad .kept)
+same-length-3 c = omega (arith, c .before .before .before .before .before .before .before .before .before .before .before .before .before .before .loop .inv [] .same, c .before .before .before .before .reading .kept, c .before .before .before .before .before .before .before .before .before .pad .kept)
 
--- src/numbers.rt:126:13
+-- src/numbers.rt:110:13
 same-length-4 : tie.Need-same-length-4 Inv-loop μ-loop
-same-length-4 c = omega (arith, c .before .before .before .before .before .before .before .before .before .before .before .before .before .before .loop .inv .sames)
+same-length-4 c = omega (arith, c .before .before .before .before .before .before .before .before .before .before .before .before .before .before .loop .inv [] .sames)
 
--- src/numbers.rt:126:13
+-- src/numbers.rt:110:13
 returns-2 : tie.Need-returns-2 Inv-loop μ-loop
-returns-2 c = rw (c .stopped .ensures) (left-stop _ _ _ _ _ _ _ _ _ _ _ _ _ (c .before .before .before .before .before .before .before .before .before .before .before .before .before .before .loop .inv) (omega (arith, c .before .before .before .before .before .before .before .before .before .before .before .before .before .before .loop .inv .within, c .before .before .before .before .before .before .before .before .before .before .before .before .before .loop-test .taken)) (c .before .before .before .before .before .before .before .before .before .before .before .if1 .left) _ 0 _ _ _ _ (c .before .before .before .before .reading .ensures 0 _) (c .before .if2 .taken))
+returns-2 c = λ texts. rw (c .stopped .ensures) (left-stop _ _ _ _ _ _ _ _ _ _ _ _ _ (c .before .before .before .before .before .before .before .before .before .before .before .before .before .before .loop .inv texts) (omega (arith, c .before .before .before .before .before .before .before .before .before .before .before .before .before .before .loop .inv [] .within, c .before .before .before .before .before .before .before .before .before .before .before .before .before .loop-test .taken)) (c .before .before .before .before .before .before .before .before .before .before .before .if1 .left) _ 0 _ _ _ _ (c .before .before .before .before .reading .ensures texts 0 _) (c .before .if2 .taken))
 
--- src/numbers.rt:128:17
+-- src/numbers.rt:112:17
 add-add-2 : tie.Need-add-add-2 Inv-loop μ-loop
-add-add-2 c = omega (arith, c .before .before .before .before .before .before .before .before .before .before .before .before .before .loop .inv .small, c .before .before .before .before .before .before .before .before .pad .ensures .0 .1)
+add-add-2 c = omega (arith, c .before .before .before .before .before .before .before .before .before .before .before .before .before .loop .inv [] .small, c .before .before .before .before .before .before .before .before .pad .ensures .0 .1)
 
--- src/numbers.rt:128:9
+-- src/numbers.rt:112:9
 add-requires-2 : tie.Need-add-requires-2 Inv-loop μ-loop
-add-requires-2 c κs = search needs
+add-requires-2 c κs = (omega (arith, c .before .before .before .before .before .before .before .before .before .before .before .before .before .loop .inv [] .small, c .before .before .before .before .before .before .before .before .pad .ensures .0 .1), let q = bounds (c .if2 .left) (c .before .before .before .reading .ensures [] 0 []) in omega (arith, q .small))
 
--- src/numbers.rt:130:9
+-- src/numbers.rt:114:9
 keep-requires : tie.Need-keep-requires Inv-loop μ-loop
-keep-requires c κs = omega (arith, c .before .before .before .before .before .before .before .before .before .before .before .before .before .before .before .before .loop .inv .few, c .before .before .before .before .before .before .before .before .before .before .before .before .before .before .before .before .before .before .before .before .before .pre .3 .few)
+keep-requires c κs = omega (arith, c .before .before .before .before .before .before .before .before .before .before .before .before .before .before .before .before .loop .inv [] .few, c .before .before .before .before .before .before .before .before .before .before .before .before .before .before .before .before .before .before .before .before .pre .1 .few)
 
--- src/numbers.rt:117:5
+-- src/numbers.rt:101:5
 loop-less : tie.Need-loop-less Inv-loop μ-loop
-loop-less c = let q = bounds (c .before .before .before .before .before .before .before .before .if2 .left) (c .before .before .before .before .before .before .before .before .before .before .before .reading .ensures 0 []) in omega (arith, q .forward, q .within)
+loop-less c = let q = bounds (c .before .before .before .before .before .before .before .before .if2 .left) (c .before .before .before .before .before .before .before .before .before .before .before .reading .ensures [] 0 []) in omega (arith, q .forward, q .within)
 
--- src/numbers.rt:117:5
+-- src/numbers.rt:101:5
 loop-again : tie.Need-loop-again Inv-loop μ-loop
-loop-again c = left-on _ _ _ _ _ _ _ _ _ _ _ _ _ (c .before .before .before .before .before .before .before .before .before .before .before .before .before .before .before .before .before .before .before .before .before .loop .inv) (omega (arith, c .before .before .before .before .before .before .before .before .before .before .before .before .before .before .before .before .before .before .before .before .before .loop .inv .within, c .before .before .before .before .before .before .before .before .before .before .before .before .before .before .before .before .before .before .before .before .loop-test .taken)) (c .before .before .before .before .before .before .before .before .before .before .before .before .before .before .before .before .before .before .if1 .left) _ _ _ _ _ _ (c .before .before .before .before .before .before .before .before .before .before .before .reading .ensures _ _) _ _ _ _ _ _ (reading-shorter (c .before .before .before .before .before .before .before .before .before .before .before .before .before .before .before .before .before .before .before .before .before .before .before .before .before .before .args .texts .now) (c .before .before .before .before .before .before .before .before .before .before .before .before .before .before .before .before .before .before .before .before .before .before .before .before .before .before .args .context .big) (keyBasic (c .before .before .before .before .before .before .before .before .before .before .before .before .before .before .before .before .before .before .before .before .before .before .before .before .before .before .args .key)) (depthsOf (c .before .before .before .before .before .before .before .before .before .before .before .before .before .before .before .before .before .before .before .before .before .before .before .before .before .before .args .context .depths)) (c .before .before .before .before .before .before .before .before .before .before .before .before .before .before .before .before .before .before .before .before .before .before .before .before .before .before .pre .1)) (reading-alignment (c .before .before .before .before .before .before .before .before .before .before .before .before .before .before .before .before .before .before .before .before .before .before .before .before .before .before .args .texts .now) (c .before .before .before .before .before .before .before .before .before .before .before .before .before .before .before .before .before .before .before .before .before .before .before .before .before .before .args .context .big) (keyBasic (c .before .before .before .before .before .before .before .before .before .before .before .before .before .before .before .before .before .before .before .before .before .before .before .before .before .before .args .key)) (depthsOf (c .before .before .before .before .before .before .before .before .before .before .before .before .before .before .before .before .before .before .before .before .before .before .before .before .before .before .args .context .depths)) _ _ (c .before .before .before .before .before .before .before .before .before .before .before .before .before .before .before .before .before .before .before .before .before .before .before .before .before .before .pre .2)) (c .before .before .before .before .before .before .before .before .if2 .left) (c .before .before .before .before .before .before .before .before .before .before .before .before .before .before .before .before .pad .ensures .0 .0) (c .before .before .before .before .before .before .before .before .before .before .before .before .before .before .before .before .pad .ensures .1) (c .before .before .before .before .before .before .before .before .before .before .before .before .before .add .ensures) refl (c .before .before .before .before .before .before .before .add2 .ensures) (c .before .before .before .before .keep .ensures) (omega (arith, c .before .before .before .before .before .before .before .before .before .before .before .before .before .before .before .before .before .before .before .before .before .loop .inv .same)) (omega (arith, c .before .before .before .before .before .before .before .before .before .before .before .before .before .before .before .before .before .before .before .before .before .loop .inv .same)) (omega (arith, c .before .before .before .before .before .before .before .before .before .before .before .before .before .before .before .before .before .before .before .before .before .loop .inv .sames)) (omega (arith, c .before .before .before .before .before .before .before .before .before .before .before .before .before .before .before .before .before .before .before .before .before .loop .inv .sames))
+loop-again c = λ texts. left-on _ _ _ _ _ _ _ _ _ _ _ _ _ (c .before .before .before .before .before .before .before .before .before .before .before .before .before .before .before .before .before .before .before .before .before .loop .inv texts) (omega (arith, c .before .before .before .before .before .before .before .before .before .before .before .before .before .before .before .before .before .before .before .before .before .loop .inv [] .within, c .before .before .before .before .before .before .before .before .before .before .before .before .before .before .before .before .before .before .before .before .loop-test .taken)) (c .before .before .before .before .before .before .before .before .before .before .before .before .before .before .before .before .before .before .if1 .left) _ _ _ _ _ _ (c .before .before .before .before .before .before .before .before .before .before .before .reading .ensures texts _ _) _ _ _ _ _ _ (reading-shorter texts (c .before .before .before .before .before .before .before .before .before .before .before .before .before .before .before .before .before .before .before .before .before .before .before .before .before .args .context .big) (keyBasic (Number (c .before .before .before .before .before .before .before .before .before .before .before .before .before .before .before .before .before .before .before .before .before .before .before .before .before .args .code) (c .before .before .before .before .before .before .before .before .before .before .before .before .before .before .before .before .before .before .before .before .before .before .before .before .before .args .width))) (depthsOf (c .before .before .before .before .before .before .before .before .before .before .before .before .before .before .before .before .before .before .before .before .before .before .before .before .before .args .context .depths)) (number-fixed _ _ (c .before .before .before .before .before .before .before .before .before .before .before .before .before .before .before .before .before .before .before .before .before .before .before .before .before .pre .0))) (reading-alignment texts (c .before .before .before .before .before .before .before .before .before .before .before .before .before .before .before .before .before .before .before .before .before .before .before .before .before .args .context .big) (keyBasic (Number (c .before .before .before .before .before .before .before .before .before .before .before .before .before .before .before .before .before .before .before .before .before .before .before .before .before .args .code) (c .before .before .before .before .before .before .before .before .before .before .before .before .before .before .before .before .before .before .before .before .before .before .before .before .before .args .width))) (depthsOf (c .before .before .before .before .before .before .before .before .before .before .before .before .before .before .before .before .before .before .before .before .before .before .before .before .before .args .context .depths)) _ _ (number-alignment _ _ (c .before .before .before .before .before .before .before .before .before .before .before .before .before .before .before .before .before .before .before .before .before .before .before .before .before .pre .0))) (c .before .before .before .before .before .before .before .before .if2 .left) (c .before .before .before .before .before .before .before .before .before .before .before .before .before .before .before .before .pad .ensures .0 .0) (c .before .before .before .before .before .before .before .before .before .before .before .before .before .before .before .before .pad .ensures .1) (c .before .before .before .before .before .before .before .before .before .before .before .before .before .add .ensures) refl (c .before .before .before .before .before .before .before .add2 .ensures) (c .before .before .before .before .keep .ensures) (omega (arith, c .before .before .before .before .before .before .before .before .before .before .before .before .before .before .before .before .before .before .before .before .before .loop .inv [] .same)) (omega (arith, c .before .before .before .before .before .before .before .before .before .before .before .before .before .before .before .before .before .before .before .before .before .loop .inv [] .same)) (omega (arith, c .before .before .before .before .before .before .before .before .before .before .before .before .before .before .before .before .before .before .before .before .before .loop .inv [] .sames)) (omega (arith, c .before .before .before .before .before .before .before .before .before .before .before .before .before .before .before .before .before .before .before .before .before .loop .inv [] .sames))
 
--- src/numbers.rt:132:5
+-- src/numbers.rt:116:5
 stopped-requires-2 : tie.Need-stopped-requires-2 Inv-loop μ-loop
 stopped-requires-2 c κs = search needs
 
--- src/numbers.rt:99:1
+-- src/numbers.rt:84:1
 same-length-5 : tie.Need-same-length-5 Inv-loop μ-loop
-same-length-5 c = omega (arith, c .before .before .loop .inv .same)
+same-length-5 c = omega (arith, c .before .before .loop .inv [] .same)
 
--- src/numbers.rt:99:1
+-- src/numbers.rt:84:1
 same-length-6 : tie.Need-same-length-6 Inv-loop μ-loop
-same-length-6 c = omega (arith, c .before .before .loop .inv .sames)
+same-length-6 c = omega (arith, c .before .before .loop .inv [] .sames)
 
--- src/numbers.rt:99:1
+-- src/numbers.rt:84:1
 returns-3 : tie.Need-returns-3 Inv-loop μ-loop
-returns-3 c = rw (c .stopped2 .ensures) (left-short _ _ _ _ _ _ _ _ _ _ _ _ _ (c .before .before .loop .inv) (omega (arith, c .before .before .loop .inv .within, c .before .loop-test .left)))
+returns-3 c = λ texts. rw (c .stopped2 .ensures) (left-short _ _ _ _ _ _ _ _ _ _ _ _ _ (c .before .before .loop .inv texts) (omega (arith, c .before .before .loop .inv [] .within, c .before .loop-test .left)))
 
 pub readings-spec : {M : Type 1} → statement M
 readings-spec =

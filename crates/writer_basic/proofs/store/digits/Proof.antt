@@ -7,19 +7,44 @@ use mathlib.Core.Path.{_≡_, sym, _∙_, refl}
 use lib.ListN.{length, length-set}
 use Rattle.meaning.specs.Numbers.{bytes}
 use Rattle.writer_basic.specs.Stores.{puts}
-use Rattle.writer_basic.proofs.Puts.{bytes-step, bytes-end}
+use Rattle.writer_basic.proofs.Puts.{bytes-step, bytes-end, bytes-two}
 use Rattle.writer_basic.proofs.store.digits.Statement.{statement}
 use Rattle.writer_basic.proofs.store.digits.Tie as tie
 use Rattle.writer_basic.proofs.store.digits.Reads as reads
 use Rattle.writer_basic.proofs.store.digits.Lts as lts
 use Rattle.writer_basic.proofs.store.low.Reads as low-reads
 use Rattle.writer_basic.proofs.store.put.Reads as put-reads
+use Rattle.writer_basic.proofs.store.takes_two.Reads as takes-two-reads
 
 abbrev Inv-loop : tie.InvT-loop
 Inv-loop out₀ at width x i₀ y₀ out i y = (i ≤ width) × ((length out ≡ length out₀) × (puts out (at + i) (bytes (width - i) y) ≡ puts out₀ at (bytes width x)))
 
 abbrev μ-loop : tie.MeasureT-loop
 μ-loop out₀ at width x i₀ y₀ out i y = width - i
+
+takes-two-requires : tie.Need-takes-two-requires Inv-loop μ-loop
+takes-two-requires c κs = c .before .before .pre
+
+low-requires : tie.Need-low-requires Inv-loop μ-loop
+low-requires c κs = search needs
+
+slice-write-out : tie.Need-slice-write-out Inv-loop μ-loop
+slice-write-out c = omega (arith, c .before .before .takes-two .ensures (c .before .if1 .taken) .1)
+
+low-requires-2 : tie.Need-low-requires-2 Inv-loop μ-loop
+low-requires-2 c κs = search needs
+
+add-out : tie.Need-add-out Inv-loop μ-loop
+add-out c = omega (arith, c .before .before .before .before .before .before .pre)
+
+slice-write-out-2 : tie.Need-slice-write-out-2 Inv-loop μ-loop
+slice-write-out-2 c = simp length-set (c .before .before .before .takes-two .ensures (c .before .before .if1 .taken) .1)
+
+same-length : tie.Need-same-length Inv-loop μ-loop
+same-length c = simp length-set
+
+returns : tie.Need-returns Inv-loop μ-loop
+returns c = rw (c .before .before .before .takes-two .ensures (c .before .before .if1 .taken) .0, c .before .low .ensures, c .low2 .ensures) (sym (bytes-two _ _ _))
 
 -- src/store.rt:81:5
 loop-holds : tie.Need-loop-holds Inv-loop μ-loop
@@ -30,8 +55,8 @@ add-put : tie.Need-add-put Inv-loop μ-loop
 add-put c = omega arith
 
 -- src/store.rt:82:26
-low-requires : tie.Need-low-requires Inv-loop μ-loop
-low-requires c κs = search needs
+low-requires-3 : tie.Need-low-requires-3 Inv-loop μ-loop
+low-requires-3 c κs = search needs
 
 -- src/store.rt:82:9
 put-requires : tie.Need-put-requires Inv-loop μ-loop
@@ -47,15 +72,15 @@ loop-less c = omega arith
 
 -- src/store.rt:81:5
 loop-again : tie.Need-loop-again Inv-loop μ-loop
-loop-again c = (omega arith, (simp (c .before .before .put .ensures, length-set) (c .before .before .before .before .before .before .loop .inv .1 .0), simp (c .before .before .put .ensures, c .before .before .before .low .ensures) (sym (bytes-step _ _ _ _ _ (omega arith)) ∙ c .before .before .before .before .before .before .loop .inv .1 .1)))
+loop-again c = (omega arith, (simp (c .before .before .put .ensures, length-set) (c .before .before .before .before .before .before .loop .inv .1 .0), simp (c .before .before .put .ensures, c .before .before .before .low3 .ensures) (sym (bytes-step _ _ _ _ _ (omega arith)) ∙ c .before .before .before .before .before .before .loop .inv .1 .1)))
 
 -- src/store.rt:75:1
-same-length : tie.Need-same-length Inv-loop μ-loop
-same-length c = omega arith
+same-length-2 : tie.Need-same-length-2 Inv-loop μ-loop
+same-length-2 c = omega arith
 
 -- src/store.rt:75:1
-returns : tie.Need-returns Inv-loop μ-loop
-returns c = sym (bytes-end _ _ _ _ _ (omega arith)) ∙ c .before .loop .inv .1 .1
+returns-2 : tie.Need-returns-2 Inv-loop μ-loop
+returns-2 c = sym (bytes-end _ _ _ _ _ (omega arith)) ∙ c .before .loop .inv .1 .1
 
 pub digits-spec : {M : Type 1} → statement M
 digits-spec =
@@ -63,12 +88,20 @@ digits-spec =
     (tie.spec
     Inv-loop
     μ-loop
+    takes-two-requires
+    low-requires
+    slice-write-out
+    low-requires-2
+    add-out
+    slice-write-out-2
+    same-length
+    returns
     loop-holds
     add-put
-    low-requires
+    low-requires-3
     put-requires
     add-i
     loop-less
     loop-again
-    same-length
-    returns)
+    same-length-2
+    returns-2)

@@ -6,17 +6,17 @@ use borrow.Author.Needs.{needs}
 use mathlib.Core.Path.{_∙_, refl, sym}
 use native.Mathlib.Omega.{arith}
 use Rattle.writer_cycle.proofs as of
-use Rattle.writer_cycle.proofs.+array+elements+entries+entry+fields+maybe+structure+value+variant as cycle
-use cycle.Proof.Measures.{array-below, maybe-below, structure-below, value-at, variant-below}
+use Rattle.writer_cycle.proofs.+array-array+array-elements+array-items+array-one+dictionary-entry+maybe-maybe+structure-fields+structure-structure+value+variant-typed+variant-variant as cycle
+use cycle.Proof.Measures.{array·array-below, maybe·maybe-below, structure·structure-below, value-at, variant·variant-below}
 use Rattle.writer_basic.proofs.basic.boolean.Reads as boolean-reads
 use Rattle.writer_basic.proofs.basic.number.Reads as number-reads
 use Rattle.writer_basic.proofs.basic.text_value.Reads as text-value-reads
 use cycle.Lts-value as value-lts
-use of.array.Reads as array
-use of.maybe.Reads as maybe
-use of.structure.Reads as structure
+use of.array.array.Reads as array·array
+use of.maybe.maybe.Reads as maybe·maybe
+use of.structure.structure.Reads as structure·structure
 use of.value.Reads as value
-use of.variant.Reads as variant
+use of.variant.variant.Reads as variant·variant
 
 abbrev value-callees : ℕ → value-lts.Claims
 value-callees t = (
@@ -26,14 +26,14 @@ value-callees t = (
   number-reads.Learnt,
   text-value-reads.Asked,
   text-value-reads.Learnt,
-  maybe-below t,
-  maybe.Post,
-  array-below t,
-  array.Post,
-  structure-below t,
-  structure.Post,
-  variant-below t,
-  variant.Post,
+  maybe·maybe-below t,
+  maybe·maybe.Post,
+  array·array-below t,
+  array·array.Post,
+  structure·structure-below t,
+  structure·structure.Post,
+  variant·variant-below t,
+  variant·variant.Post,
 )
 
 value-enum-told : (t : ℕ) → value-lts.Need-enum-told (value-callees t) (value-at t) value.Post

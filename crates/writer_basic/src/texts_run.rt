@@ -1,0 +1,51 @@
+// Arrays of texts. A text holds nothing further, so that the array is one loop of its own.
+use crate::Run;
+use crate::Spot;
+use crate::basic::text_value;
+use crate::ends::keep;
+use crate::ran;
+use crate::stopped;
+use crate::store::add;
+use meaning::letters::CONTAINER_END;
+use meaning::refusals::NO_VALUE;
+use signature::Letter;
+ghost use mathlib.Core.Bool.{Bool, false};
+ghost use lib.ListN.{length, drop};
+ghost use Rattle.meaning.specs.Depths.{Depths};
+ghost use Rattle.meaning_writing.specs.Writing.{buildMany};
+ghost use Rattle.meaning_writing.specs.Emitting.{emitBasic};
+ghost use Rattle.writer_basic.specs.Wrote.{keyBasic, IsKey, marksOf, DoneAll, Placed};
+
+// Texts one behind another, up to an event that closes. None is padded.
+pub fn texts(
+    code: u8,
+    events: &[u64],
+    texts: &[u8],
+    spot: Spot,
+    out: &mut [u8],
+    ends: &mut [u16],
+) -> Run
+    requires { ⌜ IsKey (Letter.Text code) × Placed (length (now events)) spot ⌝ }
+    ensures { λ r. ⌜ ((big : Bool) (d : Depths) → DoneAll (marksOf false) (buildMany (length (drop (spot .next) (now (events .entry)))) (emitBasic (now (texts .entry)) big (keyBasic (Letter.Text code)) d) (drop (spot .next) (now (events .entry)))) (now (events .entry)) (spot .next) (spot .start) (spot .top) 0 0 (now (out .entry)) (now (out .exit)) (now (ends .entry)) (now (ends .exit)) r) ⌝ }
+{
+    let base = spot.start;
+    let top = spot.top;
+    let mut e = spot.next;
+    let mut k: usize = 0;
+    let mut j: usize = 0;
+    while 3 <= events.len() - e {
+        if events[e] == CONTAINER_END {
+            return ran(e, k, j);
+        }
+        let start = add(base, k);
+        let r = text_value(events, texts, e, code, out, start);
+        let refusal = r.refusal;
+        if refusal != 0 {
+            return stopped(refusal);
+        }
+        k = add(k, r.size);
+        e = r.next;
+        j = keep(out, ends, top, j, k, false);
+    }
+    stopped(NO_VALUE)
+}

@@ -348,7 +348,8 @@ module _ (x : Built Piece) (t : Tree) (ns : List ℕ) (i start top : ℕ) (l l�
       let f = m .facts in
       let n = length-append (m .piece .bytes) (0 ∷ text) in
       let v : mapped {B = (u : Tree) × Piece} (λ v. (t, v)) x ≡ built (t, m .piece) (drop (r .next) ns) = mapped-built _ x (m .piece) (drop (r .next) ns) (m .is ∙ ap (built (m .piece)) (f .behind)) in
-      let y : mapped variantOf (sealed (mapped {B = (u : Tree) × Piece} (λ v. (t, v)) x)) ≡ built (variantPiece t (m .piece)) (drop (r .next + 3) ns) = mapped-built variantOf _ (t, m .piece) (drop (r .next + 3) ns) (sealed-built _ (t, m .piece) _ v ∙ onPlain-at (λ q. built (t, m .piece) q) (o .here e)) in
+      let y : mapped variantOf (sealed (mapped {B = (u : Tree) × Piece} (λ v. (t, v)) x)) ≡ built (variantPiece t (m .piece)) (drop (r .next + 3) ns) =
+      mapped-built variantOf _ (t, m .piece) (drop (r .next + 3) ns) (sealed-built _ (t, m .piece) _ v ∙ onPlain-at (λ q. built (t, m .piece) q) (o .here e)) in
       rw y
       (rw k
       (record {

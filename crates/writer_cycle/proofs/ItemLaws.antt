@@ -6,7 +6,8 @@ use mathlib.Core.Bool.{Bool, true, false, _&&_, false≢true}
 use native.Mathlib.Omega.{arith}
 use Prim.Native.Nat.{ℕ, zero, suc, _+_, _-_, _≤_}
 use Rattle.meaning.specs.Letters.{numberLetter}
-use Rattle.meaning.specs.Types.{Number as NumberType, numberWidth, byte, int16, uint16, int32, uint32, int64, uint64, double, string, objectPath, signature, Basic, bool, number, text, Tree, Fields, basic, variant, maybe, array, dictionary, structure, basicFixed, alignment, fixed, largestAlignment, allFixed, entryAlignment, entryFixed}
+use Rattle.meaning.specs.Types.{Number as NumberType, numberWidth, byte, int16, uint16, int32, uint32, int64, uint64, double, string, objectPath, signature, Basic, bool, number, text, basicFixed}
+use Rattle.meaning.specs.Types.{Tree, Fields, basic, variant, maybe, array, dictionary, structure, alignment, fixed, largestAlignment, allFixed, entryAlignment, entryFixed}
 use Rattle.meaning.specs.TypeText.{basicAmong}
 use Rattle.meaning.specs.Written.{Piece}
 use Rattle.meaning.proofs.TypeLaws.{aligned}

@@ -79,7 +79,7 @@ begins-not {A} signature at t k e h = go (treeAt signature at) (shown signature 
     go (structure us) w = other OpenStructure (w .letter) refl
 
 abbrev notNamed : List ℕ
-notNamed = 9 ∷ 10 ∷ 11 ∷ []
+notNamed = 9 ∷ 10 ∷ []
 
 module _ (signature : List ℕ) (at : ℕ) (t : Typed signature at) (texts : List ℕ) (big : Bool) (d : ContainerDepths) (ns : List ℕ) (i start top : ℕ) (l l′ s s′ : List ℕ) (r : Answer) where
   abbrev Here : Type 0

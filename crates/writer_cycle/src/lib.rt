@@ -23,8 +23,8 @@ ghost use Rattle.signature.specs.Trees.{treeAt, Described};
 ghost use Rattle.writer_basic.specs.Wrote.{Shallow, Placed};
 ghost use Rattle.writer_cycle.specs.Places.{WroteAt, valueIn};
 
-// The value of a type. `array`, `structure` and `variant` are called twice, so that each keeps its own stack frame; no type begins with the
-// letters of the second calls.
+// The value of a type. Each container is called twice, so that it keeps its own stack frame; no type begins with the letters of the second
+// calls.
 pub fn value(
     text: &[u8],
     shapes: &[u16],
@@ -61,6 +61,7 @@ pub fn value(
         ),
         Letter::Bad => array(text, shapes, shape, events, texts, context, spot, out, ends),
         Letter::End => structure(text, shapes, shape, events, texts, context, spot, out, ends),
+        Letter::CloseEntry => maybe(text, shapes, shape, events, texts, context, spot, out, ends),
         Letter::Variant => variant(events, texts, context, spot, out, ends),
         _ => variant(events, texts, context, spot, out, ends),
     }

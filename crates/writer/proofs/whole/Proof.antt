@@ -27,7 +27,11 @@ slice-aggregate-value c = search needs
 
 -- src/lib.rt:87:5
 value-requires : tie.Need-value-requires
-value-requires c κs = (described-as (c .before .before .shape-in .ensures) (front-described _ _ (c .before .before .before .before .before .before .before .before .before .pre .1) (front _ (c .before .before .before .before .before .before .before .before .before .pre .0))), start-shallow _ _ (c .before .before .before .new .ensures), record { within = omega arith; near = omega arith; few = omega arith })
+value-requires c κs =
+    let at-shape-in = c .before .before in
+    let at-new = at-shape-in .before in
+    let start = at-new .before .before .before .before .before .before in
+    (described-as (at-shape-in .shape-in .ensures) (front-described _ _ (start .pre .1) (front _ (start .pre .0))), start-shallow _ _ (at-new .new .ensures), record { within = omega arith; near = omega arith; few = omega arith })
 
 -- src/lib.rt:67:1
 same-length : tie.Need-same-length

@@ -40,7 +40,10 @@ slice-aggregate-whole-2 c = search needs
 
 -- src/lib.rt:40:9
 whole-requires : tie.Need-whole-requires
-whole-requires c κs = ((table-type _ _ _ _ refl (c .before .before .before .before .shapes-of .ensures) (not-false _ (c .before .before .if1 .left))), (table-filled _ _ _ _ refl (c .before .before .before .before .shapes-of .ensures) (c .before .before .before .before .shapes-of .kept .1 .0) (not-false _ (c .before .before .if1 .left))))
+whole-requires c κs =
+    let at-if1 = c .before .before in
+    let at-shapes-of = at-if1 .before .before in
+    ((table-type _ _ _ _ refl (at-shapes-of .shapes-of .ensures) (not-false _ (at-if1 .if1 .left))), (table-filled _ _ _ _ refl (at-shapes-of .shapes-of .ensures) (at-shapes-of .shapes-of .kept .1 .0) (not-false _ (at-if1 .if1 .left))))
 
 -- src/lib.rt:44:9
 unwritten-requires-2 : tie.Need-unwritten-requires-2
@@ -48,7 +51,12 @@ unwritten-requires-2 c κs = search needs
 
 -- src/lib.rt:44:9
 returns-2 : tie.Need-returns-2
-returns-2 c = rw (c .unwritten2 .ensures) (write-fault _ _ _ _ _ (table-type _ _ _ _ refl (c .before .before .before .before .before .before .before .before .shapes-of .ensures) (not-false _ (c .before .before .before .before .before .before .if1 .left))) _ _ _ (c .before .before .before .whole .ensures) (c .before .if2 .taken))
+returns-2 c =
+    let at-if2 = c .before in
+    let at-whole = at-if2 .before .before in
+    let at-if1 = at-whole .before .before .before in
+    let at-shapes-of = at-if1 .before .before in
+    rw (c .unwritten2 .ensures) (write-fault _ _ _ _ _ (table-type _ _ _ _ refl (at-shapes-of .shapes-of .ensures) (not-false _ (at-if1 .if1 .left))) _ _ _ (at-whole .whole .ensures) (at-if2 .if2 .taken))
 
 -- src/lib.rt:47:9
 unwritten-requires-3 : tie.Need-unwritten-requires-3
@@ -56,7 +64,13 @@ unwritten-requires-3 c κs = search needs
 
 -- src/lib.rt:47:9
 returns-3 : tie.Need-returns-3
-returns-3 c = rw (c .unwritten3 .ensures) (write-left _ _ _ _ _ (table-type _ _ _ _ refl (c .before .before .before .before .before .before .before .before .before .before .shapes-of .ensures) (not-false _ (c .before .before .before .before .before .before .before .before .if1 .left))) _ _ _ (c .before .before .before .before .before .whole .ensures) (c .before .before .before .if2 .left) (c .before .if3 .taken))
+returns-3 c =
+    let at-if3 = c .before in
+    let at-if2 = at-if3 .before .before in
+    let at-whole = at-if2 .before .before in
+    let at-if1 = at-whole .before .before .before in
+    let at-shapes-of = at-if1 .before .before in
+    rw (c .unwritten3 .ensures) (write-left _ _ _ _ _ (table-type _ _ _ _ refl (at-shapes-of .shapes-of .ensures) (not-false _ (at-if1 .if1 .left))) _ _ _ (at-whole .whole .ensures) (at-if2 .if2 .left) (at-if3 .if3 .taken))
 
 -- src/lib.rt:50:9
 unwritten-requires-4 : tie.Need-unwritten-requires-4
@@ -64,7 +78,15 @@ unwritten-requires-4 c κs = search needs
 
 -- src/lib.rt:50:9
 returns-4 : tie.Need-returns-4
-returns-4 c = rw (c .unwritten4 .ensures) (write-long _ _ _ _ _ (table-type _ _ _ _ refl (c .before .before .before .before .before .before .before .before .before .before .before .shapes-of .ensures) (not-false _ (c .before .before .before .before .before .before .before .before .before .if1 .left))) _ _ _ (c .before .before .before .before .before .before .whole .ensures) (c .before .before .before .before .if2 .left) (c .before .before .if3 .left) (c .before .if4 .taken))
+returns-4 c =
+    let at-if4 = c .before in
+    let at-if3 = at-if4 .before in
+    let at-if2 = at-if3 .before .before in
+    let at-whole = at-if2 .before .before in
+    let at-if1 = at-whole .before .before .before in
+    let at-shapes-of = at-if1 .before .before in
+    rw (c .unwritten4 .ensures)
+    (write-long _ _ _ _ _ (table-type _ _ _ _ refl (at-shapes-of .shapes-of .ensures) (not-false _ (at-if1 .if1 .left))) _ _ _ (at-whole .whole .ensures) (at-if2 .if2 .left) (at-if3 .if3 .left) (at-if4 .if4 .taken))
 
 -- src/lib.rt:53:9
 unwritten-requires-5 : tie.Need-unwritten-requires-5
@@ -72,7 +94,16 @@ unwritten-requires-5 c κs = search needs
 
 -- src/lib.rt:53:9
 returns-5 : tie.Need-returns-5
-returns-5 c = rw (c .unwritten5 .ensures) (write-full _ _ _ _ _ (table-type _ _ _ _ refl (c .before .before .before .before .before .before .before .before .before .before .before .before .shapes-of .ensures) (not-false _ (c .before .before .before .before .before .before .before .before .before .before .if1 .left))) _ _ _ (c .before .before .before .before .before .before .before .whole .ensures) (c .before .before .before .before .before .if2 .left) (c .before .before .before .if3 .left) (c .before .before .if4 .left) (c .before .if5 .taken))
+returns-5 c =
+    let at-if5 = c .before in
+    let at-if4 = at-if5 .before in
+    let at-if3 = at-if4 .before in
+    let at-if2 = at-if3 .before .before in
+    let at-whole = at-if2 .before .before in
+    let at-if1 = at-whole .before .before .before in
+    let at-shapes-of = at-if1 .before .before in
+    rw (c .unwritten5 .ensures)
+    (write-full _ _ _ _ _ (table-type _ _ _ _ refl (at-shapes-of .shapes-of .ensures) (not-false _ (at-if1 .if1 .left))) _ _ _ (at-whole .whole .ensures) (at-if2 .if2 .left) (at-if3 .if3 .left) (at-if4 .if4 .left) (at-if5 .if5 .taken))
 
 -- src/lib.rt:55:22
 slice-aggregate-whole-3 : tie.Need-slice-aggregate-whole-3
@@ -88,7 +119,10 @@ slice-aggregate-whole-4 c = sym (length-take-le _ _ (c .before .before .if5 .lef
 
 -- src/lib.rt:55:5
 whole-requires-2 : tie.Need-whole-requires-2
-whole-requires-2 c κs = ((table-type _ _ _ _ refl (c .before .before .before .before .before .before .before .before .before .before .before .before .before .shapes-of .ensures) (not-false _ (c .before .before .before .before .before .before .before .before .before .before .before .if1 .left))), (table-filled _ _ _ _ refl (c .before .before .before .before .before .before .before .before .before .before .before .before .before .shapes-of .ensures) (c .before .before .before .before .before .before .before .before .before .before .before .before .before .shapes-of .kept .1 .0) (not-false _ (c .before .before .before .before .before .before .before .before .before .before .before .if1 .left))))
+whole-requires-2 c κs =
+    let at-if1 = c .before .before .before .before .before .before .before .before .before .before .before in
+    let at-shapes-of = at-if1 .before .before in
+    ((table-type _ _ _ _ refl (at-shapes-of .shapes-of .ensures) (not-false _ (at-if1 .if1 .left))), (table-filled _ _ _ _ refl (at-shapes-of .shapes-of .ensures) (at-shapes-of .shapes-of .kept .1 .0) (not-false _ (at-if1 .if1 .left))))
 
 -- src/lib.rt:31:1
 same-length : tie.Need-same-length
@@ -96,7 +130,17 @@ same-length c = search needs
 
 -- src/lib.rt:31:1
 returns-6 : tie.Need-returns-6
-returns-6 c = write-done _ _ _ _ _ (table-type _ _ _ _ refl (c .before .before .before .before .before .before .before .before .before .before .before .before .before .before .before .before .shapes-of .ensures) (not-false _ (c .before .before .before .before .before .before .before .before .before .before .before .before .before .before .if1 .left))) _ _ _ (c .before .before .before .before .before .before .before .before .before .before .before .whole .ensures) (c .before .before .before .before .before .before .before .before .before .if2 .left) (c .before .before .before .before .before .before .before .if3 .left) (c .before .before .before .before .before .before .if4 .left) _ _ _ (length-take-le _ _ (c .before .before .before .before .before .if5 .left)) (c .before .before .before .before .before .if5 .left) (c .before .before .whole2 .ensures)
+returns-6 c =
+    let at-whole2 = c .before .before in
+    let at-if5 = at-whole2 .before .before .before in
+    let at-if4 = at-if5 .before in
+    let at-if3 = at-if4 .before in
+    let at-if2 = at-if3 .before .before in
+    let at-whole = at-if2 .before .before in
+    let at-if1 = at-whole .before .before .before in
+    let at-shapes-of = at-if1 .before .before in
+    write-done _ _ _ _ _ (table-type _ _ _ _ refl (at-shapes-of .shapes-of .ensures) (not-false _ (at-if1 .if1 .left))) _ _ _ (at-whole .whole .ensures) (at-if2 .if2 .left) (at-if3 .if3 .left) (at-if4 .if4 .left) _ _ _
+    (length-take-le _ _ (at-if5 .if5 .left)) (at-if5 .if5 .left) (at-whole2 .whole2 .ensures)
 
 pub write-spec : {M : Type 1} → statement M
 write-spec =

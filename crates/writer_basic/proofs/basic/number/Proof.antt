@@ -68,7 +68,13 @@ refused-requires-3 c κs = search needs
 
 -- src/basic.rt:158:9
 returns-3 : tie.Need-returns-3
-returns-3 c = λ n texts d top s e f. rw (c .refused3 .ensures) (number-large texts _ d _ _ _ top _ s n _ _ _ f (omega arith) (c .before .before .before .before .if2 .left ∙ c .before .before .before .before .before .code-of .ensures ∙ e) (c .before .before .suits .ensures) (not-true _ (c .before .if3 .taken)))
+returns-3 c =
+    let at-if3 = c .before in
+    let at-suits = at-if3 .before in
+    let at-if2 = at-suits .before .before in
+    let at-code-of = at-if2 .before in
+    λ n texts d top s e f. rw (c .refused3 .ensures)
+    (number-large texts _ d _ _ _ top _ s n _ _ _ f (omega arith) (at-if2 .if2 .left ∙ at-code-of .code-of .ensures ∙ e) (at-suits .suits .ensures) (not-true _ (at-if3 .if3 .taken)))
 
 -- src/basic.rt:160:5
 number-bytes-requires : tie.Need-number-bytes-requires
@@ -88,7 +94,14 @@ same-length c = search needs
 
 -- src/basic.rt:138:1
 returns-4 : tie.Need-returns-4
-returns-4 c = λ n texts d top s e f. rw (c .wrote .ensures) (number-made texts _ d _ _ _ top _ s n _ _ _ f (omega arith) (c .before .before .before .before .before .before .before .before .if2 .left ∙ c .before .before .before .before .before .before .before .before .before .code-of .ensures ∙ e) (c .before .before .before .before .before .before .suits .ensures) (not-false _ (c .before .before .before .before .before .if3 .left)) (c .before .before .before .number-bytes .ensures))
+returns-4 c =
+    let at-number-bytes = c .before .before .before in
+    let at-if3 = at-number-bytes .before .before in
+    let at-suits = at-if3 .before in
+    let at-if2 = at-suits .before .before in
+    let at-code-of = at-if2 .before in
+    λ n texts d top s e f. rw (c .wrote .ensures)
+    (number-made texts _ d _ _ _ top _ s n _ _ _ f (omega arith) (at-if2 .if2 .left ∙ at-code-of .code-of .ensures ∙ e) (at-suits .suits .ensures) (not-false _ (at-if3 .if3 .left)) (at-number-bytes .number-bytes .ensures))
 
 pub number-spec : {M : Type 1} → statement M
 number-spec =

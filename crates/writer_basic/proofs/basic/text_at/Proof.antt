@@ -116,11 +116,23 @@ unseen-requires-5 c κs = search needs
 
 -- src/basic.rt:98:9
 returns-5 : tie.Need-returns-5
-returns-5 c = rw (c .unseen5 .ensures) (viewed-unsound _ _ _ _ _ _ (c .before .before .before .before .before .before .before .before .place-of .ensures) (c .before .before .before .before .before .before .place-of2 .ensures) (omega arith) (c .before .before .before .before .before .before .before .before .before .before .if2 .left) (omega arith) _ (c .before .before .text-refusal .ensures) (c .before .if5 .taken))
+returns-5 c =
+    let at-if5 = c .before in
+    let at-text-refusal = at-if5 .before in
+    let at-place-of2 = at-text-refusal .before .before .before .before in
+    let at-place-of = at-place-of2 .before .before in
+    let at-if2 = at-place-of .before .before in
+    rw (c .unseen5 .ensures)
+    (viewed-unsound _ _ _ _ _ _ (at-place-of .place-of .ensures) (at-place-of2 .place-of2 .ensures) (omega arith) (at-if2 .if2 .left) (omega arith) _ (at-text-refusal .text-refusal .ensures) (at-if5 .if5 .taken))
 
 -- src/basic.rt:77:1
 returns-6 : tie.Need-returns-6
-returns-6 c = viewed-right _ _ _ _ _ _ (c .before .before .before .before .before .before .before .place-of .ensures) (c .before .before .before .before .before .place-of2 .ensures) (omega arith) (c .before .before .before .before .before .before .before .before .before .if2 .left) (omega arith) _ (c .before .text-refusal .ensures) (c .if5 .left)
+returns-6 c =
+    let at-text-refusal = c .before in
+    let at-place-of2 = at-text-refusal .before .before .before .before in
+    let at-place-of = at-place-of2 .before .before in
+    let at-if2 = at-place-of .before .before in
+    viewed-right _ _ _ _ _ _ (at-place-of .place-of .ensures) (at-place-of2 .place-of2 .ensures) (omega arith) (at-if2 .if2 .left) (omega arith) _ (at-text-refusal .text-refusal .ensures) (c .if5 .left)
 
 pub text-at-spec : {M : Type 1} → statement M
 text-at-spec =

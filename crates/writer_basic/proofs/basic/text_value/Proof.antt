@@ -53,7 +53,11 @@ copy-requires c κs = search needs
 
 -- src/basic.rt:184:9
 add-requires : tie.Need-add-requires
-add-requires c κs = (omega (arith, c .before .before .before .before .before .before .before .before .before .before .before .pre .1), let q = c .before .before .before .before .before .before .text-at .ensures .taken (c .before .before .before .before .before .if1 .left) in omega (arith, q .inside, c .before .before .before .before .before .before .before .before .before .before .before .good .1 .0 .1))
+add-requires c κs =
+    let at-if1 = c .before .before .before .before .before in
+    let at-text-at = at-if1 .before in
+    let start = at-text-at .before .before .before .before .before in
+    (omega (arith, start .pre .1), let q = at-text-at .text-at .ensures .taken (at-if1 .if1 .left) in omega (arith, q .inside, start .good .1 .0 .1))
 
 -- src/basic.rt:185:5
 put-requires : tie.Need-put-requires
@@ -65,7 +69,11 @@ add-wrote c = search needs
 
 -- src/basic.rt:186:18
 add-requires-2 : tie.Need-add-requires-2
-add-requires-2 c κs = (omega arith, let q = c .before .before .before .before .before .before .before .before .before .before .before .text-at .ensures .taken (c .before .before .before .before .before .before .before .before .before .before .if1 .left) in omega (arith, q .inside, c .before .before .before .before .before .before .before .before .before .before .before .before .before .before .before .before .good .1 .0 .1))
+add-requires-2 c κs =
+    let at-if1 = c .before .before .before .before .before .before .before .before .before .before in
+    let at-text-at = at-if1 .before in
+    let start = at-text-at .before .before .before .before .before in
+    (omega arith, let q = at-text-at .text-at .ensures .taken (at-if1 .if1 .left) in omega (arith, q .inside, start .good .1 .0 .1))
 
 -- src/basic.rt:186:5
 wrote-requires : tie.Need-wrote-requires
@@ -77,7 +85,16 @@ same-length c = search needs
 
 -- src/basic.rt:164:1
 returns-2 : tie.Need-returns-2
-returns-2 c = λ n big d top s e. rw (c .wrote .ensures) (text-made _ big d _ _ _ top _ s n _ _ _ _ _ _ _ (c .before .before .before .before .before .before .before .before .before .before .before .before .before .before .code-of .ensures ∙ e) (c .before .before .before .before .before .before .before .before .before .before .before .before .before .text-at .ensures .taken (c .before .before .before .before .before .before .before .before .before .before .before .before .if1 .left)) (c .before .before .before .before .before .before .before .before .before .copy .ensures) (c .before .before .before .before .before .before .add .ensures) (c .before .before .before .before .put .ensures) (c .before .add2 .ensures))
+returns-2 c =
+    let at-add2 = c .before in
+    let at-put = at-add2 .before .before .before in
+    let at-add = at-put .before .before in
+    let at-copy = at-add .before .before .before in
+    let at-if1 = at-copy .before .before .before in
+    let at-text-at = at-if1 .before in
+    let at-code-of = at-text-at .before in
+    λ n big d top s e. rw (c .wrote .ensures)
+    (text-made _ big d _ _ _ top _ s n _ _ _ _ _ _ _ (at-code-of .code-of .ensures ∙ e) (at-text-at .text-at .ensures .taken (at-if1 .if1 .left)) (at-copy .copy .ensures) (at-add .add .ensures) (at-put .put .ensures) (at-add2 .add2 .ensures))
 
 pub text-value-spec : {M : Type 1} → statement M
 text-value-spec =

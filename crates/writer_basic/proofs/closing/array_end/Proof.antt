@@ -38,15 +38,27 @@ add-table c = omega (arith, c .before .before .before .before .before .before .p
 
 -- src/closing.rt:87:5
 table-requires : tie.Need-table-requires
-table-requires c κs = let a = c .before .before .before .before .before .before .before .pre .2 (c .before .before .before .before .if1 .left) in let b = c .before .before .before .before .before .before .before .pre .3 (c .before .before .before .before .if1 .left) in let w = c .before .before .width .ensures .2 in (omega arith, omega arith, c .before .before .before .before .before .before .before .pre .1, b)
+table-requires c κs =
+    let at-width = c .before .before in
+    let at-if1 = at-width .before .before in
+    let start = at-if1 .before .before .before in
+    let a = start .pre .2 (at-if1 .if1 .left) in let b = start .pre .3 (at-if1 .if1 .left) in let w = at-width .width .ensures .2 in (omega arith, omega arith, start .pre .1, b)
 
 -- src/closing.rt:88:29
 mul-add : tie.Need-mul-add
-mul-add c = let b = c .before .before .before .before .before .before .before .before .before .before .before .before .pre .3 (c .before .before .before .before .before .before .before .before .before .if1 .left) in omega (arith, product (c .before .before .before .before .before .before .before .before .before .before .before .before .args .r .count) (c .before .before .before .before .before .before .before .width .result) (c .before .before .before .before .before .before .before .width .ensures .2))
+mul-add c =
+    let at-width = c .before .before .before .before .before .before .before in
+    let at-if1 = at-width .before .before in
+    let start = at-if1 .before .before .before in
+    let b = start .pre .3 (at-if1 .if1 .left) in omega (arith, product (start .args .r .count) (at-width .width .result) (at-width .width .ensures .2))
 
 -- src/closing.rt:88:19
 add-requires : tie.Need-add-requires
-add-requires c κs = (omega (arith, c .before .before .before .before .before .before .before .before .before .before .before .before .pre .2 (c .before .before .before .before .before .before .before .before .before .if1 .left)), omega (arith, c .before .before .before .before .before .before .before .before .before .before .before .before .pre .3 (c .before .before .before .before .before .before .before .before .before .if1 .left), product (c .before .before .before .before .before .before .before .before .before .before .before .before .args .r .count) (c .before .before .before .before .before .before .before .width .result) (c .before .before .before .before .before .before .before .width .ensures .2)))
+add-requires c κs =
+    let at-width = c .before .before .before .before .before .before .before in
+    let at-if1 = at-width .before .before in
+    let start = at-if1 .before .before .before in
+    (omega (arith, start .pre .2 (at-if1 .if1 .left)), omega (arith, start .pre .3 (at-if1 .if1 .left), product (start .args .r .count) (at-width .width .result) (at-width .width .ensures .2)))
 
 -- src/closing.rt:88:5
 wrote-requires-2 : tie.Need-wrote-requires-2
@@ -62,7 +74,14 @@ same-length-2 c = search needs
 
 -- src/closing.rt:66:1
 returns-3 : tie.Need-returns-3
-returns-3 c = λ x ns kind a i l s n m d. rw (c .wrote2 .ensures) (array-table x ns kind a i _ _ l _ s _ _ _ d _ _ _ _ (c .before .before .before .before .before .before .before .before .before .before .before .if1 .left) (c .before .before .before .before .before .before .before .before .before .before .if2 .left) (c .before .before .before .before .before .before .before .before .before .width .ensures .0) (c .before .add .ensures) (c .before .before .before .before .before .before .table .ensures) n m)
+returns-3 c =
+    let at-add = c .before in
+    let at-table = at-add .before .before .before .before .before in
+    let at-width = at-table .before .before .before in
+    let at-if2 = at-width .before in
+    let at-if1 = at-if2 .before in
+    λ x ns kind a i l s n m d. rw (c .wrote2 .ensures)
+    (array-table x ns kind a i _ _ l _ s _ _ _ d _ _ _ _ (at-if1 .if1 .left) (at-if2 .if2 .left) (at-width .width .ensures .0) (at-add .add .ensures) (at-table .table .ensures) n m)
 
 pub array-end-spec : {M : Type 1} → statement M
 array-end-spec =

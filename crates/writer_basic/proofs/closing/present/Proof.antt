@@ -40,7 +40,12 @@ same-length c = search needs
 
 -- src/closing.rt:33:1
 returns-3 : tie.Need-returns-3
-returns-3 c = λ x ns a i top l s s′ n d. rw (c .wrote .ensures) (present-other a i _ top _ d _ _ (c .before .before .before .before .before .before .before .if1 .left) (c .before .before .before .before .before .before .if2 .left) (c .before .before .before .before .put .ensures) (c .before .add .ensures) n)
+returns-3 c =
+    let at-add = c .before in
+    let at-put = at-add .before .before .before in
+    let at-if2 = at-put .before .before in
+    let at-if1 = at-if2 .before in
+    λ x ns a i top l s s′ n d. rw (c .wrote .ensures) (present-other a i _ top _ d _ _ (at-if1 .if1 .left) (at-if2 .if2 .left) (at-put .put .ensures) (at-add .add .ensures) n)
 
 pub present-spec : {M : Type 1} → statement M
 present-spec =

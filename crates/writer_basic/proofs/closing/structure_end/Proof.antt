@@ -43,7 +43,13 @@ same-length c = search needs
 
 -- src/closing.rt:112:9
 returns-2 : tie.Need-returns-2
-returns-2 c = λ P x ns i k l s st no fw n m d. rw (c .wrote .ensures) (structure-padded P x ns _ i k _ _ l _ s _ _ d (c .before .before .before .before .before .before .before .if1 .left) (fw (c .before .before .before .before .before .before .before .if1 .left)) n (rw (c .before .before .before .before .before .before .if2 .taken) at st) (no (c .before .before .before .before .before .before .if2 .taken)) _ _ _ (c .before .before .before .before .pad .ensures .0 .0) (c .before .add .ensures) (c .before .before .before .before .pad .ensures .1))
+returns-2 c =
+    let at-add = c .before in
+    let at-pad = at-add .before .before .before in
+    let at-if2 = at-pad .before .before in
+    let at-if1 = at-if2 .before in
+    λ P x ns i k l s st no fw n m d. rw (c .wrote .ensures)
+    (structure-padded P x ns _ i k _ _ l _ s _ _ d (at-if1 .if1 .left) (fw (at-if1 .if1 .left)) n (rw (at-if2 .if2 .taken) at st) (no (at-if2 .if2 .taken)) _ _ _ (at-pad .pad .ensures .0 .0) (at-add .add .ensures) (at-pad .pad .ensures .1))
 
 -- src/closing.rt:114:9
 width-requires : tie.Need-width-requires
@@ -55,15 +61,27 @@ add-back-table c = omega (arith, c .before .before .before .before .before .befo
 
 -- src/closing.rt:115:5
 back-table-requires : tie.Need-back-table-requires
-back-table-requires c κs = let a = c .before .before .before .before .before .before .pre .3 (c .before .before .before .if1 .left) in let b = c .before .before .before .before .before .before .pre .4 (c .before .before .before .if1 .left) in let w = c .before .width .ensures .2 in (omega arith, omega arith, c .before .before .before .before .before .before .pre .1, b)
+back-table-requires c κs =
+    let at-width = c .before in
+    let at-if1 = at-width .before .before in
+    let start = at-if1 .before .before .before in
+    let a = start .pre .3 (at-if1 .if1 .left) in let b = start .pre .4 (at-if1 .if1 .left) in let w = at-width .width .ensures .2 in (omega arith, omega arith, start .pre .1, b)
 
 -- src/closing.rt:116:29
 mul-add : tie.Need-mul-add
-mul-add c = let b = c .before .before .before .before .before .before .before .before .before .pre .4 (c .before .before .before .before .before .before .if1 .left) in omega (arith, product (c .before .before .before .before .before .before .before .before .before .args .r .count) (c .before .before .before .before .width .result) (c .before .before .before .before .width .ensures .2))
+mul-add c =
+    let at-width = c .before .before .before .before in
+    let at-if1 = at-width .before .before in
+    let start = at-if1 .before .before .before in
+    let b = start .pre .4 (at-if1 .if1 .left) in omega (arith, product (start .args .r .count) (at-width .width .result) (at-width .width .ensures .2))
 
 -- src/closing.rt:116:19
 add-requires-2 : tie.Need-add-requires-2
-add-requires-2 c κs = (omega (arith, c .before .before .before .before .before .before .before .before .before .pre .3 (c .before .before .before .before .before .before .if1 .left)), omega (arith, c .before .before .before .before .before .before .before .before .before .pre .4 (c .before .before .before .before .before .before .if1 .left), product (c .before .before .before .before .before .before .before .before .before .args .r .count) (c .before .before .before .before .width .result) (c .before .before .before .before .width .ensures .2)))
+add-requires-2 c κs =
+    let at-width = c .before .before .before .before in
+    let at-if1 = at-width .before .before in
+    let start = at-if1 .before .before .before in
+    (omega (arith, start .pre .3 (at-if1 .if1 .left)), omega (arith, start .pre .4 (at-if1 .if1 .left), product (start .args .r .count) (at-width .width .result) (at-width .width .ensures .2)))
 
 -- src/closing.rt:116:5
 wrote-requires-2 : tie.Need-wrote-requires-2
@@ -75,7 +93,14 @@ same-length-2 c = search needs
 
 -- src/closing.rt:92:1
 returns-3 : tie.Need-returns-3
-returns-3 c = λ P x ns i k l s st no fw n m d. rw (c .wrote2 .ensures) (structure-table P x ns _ i k _ _ l _ s _ _ d (c .before .before .before .before .before .before .before .before .if1 .left) (fw (c .before .before .before .before .before .before .before .before .if1 .left)) n (rw (c .before .before .before .before .before .before .before .if2 .left) at st) _ _ _ (c .before .before .before .before .before .before .width .ensures .0) (c .before .add2 .ensures) (c .before .before .before .before .back-table .ensures) m)
+returns-3 c =
+    let at-add2 = c .before in
+    let at-back-table = at-add2 .before .before .before in
+    let at-width = at-back-table .before .before in
+    let at-if2 = at-width .before in
+    let at-if1 = at-if2 .before in
+    λ P x ns i k l s st no fw n m d. rw (c .wrote2 .ensures)
+    (structure-table P x ns _ i k _ _ l _ s _ _ d (at-if1 .if1 .left) (fw (at-if1 .if1 .left)) n (rw (at-if2 .if2 .left) at st) _ _ _ (at-width .width .ensures .0) (at-add2 .add2 .ensures) (at-back-table .back-table .ensures) m)
 
 pub structure-end-spec : {M : Type 1} → statement M
 structure-end-spec =

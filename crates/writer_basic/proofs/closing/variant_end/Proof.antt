@@ -63,7 +63,10 @@ add-add c = search needs
 
 -- src/closing.rt:142:32
 add-requires : tie.Need-add-requires
-add-requires c κs = (omega (arith, c .before .before .before .before .before .before .before .before .before .before .before .before .before .before .before .pre .1 (c .before .before .before .before .before .before .before .before .before .before .before .if1 .left)), omega (arith, c .before .before .before .before .before .before .before .before .before .before .before .before .before .before .before .pre .5))
+add-requires c κs =
+    let at-if1 = c .before .before .before .before .before .before .before .before .before .before .before in
+    let start = at-if1 .before .before .before .before in
+    (omega (arith, start .pre .1 (at-if1 .if1 .left)), omega (arith, start .pre .5))
 
 -- src/closing.rt:142:9
 wrote-requires : tie.Need-wrote-requires
@@ -75,7 +78,16 @@ same-length c = search needs
 
 -- src/closing.rt:142:9
 returns-2 : tie.Need-returns-2
-returns-2 c = λ x t i top l s s′ k n d. rw (c .wrote .ensures) (value-shut x t _ i _ top l _ s s′ _ d _ _ _ _ _ _ (c .before .before .before .before .before .before .before .before .before .before .before .before .before .if1 .left) (c .before .before .before .before .before .before .before .before .before .before .before .before .plain-at .ensures) (c .before .before .before .before .before .before .before .before .before .before .before .if2 .taken) k (part-length _ _ _ (c .before .before .before .before .before .before .before .before .before .before .before .before .before .before .before .before .before .pre .3) (c .before .before .before .before .before .before .before .before .before .before .before .before .before .before .before .before .before .pre .4)) (c .before .before .before .before .before .before .before .before .before .put .ensures) (c .before .before .before .before .copy .ensures) (c .before .add .ensures) n)
+returns-2 c =
+    let at-add = c .before in
+    let at-copy = at-add .before .before .before in
+    let at-put = at-copy .before .before .before .before .before in
+    let at-if2 = at-put .before .before in
+    let at-plain-at = at-if2 .before in
+    let at-if1 = at-plain-at .before in
+    let start = at-if1 .before .before .before .before in
+    λ x t i top l s s′ k n d. rw (c .wrote .ensures)
+    (value-shut x t _ i _ top l _ s s′ _ d _ _ _ _ _ _ (at-if1 .if1 .left) (at-plain-at .plain-at .ensures) (at-if2 .if2 .taken) k (part-length _ _ _ (start .pre .3) (start .pre .4)) (at-put .put .ensures) (at-copy .copy .ensures) (at-add .add .ensures) n)
 
 -- src/closing.rt:144:5
 refused-requires : tie.Need-refused-requires

@@ -49,7 +49,12 @@ loop-less c = omega arith
 
 -- src/ends.rt:132:5
 loop-again : tie.Need-loop-again Inv-loop μ-loop
-loop-again c = back-next (c .before .before .before .before .before .before .before .loop .inv) _ _ _ (omega arith) refl (c .before .before .before .before .end-at .ensures) (c .before .before .digits .ensures) (c .before .before .before .before .before .before .before .before .before .before .before .pre .1)
+loop-again c =
+    let at-digits = c .before .before in
+    let at-end-at = at-digits .before .before in
+    let at-loop = at-end-at .before .before .before in
+    let start = at-loop .before .before .before .before in
+    back-next (at-loop .loop .inv) _ _ _ (omega arith) refl (at-end-at .end-at .ensures) (at-digits .digits .ensures) (start .pre .1)
 
 -- src/ends.rt:123:1
 same-length : tie.Need-same-length Inv-loop μ-loop

@@ -53,15 +53,24 @@ put-end-requires c κs = omega (arith, c .before .before .before .before .before
 
 -- src/ends.rt:117:28
 add-put-end-2 : tie.Need-add-put-end-2 Inv-loop μ-loop
-add-put-end-2 c = omega (arith, c .before .before .before .before .before .before .before .before .before .before .before .before .before .before .before .before .loop .inv .sum-is, c .before .before .before .before .before .before .before .before .before .before .before .before .before .before .before .before .before .before .before .pre)
+add-put-end-2 c =
+    let at-loop = c .before .before .before .before .before .before .before .before .before .before .before .before .before .before .before .before in
+    let start = at-loop .before .before .before in
+    omega (arith, at-loop .loop .inv .sum-is, start .pre)
 
 -- src/ends.rt:117:9
 put-end-requires-2 : tie.Need-put-end-requires-2 Inv-loop μ-loop
-put-end-requires-2 c κs = omega (arith, c .before .before .before .before .before .before .before .before .before .before .before .before .before .before .before .before .loop .inv .sum-is, c .before .before .before .before .before .before .before .before .before .before .before .before .before .before .before .before .before .before .before .pre)
+put-end-requires-2 c κs =
+    let at-loop = c .before .before .before .before .before .before .before .before .before .before .before .before .before .before .before .before in
+    let start = at-loop .before .before .before in
+    omega (arith, at-loop .loop .inv .sum-is, start .pre)
 
 -- src/ends.rt:118:13
 add-i : tie.Need-add-i Inv-loop μ-loop
-add-i c = omega (arith, c .before .before .before .before .before .before .before .before .before .before .before .before .before .before .before .before .before .before .before .before .before .loop .inv .sum-is, c .before .before .before .before .before .before .before .before .before .before .before .before .before .before .before .before .before .before .before .before .before .before .before .before .pre)
+add-i c =
+    let at-loop = c .before .before .before .before .before .before .before .before .before .before .before .before .before .before .before .before .before .before .before .before .before in
+    let start = at-loop .before .before .before in
+    omega (arith, at-loop .loop .inv .sum-is, start .pre)
 
 -- src/ends.rt:112:5
 loop-less : tie.Need-loop-less Inv-loop μ-loop
@@ -69,7 +78,14 @@ loop-less c = omega arith
 
 -- src/ends.rt:112:5
 loop-again : tie.Need-loop-again Inv-loop μ-loop
-loop-again c = turn-next (c .before .before .before .before .before .before .before .before .before .before .before .before .before .before .before .before .before .before .before .before .before .loop .inv) _ _ _ _ _ _ _ (omega arith) refl (c .before .before .before .before .before .before .before .before .before .before .before .before .before .before .before .before .before .end-at .ensures) (c .before .before .before .before .before .before .before .before .before .before .before .before .before .before .end-at2 .ensures) (c .before .before .before .before .before .before .before .before .before .before .before .put-end .ensures) (c .before .before .before .before .put-end2 .ensures) (omega arith) (omega arith) (omega arith) (omega arith)
+loop-again c =
+    let at-put-end2 = c .before .before .before .before in
+    let at-put-end = at-put-end2 .before .before .before .before .before .before .before in
+    let at-end-at2 = at-put-end .before .before .before in
+    let at-end-at = at-end-at2 .before .before .before in
+    let at-loop = at-end-at .before .before .before .before in
+    turn-next (at-loop .loop .inv) _ _ _ _ _ _ _ (omega arith) refl (at-end-at .end-at .ensures) (at-end-at2 .end-at2 .ensures) (at-put-end .put-end .ensures) (at-put-end2 .put-end2 .ensures) (omega arith) (omega arith)
+    (omega arith) (omega arith)
 
 -- src/ends.rt:106:1
 same-length : tie.Need-same-length Inv-loop μ-loop

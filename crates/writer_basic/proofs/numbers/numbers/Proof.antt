@@ -67,11 +67,23 @@ same-length-2 c = omega (arith, c .before .before .before .before .before .befor
 
 -- src/numbers.rt:48:13
 returns-2 : tie.Need-returns-2 Inv-loop μ-loop
-returns-2 c = λ texts d s. rw (c .stopped .ensures) (numbers-stop _ _ (c .before .before .before .before .before .before .before .before .before .before .before .before .before .pre .0) _ _ _ _ _ _ _ _ (c .before .before .before .before .before .before .before .before .before .before .loop .inv) (omega (arith, c .before .before .before .before .before .before .before .before .before .before .loop .inv .within, c .before .before .before .before .before .before .before .before .before .loop-test .taken)) (c .before .before .before .before .before .before .before .if1 .left) _ _ _ (c .before .before .before .before .number .ensures) texts d _ s (c .before .if2 .taken))
+returns-2 c =
+    let at-if2 = c .before in
+    let at-number = at-if2 .before .before .before in
+    let at-if1 = at-number .before .before .before in
+    let at-loop-test = at-if1 .before .before in
+    let at-loop = at-loop-test .before in
+    let start = at-loop .before .before .before in
+    λ texts d s. rw (c .stopped .ensures)
+    (numbers-stop _ _ (start .pre .0) _ _ _ _ _ _ _ _ (at-loop .loop .inv) (omega (arith, at-loop .loop .inv .within, at-loop-test .loop-test .taken)) (at-if1 .if1 .left) _ _ _ (at-number .number .ensures) texts d _ s (at-if2 .if2 .taken))
 
 -- src/numbers.rt:50:9
 add-requires-2 : tie.Need-add-requires-2 Inv-loop μ-loop
-add-requires-2 c κs = (omega (arith, c .before .before .before .before .before .before .before .before .before .loop .inv .small), let q = number-bounds _ _ (c .before .before .before .before .before .before .before .before .before .before .before .before .pre .0) _ _ _ _ _ _ _ (c .before .before .before .number .ensures) (c .if2 .left) in omega (arith, q .small))
+add-requires-2 c κs =
+    let at-number = c .before .before .before in
+    let at-loop = at-number .before .before .before .before .before .before in
+    let start = at-loop .before .before .before in
+    (omega (arith, at-loop .loop .inv .small), let q = number-bounds _ _ (start .pre .0) _ _ _ _ _ _ _ (at-number .number .ensures) (c .if2 .left) in omega (arith, q .small))
 
 -- src/numbers.rt:40:5
 loop-less : tie.Need-loop-less Inv-loop μ-loop
@@ -79,7 +91,16 @@ loop-less c = let q = number-bounds _ _ (c .before .before .before .before .befo
 
 -- src/numbers.rt:40:5
 loop-again : tie.Need-loop-again Inv-loop μ-loop
-loop-again c = numbers-on _ _ (c .before .before .before .before .before .before .before .before .before .before .before .before .before .pre .0) _ _ _ _ _ _ _ _ (c .before .before .before .before .before .before .before .before .before .before .loop .inv) (omega (arith, c .before .before .before .before .before .before .before .before .before .before .loop .inv .within, c .before .before .before .before .before .before .before .before .before .loop-test .taken)) (c .before .before .before .before .before .before .before .if1 .left) _ _ _ (c .before .before .before .before .number .ensures) _ (c .before .if2 .left) (c .before .before .before .before .before .before .add .ensures) (c .add2 .ensures) (omega (arith, c .before .before .before .before .before .before .before .before .before .before .loop .inv .same, c .before .before .before .before .number .kept))
+loop-again c =
+    let at-if2 = c .before in
+    let at-number = at-if2 .before .before .before in
+    let at-add = at-number .before .before in
+    let at-if1 = at-add .before in
+    let at-loop-test = at-if1 .before .before in
+    let at-loop = at-loop-test .before in
+    let start = at-loop .before .before .before in
+    numbers-on _ _ (start .pre .0) _ _ _ _ _ _ _ _ (at-loop .loop .inv) (omega (arith, at-loop .loop .inv .within, at-loop-test .loop-test .taken)) (at-if1 .if1 .left) _ _ _ (at-number .number .ensures) _ (at-if2 .if2 .left)
+    (at-add .add .ensures) (c .add2 .ensures) (omega (arith, at-loop .loop .inv .same, at-number .number .kept))
 
 -- src/numbers.rt:53:5
 stopped-requires-2 : tie.Need-stopped-requires-2 Inv-loop μ-loop

@@ -62,7 +62,11 @@ add-number c = search needs
 
 -- src/numbers.rt:80:5
 number-requires : tie.Need-number-requires
-number-requires c κs = (c .before .before .before .before .plain-at2 .ensures .here (not-false _ (c .before .before .before .if2 .left)) .whole, c .before .before .before .before .before .before .before .before .before .pre .1, key-aligned _ _ (c .before .before .before .before .before .before .before .before .before .pre .2))
+number-requires c κs =
+    let at-if2 = c .before .before .before in
+    let at-plain-at2 = at-if2 .before in
+    let start = at-plain-at2 .before .before .before .before .before in
+    (at-plain-at2 .plain-at2 .ensures .here (not-false _ (at-if2 .if2 .left)) .whole, start .pre .1, key-aligned _ _ (start .pre .2))
 
 -- src/numbers.rt:57:1
 same-length : tie.Need-same-length
@@ -70,7 +74,15 @@ same-length c = search needs
 
 -- src/numbers.rt:57:1
 returns-4 : tie.Need-returns-4
-returns-4 c = λ texts top s. reading-on texts _ _ _ _ _ _ top _ _ s _ (c .before .before .before .before .before .before .before .plain-at2 .ensures .here (not-false _ (c .before .before .before .before .before .before .if2 .left))) _ (c .before .before .before .before .before .inc-maybe .ensures) (c .before .before .before .before .if3 .left) (λ d top s. number-done _ _ (c .before .before .before .before .before .before .before .before .before .before .before .before .pre .2) _ _ _ _ _ _ _ (c .before .before .number .ensures) texts d top s)
+returns-4 c =
+    let at-number = c .before .before in
+    let at-if3 = at-number .before .before in
+    let at-inc-maybe = at-if3 .before in
+    let at-if2 = at-inc-maybe .before in
+    let at-plain-at2 = at-if2 .before in
+    let start = at-plain-at2 .before .before .before .before .before in
+    λ texts top s. reading-on texts _ _ _ _ _ _ top _ _ s _ (at-plain-at2 .plain-at2 .ensures .here (not-false _ (at-if2 .if2 .left))) _ (at-inc-maybe .inc-maybe .ensures) (at-if3 .if3 .left)
+    (λ d top s. number-done _ _ (start .pre .2) _ _ _ _ _ _ _ (at-number .number .ensures) texts d top s)
 
 pub reading-spec : {M : Type 1} → statement M
 reading-spec =

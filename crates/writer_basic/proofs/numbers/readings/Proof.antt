@@ -26,7 +26,8 @@ use Rattle.writer_basic.proofs.store.add.Reads as add-reads
 use Rattle.writer_basic.proofs.store.pad.Reads as pad-reads
 
 abbrev Inv-loop : tie.InvT-loop
-Inv-loop code width events context out₀ ends₀ base top e₀ k₀ j₀ out ends e k j = (texts : List ℕ) → Left false (emitMaybe (basicAlignment (keyBasic (Number code width))) true (emitBasic texts (context .big) (keyBasic (Number code width))) (depthsOf (context .depths))) events e₀ base top out₀ ends₀ e k j out ends
+Inv-loop code width events context out₀ ends₀ base top e₀ k₀ j₀ out ends e k j =
+    (texts : List ℕ) → Left false (emitMaybe (basicAlignment (keyBasic (Number code width))) true (emitBasic texts (context .big) (keyBasic (Number code width))) (depthsOf (context .depths))) events e₀ base top out₀ ends₀ e k j out ends
 
 abbrev μ-loop : tie.MeasureT-loop
 μ-loop code width events context out₀ ends₀ base top e₀ k₀ j₀ out ends e k j = length events - e
@@ -89,7 +90,11 @@ stopped-requires c κs = search needs
 
 -- src/numbers.rt:110:13
 same-length-3 : tie.Need-same-length-3 Inv-loop μ-loop
-same-length-3 c = omega (arith, c .before .before .before .before .before .before .before .before .before .before .before .before .before .before .loop .inv [] .same, c .before .before .before .before .reading .kept, c .before .before .before .before .before .before .before .before .before .pad .kept)
+same-length-3 c =
+    let at-reading = c .before .before .before .before in
+    let at-pad = at-reading .before .before .before .before .before in
+    let at-loop = at-pad .before .before .before .before .before in
+    omega (arith, at-loop .loop .inv [] .same, at-reading .reading .kept, at-pad .pad .kept)
 
 -- src/numbers.rt:110:13
 same-length-4 : tie.Need-same-length-4 Inv-loop μ-loop
@@ -97,7 +102,14 @@ same-length-4 c = omega (arith, c .before .before .before .before .before .befor
 
 -- src/numbers.rt:110:13
 returns-2 : tie.Need-returns-2 Inv-loop μ-loop
-returns-2 c = λ texts. rw (c .stopped .ensures) (left-stop _ _ _ _ _ _ _ _ _ _ _ _ _ (c .before .before .before .before .before .before .before .before .before .before .before .before .before .before .loop .inv texts) (omega (arith, c .before .before .before .before .before .before .before .before .before .before .before .before .before .before .loop .inv [] .within, c .before .before .before .before .before .before .before .before .before .before .before .before .before .loop-test .taken)) (c .before .before .before .before .before .before .before .before .before .before .before .if1 .left) _ 0 _ _ _ _ (c .before .before .before .before .reading .ensures texts 0 _) (c .before .if2 .taken))
+returns-2 c =
+    let at-if2 = c .before in
+    let at-reading = at-if2 .before .before .before in
+    let at-if1 = at-reading .before .before .before .before .before .before .before in
+    let at-loop-test = at-if1 .before .before in
+    let at-loop = at-loop-test .before in
+    λ texts. rw (c .stopped .ensures)
+    (left-stop _ _ _ _ _ _ _ _ _ _ _ _ _ (at-loop .loop .inv texts) (omega (arith, at-loop .loop .inv [] .within, at-loop-test .loop-test .taken)) (at-if1 .if1 .left) _ 0 _ _ _ _ (at-reading .reading .ensures texts 0 _) (at-if2 .if2 .taken))
 
 -- src/numbers.rt:112:17
 add-add-2 : tie.Need-add-add-2 Inv-loop μ-loop
@@ -105,11 +117,18 @@ add-add-2 c = omega (arith, c .before .before .before .before .before .before .b
 
 -- src/numbers.rt:112:9
 add-requires-2 : tie.Need-add-requires-2 Inv-loop μ-loop
-add-requires-2 c κs = (omega (arith, c .before .before .before .before .before .before .before .before .before .before .before .before .before .loop .inv [] .small, c .before .before .before .before .before .before .before .before .pad .ensures .0 .1), let q = bounds (c .if2 .left) (c .before .before .before .reading .ensures [] 0 []) in omega (arith, q .small))
+add-requires-2 c κs =
+    let at-reading = c .before .before .before in
+    let at-pad = at-reading .before .before .before .before .before in
+    let at-loop = at-pad .before .before .before .before .before in
+    (omega (arith, at-loop .loop .inv [] .small, at-pad .pad .ensures .0 .1), let q = bounds (c .if2 .left) (at-reading .reading .ensures [] 0 []) in omega (arith, q .small))
 
 -- src/numbers.rt:114:9
 keep-requires : tie.Need-keep-requires Inv-loop μ-loop
-keep-requires c κs = omega (arith, c .before .before .before .before .before .before .before .before .before .before .before .before .before .before .before .before .loop .inv [] .few, c .before .before .before .before .before .before .before .before .before .before .before .before .before .before .before .before .before .before .before .before .pre .1 .few)
+keep-requires c κs =
+    let at-loop = c .before .before .before .before .before .before .before .before .before .before .before .before .before .before .before .before in
+    let start = at-loop .before .before .before .before in
+    omega (arith, at-loop .loop .inv [] .few, start .pre .1 .few)
 
 -- src/numbers.rt:101:5
 loop-less : tie.Need-loop-less Inv-loop μ-loop
@@ -117,7 +136,22 @@ loop-less c = let q = bounds (c .before .before .before .before .before .before 
 
 -- src/numbers.rt:101:5
 loop-again : tie.Need-loop-again Inv-loop μ-loop
-loop-again c = λ texts. left-on _ _ _ _ _ _ _ _ _ _ _ _ _ (c .before .before .before .before .before .before .before .before .before .before .before .before .before .before .before .before .before .before .before .before .before .loop .inv texts) (omega (arith, c .before .before .before .before .before .before .before .before .before .before .before .before .before .before .before .before .before .before .before .before .before .loop .inv [] .within, c .before .before .before .before .before .before .before .before .before .before .before .before .before .before .before .before .before .before .before .before .loop-test .taken)) (c .before .before .before .before .before .before .before .before .before .before .before .before .before .before .before .before .before .before .if1 .left) _ _ _ _ _ _ (c .before .before .before .before .before .before .before .before .before .before .before .reading .ensures texts _ _) _ _ _ _ _ _ (reading-shorter texts (c .before .before .before .before .before .before .before .before .before .before .before .before .before .before .before .before .before .before .before .before .before .before .before .before .before .args .context .big) (keyBasic (Number (c .before .before .before .before .before .before .before .before .before .before .before .before .before .before .before .before .before .before .before .before .before .before .before .before .before .args .code) (c .before .before .before .before .before .before .before .before .before .before .before .before .before .before .before .before .before .before .before .before .before .before .before .before .before .args .width))) (depthsOf (c .before .before .before .before .before .before .before .before .before .before .before .before .before .before .before .before .before .before .before .before .before .before .before .before .before .args .context .depths)) (number-fixed _ _ (c .before .before .before .before .before .before .before .before .before .before .before .before .before .before .before .before .before .before .before .before .before .before .before .before .before .pre .0))) (reading-alignment texts (c .before .before .before .before .before .before .before .before .before .before .before .before .before .before .before .before .before .before .before .before .before .before .before .before .before .args .context .big) (keyBasic (Number (c .before .before .before .before .before .before .before .before .before .before .before .before .before .before .before .before .before .before .before .before .before .before .before .before .before .args .code) (c .before .before .before .before .before .before .before .before .before .before .before .before .before .before .before .before .before .before .before .before .before .before .before .before .before .args .width))) (depthsOf (c .before .before .before .before .before .before .before .before .before .before .before .before .before .before .before .before .before .before .before .before .before .before .before .before .before .args .context .depths)) _ _ (number-alignment _ _ (c .before .before .before .before .before .before .before .before .before .before .before .before .before .before .before .before .before .before .before .before .before .before .before .before .before .pre .0))) (c .before .before .before .before .before .before .before .before .if2 .left) (c .before .before .before .before .before .before .before .before .before .before .before .before .before .before .before .before .pad .ensures .0 .0) (c .before .before .before .before .before .before .before .before .before .before .before .before .before .before .before .before .pad .ensures .1) (c .before .before .before .before .before .before .before .before .before .before .before .before .before .add .ensures) refl (c .before .before .before .before .before .before .before .add2 .ensures) (c .before .before .before .before .keep .ensures) (omega (arith, c .before .before .before .before .before .before .before .before .before .before .before .before .before .before .before .before .before .before .before .before .before .loop .inv [] .same)) (omega (arith, c .before .before .before .before .before .before .before .before .before .before .before .before .before .before .before .before .before .before .before .before .before .loop .inv [] .same)) (omega (arith, c .before .before .before .before .before .before .before .before .before .before .before .before .before .before .before .before .before .before .before .before .before .loop .inv [] .sames)) (omega (arith, c .before .before .before .before .before .before .before .before .before .before .before .before .before .before .before .before .before .before .before .before .before .loop .inv [] .sames))
+loop-again c =
+    let at-keep = c .before .before .before .before in
+    let at-add2 = at-keep .before .before .before in
+    let at-if2 = at-add2 .before in
+    let at-reading = at-if2 .before .before .before in
+    let at-add = at-reading .before .before in
+    let at-pad = at-add .before .before .before in
+    let at-if1 = at-pad .before .before in
+    let at-loop-test = at-if1 .before .before in
+    let at-loop = at-loop-test .before in
+    let start = at-loop .before .before .before .before in
+    λ texts. left-on _ _ _ _ _ _ _ _ _ _ _ _ _ (at-loop .loop .inv texts) (omega (arith, at-loop .loop .inv [] .within, at-loop-test .loop-test .taken)) (at-if1 .if1 .left) _ _ _ _ _ _ (at-reading .reading .ensures texts _ _) _ _
+    _ _ _ _ (reading-shorter texts (start .args .context .big) (keyBasic (Number (start .args .code) (start .args .width))) (depthsOf (start .args .context .depths)) (number-fixed _ _ (start .pre .0)))
+    (reading-alignment texts (start .args .context .big) (keyBasic (Number (start .args .code) (start .args .width))) (depthsOf (start .args .context .depths)) _ _ (number-alignment _ _ (start .pre .0))) (at-if2 .if2 .left)
+    (at-pad .pad .ensures .0 .0) (at-pad .pad .ensures .1) (at-add .add .ensures) refl (at-add2 .add2 .ensures) (at-keep .keep .ensures) (omega (arith, at-loop .loop .inv [] .same)) (omega (arith, at-loop .loop .inv [] .same))
+    (omega (arith, at-loop .loop .inv [] .sames)) (omega (arith, at-loop .loop .inv [] .sames))
 
 -- src/numbers.rt:116:5
 stopped-requires-2 : tie.Need-stopped-requires-2 Inv-loop μ-loop

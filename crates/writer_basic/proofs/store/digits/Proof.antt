@@ -72,7 +72,11 @@ loop-less c = omega arith
 
 -- src/store.rt:81:5
 loop-again : tie.Need-loop-again Inv-loop μ-loop
-loop-again c = (omega arith, (simp (c .before .before .put .ensures, length-set) (c .before .before .before .before .before .before .loop .inv .1 .0), simp (c .before .before .put .ensures, c .before .before .before .low3 .ensures) (sym (bytes-step _ _ _ _ _ (omega arith)) ∙ c .before .before .before .before .before .before .loop .inv .1 .1)))
+loop-again c =
+    let at-put = c .before .before in
+    let at-low3 = at-put .before in
+    let at-loop = at-low3 .before .before .before in
+    (omega arith, (simp (at-put .put .ensures, length-set) (at-loop .loop .inv .1 .0), simp (at-put .put .ensures, at-low3 .low3 .ensures) (sym (bytes-step _ _ _ _ _ (omega arith)) ∙ at-loop .loop .inv .1 .1)))
 
 -- src/store.rt:75:1
 same-length-2 : tie.Need-same-length-2 Inv-loop μ-loop

@@ -47,7 +47,11 @@ loop-less c = omega arith
 
 -- src/store.rt:95:5
 loop-again : tie.Need-loop-again Inv-loop μ-loop
-loop-again c = (omega arith, (simp (c .before .before .put .ensures, length-set) (c .before .before .before .before .before .before .loop .inv .1 .0), simp (c .before .before .put .ensures, c .before .before .before .low .ensures) (sym (turned-step _ _ _ _ (omega arith)) ∙ c .before .before .before .before .before .before .loop .inv .1 .1)))
+loop-again c =
+    let at-put = c .before .before in
+    let at-low = at-put .before in
+    let at-loop = at-low .before .before .before in
+    (omega arith, (simp (at-put .put .ensures, length-set) (at-loop .loop .inv .1 .0), simp (at-put .put .ensures, at-low .low .ensures) (sym (turned-step _ _ _ _ (omega arith)) ∙ at-loop .loop .inv .1 .1)))
 
 -- src/store.rt:89:1
 same-length : tie.Need-same-length Inv-loop μ-loop

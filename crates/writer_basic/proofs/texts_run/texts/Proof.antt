@@ -84,23 +84,57 @@ same-length-4 c = omega (arith, c .before .before .before .before .before .befor
 
 -- src/texts_run.rt:44:13
 returns-2 : tie.Need-returns-2 Inv-loop μ-loop
-returns-2 c = λ big d. rw (c .stopped .ensures) (left-stop _ _ _ _ _ _ _ _ _ _ _ _ _ (c .before .before .before .before .before .before .before .before .before .before .loop .inv big d) (omega (arith, c .before .before .before .before .before .before .before .before .before .before .loop .inv false noneOpen .within, c .before .before .before .before .before .before .before .before .before .loop-test .taken)) (c .before .before .before .before .before .before .before .if1 .left) _ 0 _ _ _ _ (text-done _ (c .before .before .before .before .before .before .before .before .before .before .before .before .before .before .before .pre .0) _ _ _ _ _ _ _ (c .before .before .before .before .text-value .ensures) big d 0 _) (c .before .if2 .taken))
+returns-2 c =
+    let at-if2 = c .before in
+    let at-text-value = at-if2 .before .before .before in
+    let at-if1 = at-text-value .before .before .before in
+    let at-loop-test = at-if1 .before .before in
+    let at-loop = at-loop-test .before in
+    let start = at-loop .before .before .before .before .before in
+    λ big d. rw (c .stopped .ensures)
+    (left-stop _ _ _ _ _ _ _ _ _ _ _ _ _ (at-loop .loop .inv big d) (omega (arith, at-loop .loop .inv false noneOpen .within, at-loop-test .loop-test .taken)) (at-if1 .if1 .left) _ 0 _ _ _ _
+    (text-done _ (start .pre .0) _ _ _ _ _ _ _ (at-text-value .text-value .ensures) big d 0 _) (at-if2 .if2 .taken))
 
 -- src/texts_run.rt:46:9
 add-requires-2 : tie.Need-add-requires-2 Inv-loop μ-loop
-add-requires-2 c κs = (omega (arith, c .before .before .before .before .before .before .before .before .before .loop .inv false noneOpen .small), let q = bounds (c .if2 .left) (text-done _ (c .before .before .before .before .before .before .before .before .before .before .before .before .before .before .pre .0) _ _ _ _ _ _ _ (c .before .before .before .text-value .ensures) false noneOpen 0 []) in omega (arith, q .small))
+add-requires-2 c κs =
+    let at-text-value = c .before .before .before in
+    let at-loop = at-text-value .before .before .before .before .before .before in
+    let start = at-loop .before .before .before .before .before in
+    (omega (arith, at-loop .loop .inv false noneOpen .small), let q = bounds (c .if2 .left) (text-done _ (start .pre .0) _ _ _ _ _ _ _ (at-text-value .text-value .ensures) false noneOpen 0 []) in omega (arith, q .small))
 
 -- src/texts_run.rt:48:9
 keep-requires : tie.Need-keep-requires Inv-loop μ-loop
-keep-requires c κs = omega (arith, c .before .before .before .before .before .before .before .before .before .before .before .before .loop .inv false noneOpen .few, c .before .before .before .before .before .before .before .before .before .before .before .before .before .before .before .before .before .pre .1 .few)
+keep-requires c κs =
+    let at-loop = c .before .before .before .before .before .before .before .before .before .before .before .before in
+    let start = at-loop .before .before .before .before .before in
+    omega (arith, at-loop .loop .inv false noneOpen .few, start .pre .1 .few)
 
 -- src/texts_run.rt:36:5
 loop-less : tie.Need-loop-less Inv-loop μ-loop
-loop-less c = let q = bounds (c .before .before .before .before .before .before .before .before .if2 .left) (text-done _ (c .before .before .before .before .before .before .before .before .before .before .before .before .before .before .before .before .before .before .before .before .before .before .pre .0) _ _ _ _ _ _ _ (c .before .before .before .before .before .before .before .before .before .before .before .text-value .ensures) false noneOpen 0 []) in omega (arith, q .forward, q .within)
+loop-less c =
+    let at-if2 = c .before .before .before .before .before .before .before .before in
+    let at-text-value = at-if2 .before .before .before in
+    let start = at-text-value .before .before .before .before .before .before .before .before .before .before .before in
+    let q = bounds (at-if2 .if2 .left) (text-done _ (start .pre .0) _ _ _ _ _ _ _ (at-text-value .text-value .ensures) false noneOpen 0 []) in omega (arith, q .forward, q .within)
 
 -- src/texts_run.rt:36:5
 loop-again : tie.Need-loop-again Inv-loop μ-loop
-loop-again c = λ big d. left-next _ _ _ _ _ _ _ _ _ _ _ _ _ (c .before .before .before .before .before .before .before .before .before .before .before .before .before .before .before .before .before .loop .inv big d) (omega (arith, c .before .before .before .before .before .before .before .before .before .before .before .before .before .before .before .before .before .loop .inv false noneOpen .within, c .before .before .before .before .before .before .before .before .before .before .before .before .before .before .before .before .loop-test .taken)) (c .before .before .before .before .before .before .before .before .before .before .before .before .before .before .if1 .left) _ _ _ _ _ (text-done _ (c .before .before .before .before .before .before .before .before .before .before .before .before .before .before .before .before .before .before .before .before .before .before .pre .0) _ _ _ _ _ _ _ (c .before .before .before .before .before .before .before .before .before .before .before .text-value .ensures) big d _ _) 1 _ _ _ _ (basic-shorter _ _ _ _) (basic-alignment _ _ _ _ _ _ (text-alignment _ (c .before .before .before .before .before .before .before .before .before .before .before .before .before .before .before .before .before .before .before .before .before .before .pre .0))) (unpadded _) (c .before .before .before .before .before .before .before .before .if2 .left) (c .before .before .before .before .before .before .before .before .before .before .before .before .before .add .ensures) refl (c .before .before .before .before .before .before .before .add2 .ensures) (c .before .before .before .before .keep .ensures) (omega (arith, c .before .before .before .before .before .before .before .before .before .before .before .before .before .before .before .before .before .loop .inv false noneOpen .same, c .before .before .before .before .before .before .before .before .before .before .before .text-value .kept)) (omega (arith, c .before .before .before .before .before .before .before .before .before .before .before .before .before .before .before .before .before .loop .inv false noneOpen .same, c .before .before .before .before .before .before .before .before .before .before .before .text-value .kept, c .before .before .before .before .keep .kept .0)) (omega (arith, c .before .before .before .before .before .before .before .before .before .before .before .before .before .before .before .before .before .loop .inv false noneOpen .sames)) (omega (arith, c .before .before .before .before .before .before .before .before .before .before .before .before .before .before .before .before .before .loop .inv false noneOpen .sames, c .before .before .before .before .keep .kept .1))
+loop-again c =
+    let at-keep = c .before .before .before .before in
+    let at-add2 = at-keep .before .before .before in
+    let at-if2 = at-add2 .before in
+    let at-text-value = at-if2 .before .before .before in
+    let at-add = at-text-value .before .before in
+    let at-if1 = at-add .before in
+    let at-loop-test = at-if1 .before .before in
+    let at-loop = at-loop-test .before in
+    let start = at-loop .before .before .before .before .before in
+    λ big d. left-next _ _ _ _ _ _ _ _ _ _ _ _ _ (at-loop .loop .inv big d) (omega (arith, at-loop .loop .inv false noneOpen .within, at-loop-test .loop-test .taken)) (at-if1 .if1 .left) _ _ _ _ _
+    (text-done _ (start .pre .0) _ _ _ _ _ _ _ (at-text-value .text-value .ensures) big d _ _) 1 _ _ _ _ (basic-shorter _ _ _ _) (basic-alignment _ _ _ _ _ _ (text-alignment _ (start .pre .0))) (unpadded _) (at-if2 .if2 .left)
+    (at-add .add .ensures) refl (at-add2 .add2 .ensures) (at-keep .keep .ensures) (omega (arith, at-loop .loop .inv false noneOpen .same, at-text-value .text-value .kept))
+    (omega (arith, at-loop .loop .inv false noneOpen .same, at-text-value .text-value .kept, at-keep .keep .kept .0)) (omega (arith, at-loop .loop .inv false noneOpen .sames))
+    (omega (arith, at-loop .loop .inv false noneOpen .sames, at-keep .keep .kept .1))
 
 -- src/texts_run.rt:50:5
 stopped-requires-2 : tie.Need-stopped-requires-2 Inv-loop μ-loop

@@ -65,7 +65,8 @@ array·array-returns t c =
     let at-item-kind = at-plain-at .before in
     let at-item-of = at-item-kind .before in
     let start = at-item-of .before .before .before .before .before .before .before in
-    rw (c .refused .ensures) (value-array-not _ _ _ _ (item-at _ _ _ (start .pre .1 .0) (start .pre .1 .1) _ (at-item-of .item-of .ensures)) _ _ _ (few-variants (start .pre .1 .2)) _ _ _ _ _ _ _ (at-item-kind .item-kind .ensures) (at-plain-at .plain-at .ensures .not (not-true _ (at-if1 .if1 .taken))))
+    rw (c .refused .ensures)
+    (value-array-not _ _ _ _ (item-at _ _ _ (start .pre .1 .0) (start .pre .1 .1) _ (at-item-of .item-of .ensures)) _ _ _ (few-variants (start .pre .1 .2)) _ _ _ _ _ _ _ (at-item-kind .item-kind .ensures) (at-plain-at .plain-at .ensures .not (not-true _ (at-if1 .if1 .taken))))
 
 array·array-inc-array-requires : (t : ℕ) → array·array-lts.Need-inc-array-requires (array·array-callees t) (array·array-at t) array·array.Post
 array·array-inc-array-requires t c κs = search needs
@@ -82,7 +83,9 @@ array·array-returns-2 t c =
     let at-item-kind = at-plain-at .before in
     let at-item-of = at-item-kind .before in
     let start = at-item-of .before .before .before .before .before .before .before in
-    rw (c .refused2 .ensures) (value-array-deep _ _ _ _ (item-at _ _ _ (start .pre .1 .0) (start .pre .1 .1) _ (at-item-of .item-of .ensures)) _ _ _ (few-variants (start .pre .1 .2)) _ _ _ _ _ _ _ (at-item-kind .item-kind .ensures) (at-plain-at .plain-at .ensures .here (not-false _ (at-if1 .if1 .left))) _ (at-inc-array .inc-array .ensures) (at-if2 .if2 .taken))
+    rw (c .refused2 .ensures)
+    (value-array-deep _ _ _ _ (item-at _ _ _ (start .pre .1 .0) (start .pre .1 .1) _ (at-item-of .item-of .ensures)) _ _ _ (few-variants (start .pre .1 .2)) _ _ _ _ _ _ _ (at-item-kind .item-kind .ensures)
+    (at-plain-at .plain-at .ensures .here (not-false _ (at-if1 .if1 .left))) _ (at-inc-array .inc-array .ensures) (at-if2 .if2 .taken))
 
 array·array-add-t22 : (t : ℕ) → array·array-lts.Need-add-t22 (array·array-callees t) (array·array-at t) array·array.Post
 array·array-add-t22 t c =
@@ -97,8 +100,15 @@ array·array-elements-requires t c κs =
     let at-if1 = at-inc-array .before in
     let at-plain-at = at-if1 .before in
     let at-item-of = at-plain-at .before .before in
-    let start = at-item-of .before .before .before .before .before .before .before in
-    (omega (arith, level-falls Depth.array (start .args .context .depths) (at-inc-array .inc-array .result) (at-inc-array .inc-array .ensures) (at-if2 .if2 .left), start .pre .0), ((item-at _ _ _ (start .pre .1 .0) (start .pre .1 .1) _ (at-item-of .item-of .ensures)) .repeated, raised-in Depth.array _ _ (at-inc-array .inc-array .ensures) _ (at-if2 .if2 .left), record { within = (at-plain-at .plain-at .ensures .here (not-false _ (at-if1 .if1 .left))) .whole; near = start .pre .1 .3 .near; few = start .pre .1 .3 .few }))
+    let start = at-item-of .before .before .before .before .before .before .before in (
+      omega (arith, level-falls Depth.array (start .args .context .depths) (at-inc-array .inc-array .result) (at-inc-array .inc-array .ensures) (at-if2 .if2 .left), start .pre .0),
+      (
+        (item-at _ _ _ (start .pre .1 .0) (start .pre .1 .1) _ (at-item-of .item-of .ensures)) .repeated,
+        raised-in Depth.array _ _ (at-inc-array .inc-array .ensures) _ (at-if2 .if2 .left),
+        record
+            { within = (at-plain-at .plain-at .ensures .here (not-false _ (at-if1 .if1 .left))) .whole; near = start .pre .1 .3 .near; few = start .pre .1 .3 .few },
+      ),
+    )
 
 array·array-ended-requires : (t : ℕ) → array·array-lts.Need-ended-requires (array·array-callees t) (array·array-at t) array·array.Post
 array·array-ended-requires t c κs =
@@ -130,7 +140,9 @@ array·array-returns-3 t c =
     let at-item-kind = at-plain-at .before in
     let at-item-of = at-item-kind .before in
     let start = at-item-of .before .before .before .before .before .before .before in
-    value-array _ _ _ _ (item-at _ _ _ (start .pre .1 .0) (start .pre .1 .1) _ (at-item-of .item-of .ensures)) _ _ _ (few-variants (start .pre .1 .2)) _ _ _ _ _ _ _ (at-item-kind .item-kind .ensures) (at-plain-at .plain-at .ensures .here (not-false _ (at-if1 .if1 .left))) _ (at-inc-array .inc-array .ensures) _ _ _ (at-if2 .if2 .left) (item-shorter _ _ _ _ _ _) (at-array-end .array-end .ensures _ _ _ _ _ _ _ (omega (arith, at-elements .elements .kept)) (omega (arith, at-elements .elements .kept)) (at-ended .ended .ensures _ _ _ _ _ _ _ _ _ _ _ (at-elements .elements .ensures)))
+    value-array _ _ _ _ (item-at _ _ _ (start .pre .1 .0) (start .pre .1 .1) _ (at-item-of .item-of .ensures)) _ _ _ (few-variants (start .pre .1 .2)) _ _ _ _ _ _ _ (at-item-kind .item-kind .ensures)
+    (at-plain-at .plain-at .ensures .here (not-false _ (at-if1 .if1 .left))) _ (at-inc-array .inc-array .ensures) _ _ _ (at-if2 .if2 .left) (item-shorter _ _ _ _ _ _)
+    (at-array-end .array-end .ensures _ _ _ _ _ _ _ (omega (arith, at-elements .elements .kept)) (omega (arith, at-elements .elements .kept)) (at-ended .ended .ensures _ _ _ _ _ _ _ _ _ _ _ (at-elements .elements .ensures)))
 
 pub array·array-spec : {M : Type 1} (t : ℕ) → array·array-lts.Closed (array·array-callees t) (array·array-at t) array·array.Post M
 array·array-spec t =

@@ -84,7 +84,8 @@ array·elements-returns-3 t c =
     let at-held = at-if2 .before .before in
     let at-if1 = at-held .before .before in
     let start = at-if1 .before .before .before .before .before .before .before in
-    items-reading _ _ _ _ _ _ (at-if1 .if1 .left) _ _ _ _ _ _ _ _ _ _ _ _ ((start .pre .1 .0 .number (at-if1 .if1 .left) _ _ (at-held .held .given .1)) .held (at-if2 .if2 .left)) ((start .pre .1 .0 .number (at-if1 .if1 .left) _ _ (at-held .held .given .1)) .whole) (at-if2 .if2 .left) (at-readings .readings .ensures _)
+    items-reading _ _ _ _ _ _ (at-if1 .if1 .left) _ _ _ _ _ _ _ _ _ _ _ _ ((start .pre .1 .0 .number (at-if1 .if1 .left) _ _ (at-held .held .given .1)) .held (at-if2 .if2 .left))
+    ((start .pre .1 .0 .number (at-if1 .if1 .left) _ _ (at-held .held .given .1)) .whole) (at-if2 .if2 .left) (at-readings .readings .ensures _)
 
 array·elements-enum-known-kind : (t : ℕ) → array·elements-lts.Need-enum-known-kind (array·elements-callees t) (array·elements-at t) array·elements.Post
 array·elements-enum-known-kind t c = search needs

@@ -175,7 +175,11 @@ array·items-loop-again t c =
     let at-loop-test = at-if1 .before .before in
     let at-loop = at-loop-test .before in
     let start = at-loop .before .before .before .before .before .before .before in
-    left-on _ _ _ _ _ _ _ _ _ _ _ _ _ (at-loop .loop .inv) (omega (arith, at-loop .loop .inv .within, at-loop-test .loop-test .taken)) (at-if1 .if1 .left) _ _ _ _ _ _ (item-as (at-child-spot .child-spot .ensures) _ _ _ _ _ _ (at-one .one .ensures)) _ _ _ _ _ _ (item-shorter _ _ _ _ _ _) (item-alignment _ _ _ _ _ _ (start .pre .1 .0) _ _) (at-if2 .if2 .left) (at-pad .pad .ensures .0 .0) (at-pad .pad .ensures .1) refl refl (at-add .add .ensures) (at-keep .keep .ensures) (omega (arith, at-loop .loop .inv .same, at-one .one .kept, at-pad .pad .kept)) (omega (arith, at-loop .loop .inv .same, at-one .one .kept, at-pad .pad .kept, at-keep .keep .kept)) (omega (arith, at-loop .loop .inv .sames, at-one .one .kept)) (omega (arith, at-loop .loop .inv .sames, at-one .one .kept, at-keep .keep .kept))
+    left-on _ _ _ _ _ _ _ _ _ _ _ _ _ (at-loop .loop .inv) (omega (arith, at-loop .loop .inv .within, at-loop-test .loop-test .taken)) (at-if1 .if1 .left) _ _ _ _ _ _
+    (item-as (at-child-spot .child-spot .ensures) _ _ _ _ _ _ (at-one .one .ensures)) _ _ _ _ _ _ (item-shorter _ _ _ _ _ _) (item-alignment _ _ _ _ _ _ (start .pre .1 .0) _ _) (at-if2 .if2 .left) (at-pad .pad .ensures .0 .0)
+    (at-pad .pad .ensures .1) refl refl (at-add .add .ensures) (at-keep .keep .ensures) (omega (arith, at-loop .loop .inv .same, at-one .one .kept, at-pad .pad .kept))
+    (omega (arith, at-loop .loop .inv .same, at-one .one .kept, at-pad .pad .kept, at-keep .keep .kept)) (omega (arith, at-loop .loop .inv .sames, at-one .one .kept))
+    (omega (arith, at-loop .loop .inv .sames, at-one .one .kept, at-keep .keep .kept))
 
 array·items-stopped-requires-2 : (t : ℕ) → array·items-lts.Need-stopped-requires-2 (array·items-callees t) (array·items-at t) array·items.Post array·items-Inv-loop array·items-μ-loop
 array·items-stopped-requires-2 t c κs = search needs

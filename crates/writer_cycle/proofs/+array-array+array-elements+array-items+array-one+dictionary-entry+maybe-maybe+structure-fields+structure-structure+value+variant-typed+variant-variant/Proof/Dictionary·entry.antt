@@ -173,7 +173,19 @@ dictionary·entry-returns-3 t c =
     let at-if1 = at-keep .before .before .before in
     let at-basic-value = at-if1 .before .before .before in
     let start = at-basic-value .before .before .before .before .before .before .before .before .before in
-    item-as-entry _ _ _ _ _ _ _ _ _ _ _ _ _ _ _ (start .pre .1 .1) (at-structure-end .structure-end .ensures _ _ _ _ _ _ _ (entry-structured _ _) (λ f. entry-no-ends (start .args .item .alignment) (start .args .item .fixed) _ _ _ _ _ (start .args .events .now) (start .args .spot .next) (start .pre .1 .0 .whole (start .pre .1 .1) f)) (λ z. rw (at-ran .ran .ensures) (omega (arith, bounds (at-if2 .if2 .left) (value-as (at-child-spot .child-spot .ensures) _ _ _ _ _ (at-value .value .ensures)) .forward, (bounds (at-if1 .if1 .left) (at-basic-value .basic-value .ensures noneOpen 0 [])) .forward))) (omega (arith, at-value .value .kept, at-pad .pad .kept, at-keep .keep .kept, at-basic-value .basic-value .kept)) (omega (arith, at-value .value .kept, at-pad .pad .kept, at-keep .keep .kept, at-basic-value .basic-value .kept)) (row-as (at-ran .ran .ensures) (entry-row _ _ _ _ _ _ _ _ _ _ _ _ _ _ _ _ _ (basicAlignment (keyBasic (start .args .item .key))) _ _ _ _ _ _ _ (at-basic-value .basic-value .ensures _ _ _) (at-if1 .if1 .left) (at-keep .keep .ensures) (basic-aligned (keyBasic (start .args .item .key))) (λ x y e. entry-key _ _ _ _ _ _ (start .pre .1 .0 .keyed (start .pre .1 .1)) e) (λ x y e. emit-alignment _ _ _ _ _ _ x y e ∙ sym (described-alignment (start .pre .1 .0 .child))) (at-pad .pad .ensures .0 .0) (at-pad .pad .ensures .1) refl refl (value-as (at-child-spot .child-spot .ensures) _ _ _ _ _ (at-value .value .ensures)) (at-if2 .if2 .left) (at-add .add .ensures) (start .pre .1 .3 .near) (start .pre .1 .3 .few) (omega (arith, at-basic-value .basic-value .kept)) (omega (arith, at-keep .keep .kept, at-basic-value .basic-value .kept)) (omega (arith, at-value .value .kept, at-pad .pad .kept, at-keep .keep .kept, at-basic-value .basic-value .kept)) (omega (arith, at-keep .keep .kept)) (omega (arith, at-value .value .kept, at-keep .keep .kept)))))
+    item-as-entry _ _ _ _ _ _ _ _ _ _ _ _ _ _ _ (start .pre .1 .1)
+    (at-structure-end .structure-end .ensures _ _ _ _ _ _ _ (entry-structured _ _)
+    (λ f. entry-no-ends (start .args .item .alignment) (start .args .item .fixed) _ _ _ _ _ (start .args .events .now) (start .args .spot .next) (start .pre .1 .0 .whole (start .pre .1 .1) f))
+    (λ z. rw (at-ran .ran .ensures) (omega (arith, bounds (at-if2 .if2 .left) (value-as (at-child-spot .child-spot .ensures) _ _ _ _ _ (at-value .value .ensures)) .forward, (bounds (at-if1 .if1 .left) (at-basic-value .basic-value .ensures noneOpen 0 [])) .forward)))
+    (omega (arith, at-value .value .kept, at-pad .pad .kept, at-keep .keep .kept, at-basic-value .basic-value .kept))
+    (omega (arith, at-value .value .kept, at-pad .pad .kept, at-keep .keep .kept, at-basic-value .basic-value .kept))
+    (row-as (at-ran .ran .ensures)
+    (entry-row _ _ _ _ _ _ _ _ _ _ _ _ _ _ _ _ _ (basicAlignment (keyBasic (start .args .item .key))) _ _ _ _ _ _ _ (at-basic-value .basic-value .ensures _ _ _) (at-if1 .if1 .left) (at-keep .keep .ensures)
+    (basic-aligned (keyBasic (start .args .item .key))) (λ x y e. entry-key _ _ _ _ _ _ (start .pre .1 .0 .keyed (start .pre .1 .1)) e)
+    (λ x y e. emit-alignment _ _ _ _ _ _ x y e ∙ sym (described-alignment (start .pre .1 .0 .child))) (at-pad .pad .ensures .0 .0) (at-pad .pad .ensures .1) refl refl
+    (value-as (at-child-spot .child-spot .ensures) _ _ _ _ _ (at-value .value .ensures)) (at-if2 .if2 .left) (at-add .add .ensures) (start .pre .1 .3 .near) (start .pre .1 .3 .few)
+    (omega (arith, at-basic-value .basic-value .kept)) (omega (arith, at-keep .keep .kept, at-basic-value .basic-value .kept))
+    (omega (arith, at-value .value .kept, at-pad .pad .kept, at-keep .keep .kept, at-basic-value .basic-value .kept)) (omega (arith, at-keep .keep .kept)) (omega (arith, at-value .value .kept, at-keep .keep .kept)))))
 
 pub dictionary·entry-spec : {M : Type 1} (t : ℕ) → dictionary·entry-lts.Closed (dictionary·entry-callees t) (dictionary·entry-at t) dictionary·entry.Post M
 dictionary·entry-spec t =

@@ -115,8 +115,15 @@ maybe·maybe-value-requires t c κs =
     let at-inc-maybe = at-if3 .before in
     let at-if2 = at-inc-maybe .before in
     let at-plain-at2 = at-if2 .before in
-    let start = at-plain-at2 .before .before .before .before .before .before .before .before .before in
-    (omega (arith, level-falls Depth.maybe (start .args .context .depths) (at-inc-maybe .inc-maybe .result) (at-inc-maybe .inc-maybe .ensures) (at-if3 .if3 .left), start .pre .0), ((described-as (at-shape-in .shape-in .ensures) (maybe-described _ _ (start .pre .1 .0 .typed) (start .pre .1 .1) _ (start .pre .1 .0 .table))), raised-in Depth.maybe _ _ (at-inc-maybe .inc-maybe .ensures) _ (at-if3 .if3 .left), record { within = at-plain-at2 .plain-at2 .ensures .here (not-false _ (at-if2 .if2 .left)) .whole; near = start .pre .1 .3 .near; few = start .pre .1 .3 .few }))
+    let start = at-plain-at2 .before .before .before .before .before .before .before .before .before in (
+      omega (arith, level-falls Depth.maybe (start .args .context .depths) (at-inc-maybe .inc-maybe .result) (at-inc-maybe .inc-maybe .ensures) (at-if3 .if3 .left), start .pre .0),
+      (
+        (described-as (at-shape-in .shape-in .ensures) (maybe-described _ _ (start .pre .1 .0 .typed) (start .pre .1 .1) _ (start .pre .1 .0 .table))),
+        raised-in Depth.maybe _ _ (at-inc-maybe .inc-maybe .ensures) _
+            (at-if3 .if3 .left),
+        record { within = at-plain-at2 .plain-at2 .ensures .here (not-false _ (at-if2 .if2 .left)) .whole; near = start .pre .1 .3 .near; few = start .pre .1 .3 .few },
+      ),
+    )
 
 maybe·maybe-present-requires : (t : ℕ) → maybe·maybe-lts.Need-present-requires (maybe·maybe-callees t) (maybe·maybe-at t) maybe·maybe.Post
 maybe·maybe-present-requires t c κs =
@@ -140,7 +147,10 @@ maybe·maybe-returns-4 t c =
     let at-if2 = at-inc-maybe .before in
     let at-plain-at2 = at-if2 .before in
     let start = at-plain-at2 .before .before .before .before .before .before .before .before .before in
-    value-present _ _ (start .pre .1 .0 .typed) (start .pre .1 .1) _ _ _ _ _ _ _ _ _ (at-plain-at2 .plain-at2 .ensures .here (not-false _ (at-if2 .if2 .left))) _ (at-inc-maybe .inc-maybe .ensures) (at-shape-in .shape-in .result) _ _ _ (at-if3 .if3 .left) (ap (λ (s : Shape). s .at) (at-shape-in .shape-in .ensures)) (described-fixed (described-as (at-shape-in .shape-in .ensures) (maybe-described _ _ (start .pre .1 .0 .typed) (start .pre .1 .1) _ (start .pre .1 .0 .table)))) (at-present .present .ensures _ _ _ _ _ _ _ _ (omega (arith, at-value .value .kept)) (at-value .value .ensures))
+    value-present _ _ (start .pre .1 .0 .typed) (start .pre .1 .1) _ _ _ _ _ _ _ _ _ (at-plain-at2 .plain-at2 .ensures .here (not-false _ (at-if2 .if2 .left))) _ (at-inc-maybe .inc-maybe .ensures) (at-shape-in .shape-in .result) _
+    _ _ (at-if3 .if3 .left) (ap (λ (s : Shape). s .at) (at-shape-in .shape-in .ensures))
+    (described-fixed (described-as (at-shape-in .shape-in .ensures) (maybe-described _ _ (start .pre .1 .0 .typed) (start .pre .1 .1) _ (start .pre .1 .0 .table))))
+    (at-present .present .ensures _ _ _ _ _ _ _ _ (omega (arith, at-value .value .kept)) (at-value .value .ensures))
 
 pub maybe·maybe-spec : {M : Type 1} (t : ℕ) → maybe·maybe-lts.Closed (maybe·maybe-callees t) (maybe·maybe-at t) maybe·maybe.Post M
 maybe·maybe-spec t =

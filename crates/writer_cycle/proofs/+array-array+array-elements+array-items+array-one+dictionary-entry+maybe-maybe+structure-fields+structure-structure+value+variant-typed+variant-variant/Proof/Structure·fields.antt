@@ -99,8 +99,10 @@ structure·fields-value-requires t c κs =
     let at-letter-at = at-child-spot .before .before .before .before .before .before in
     let at-shape-in = at-letter-at .before in
     let at-loop = at-shape-in .before in
-    let start = at-loop .before .before .before .before .before .before .before in
-    (omega (arith, start .pre .0), (((field-here _ _ _ (at-loop .loop .inv .rowed) (start .pre .1 .1) _ (at-shape-in .shape-in .ensures) _ (at-letter-at .letter-at .ensures)) .shape), start .pre .1 .2, placed-as (at-child-spot .child-spot .ensures) (at-loop .loop .inv .within) (omega arith) (omega arith)))
+    let start = at-loop .before .before .before .before .before .before .before in (
+      omega (arith, start .pre .0),
+      (((field-here _ _ _ (at-loop .loop .inv .rowed) (start .pre .1 .1) _ (at-shape-in .shape-in .ensures) _ (at-letter-at .letter-at .ensures)) .shape), start .pre .1 .2, placed-as (at-child-spot .child-spot .ensures) (at-loop .loop .inv .within) (omega arith) (omega arith)),
+    )
 
 structure·fields-stopped-requires : (t : ℕ) → structure·fields-lts.Need-stopped-requires (structure·fields-callees t) (structure·fields-at t) structure·fields.Post structure·fields-Inv-loop structure·fields-μ-loop
 structure·fields-stopped-requires t c κs = search needs
@@ -127,7 +129,10 @@ structure·fields-returns t c =
     let at-shape-in = at-letter-at .before in
     let at-loop = at-shape-in .before in
     let start = at-loop .before .before .before .before .before .before .before in
-    rw (c .stopped .ensures) (fields-stop _ _ _ (few-variants (start .pre .1 .2)) _ _ _ _ _ _ _ _ _ _ _ _ _ _ _ _ (at-loop .loop .inv) _ _ _ _ _ _ _ (value-as (at-child-spot .child-spot .ensures) _ _ _ _ _ (at-value .value .ensures)) _ (last-field-of _ _ _ (at-loop .loop .inv .rowed) (start .pre .1 .1) _ (at-shape-in .shape-in .ensures) _ (at-letter-at .letter-at .ensures)) (next-field-of _ _ _ (at-loop .loop .inv .rowed) (start .pre .1 .1) _ (at-shape-in .shape-in .ensures) _ (at-letter-at .letter-at .ensures)) (at-if1 .if1 .taken))
+    rw (c .stopped .ensures)
+    (fields-stop _ _ _ (few-variants (start .pre .1 .2)) _ _ _ _ _ _ _ _ _ _ _ _ _ _ _ _ (at-loop .loop .inv) _ _ _ _ _ _ _ (value-as (at-child-spot .child-spot .ensures) _ _ _ _ _ (at-value .value .ensures)) _
+    (last-field-of _ _ _ (at-loop .loop .inv .rowed) (start .pre .1 .1) _ (at-shape-in .shape-in .ensures) _ (at-letter-at .letter-at .ensures))
+    (next-field-of _ _ _ (at-loop .loop .inv .rowed) (start .pre .1 .1) _ (at-shape-in .shape-in .ensures) _ (at-letter-at .letter-at .ensures)) (at-if1 .if1 .taken))
 
 structure·fields-add-add : (t : ℕ) → structure·fields-lts.Need-add-add (structure·fields-callees t) (structure·fields-at t) structure·fields.Post structure·fields-Inv-loop structure·fields-μ-loop
 structure·fields-add-add t c =
@@ -173,7 +178,11 @@ structure·fields-returns-2 t c =
     let at-shape-in = at-letter-at .before in
     let at-loop = at-shape-in .before in
     let start = at-loop .before .before .before .before .before .before .before in
-    rw (c .ran .ensures) (fields-last _ _ _ (few-variants (start .pre .1 .2)) _ _ _ _ _ _ _ _ _ _ _ _ _ _ _ _ (at-loop .loop .inv) _ _ _ _ _ _ _ (value-as (at-child-spot .child-spot .ensures) _ _ _ _ _ (at-value .value .ensures)) _ _ (at-if1 .if1 .left) (described-alignment ((field-here _ _ _ (at-loop .loop .inv .rowed) (start .pre .1 .1) _ (at-shape-in .shape-in .ensures) _ (at-letter-at .letter-at .ensures)) .shape)) (at-pad .pad .ensures .0 .0) (at-pad .pad .ensures .1) refl refl (at-add .add .ensures) (omega (arith, at-loop .loop .inv .same, at-value .value .kept, at-pad .pad .kept)) (omega (arith, at-loop .loop .inv .sames, at-value .value .kept)) (last-field-of _ _ _ (at-loop .loop .inv .rowed) (start .pre .1 .1) _ (at-shape-in .shape-in .ensures) _ (at-letter-at .letter-at .ensures) (at-enum-told .enum-told .given .1)))
+    rw (c .ran .ensures)
+    (fields-last _ _ _ (few-variants (start .pre .1 .2)) _ _ _ _ _ _ _ _ _ _ _ _ _ _ _ _ (at-loop .loop .inv) _ _ _ _ _ _ _ (value-as (at-child-spot .child-spot .ensures) _ _ _ _ _ (at-value .value .ensures)) _ _
+    (at-if1 .if1 .left) (described-alignment ((field-here _ _ _ (at-loop .loop .inv .rowed) (start .pre .1 .1) _ (at-shape-in .shape-in .ensures) _ (at-letter-at .letter-at .ensures)) .shape)) (at-pad .pad .ensures .0 .0)
+    (at-pad .pad .ensures .1) refl refl (at-add .add .ensures) (omega (arith, at-loop .loop .inv .same, at-value .value .kept, at-pad .pad .kept)) (omega (arith, at-loop .loop .inv .sames, at-value .value .kept))
+    (last-field-of _ _ _ (at-loop .loop .inv .rowed) (start .pre .1 .1) _ (at-shape-in .shape-in .ensures) _ (at-letter-at .letter-at .ensures) (at-enum-told .enum-told .given .1)))
 
 structure·fields-keep-requires : (t : ℕ) → structure·fields-lts.Need-keep-requires (structure·fields-callees t) (structure·fields-at t) structure·fields.Post structure·fields-Inv-loop structure·fields-μ-loop
 structure·fields-keep-requires t c κs =
@@ -203,7 +212,11 @@ structure·fields-loop-again t c =
     let at-shape-in = at-letter-at .before in
     let at-loop = at-shape-in .before in
     let start = at-loop .before .before .before .before .before .before .before in
-    fields-next _ _ _ (few-variants (start .pre .1 .2)) _ _ _ _ _ _ _ _ _ _ _ _ _ _ _ _ (at-loop .loop .inv) _ _ _ _ _ _ _ (value-as (at-child-spot .child-spot .ensures) _ _ _ _ _ (at-value .value .ensures)) _ _ (at-if1 .if1 .left) (described-alignment ((field-here _ _ _ (at-loop .loop .inv .rowed) (start .pre .1 .1) _ (at-shape-in .shape-in .ensures) _ (at-letter-at .letter-at .ensures)) .shape)) (at-pad .pad .ensures .0 .0) (at-pad .pad .ensures .1) refl refl (at-add .add .ensures) (omega (arith, at-loop .loop .inv .same, at-value .value .kept, at-pad .pad .kept)) (omega (arith, at-loop .loop .inv .sames, at-value .value .kept)) _ _ _ (next-field-of _ _ _ (at-loop .loop .inv .rowed) (start .pre .1 .1) _ (at-shape-in .shape-in .ensures) _ (at-letter-at .letter-at .ensures) (apart-from CloseStructure _ (at-match .match .keys2))) (at-keep .keep .ensures) (omega (arith, at-loop .loop .inv .same, at-value .value .kept, at-pad .pad .kept, at-keep .keep .kept)) (omega (arith, at-loop .loop .inv .sames, at-value .value .kept, at-keep .keep .kept))
+    fields-next _ _ _ (few-variants (start .pre .1 .2)) _ _ _ _ _ _ _ _ _ _ _ _ _ _ _ _ (at-loop .loop .inv) _ _ _ _ _ _ _ (value-as (at-child-spot .child-spot .ensures) _ _ _ _ _ (at-value .value .ensures)) _ _
+    (at-if1 .if1 .left) (described-alignment ((field-here _ _ _ (at-loop .loop .inv .rowed) (start .pre .1 .1) _ (at-shape-in .shape-in .ensures) _ (at-letter-at .letter-at .ensures)) .shape)) (at-pad .pad .ensures .0 .0)
+    (at-pad .pad .ensures .1) refl refl (at-add .add .ensures) (omega (arith, at-loop .loop .inv .same, at-value .value .kept, at-pad .pad .kept)) (omega (arith, at-loop .loop .inv .sames, at-value .value .kept)) _ _ _
+    (next-field-of _ _ _ (at-loop .loop .inv .rowed) (start .pre .1 .1) _ (at-shape-in .shape-in .ensures) _ (at-letter-at .letter-at .ensures) (apart-from CloseStructure _ (at-match .match .keys2))) (at-keep .keep .ensures)
+    (omega (arith, at-loop .loop .inv .same, at-value .value .kept, at-pad .pad .kept, at-keep .keep .kept)) (omega (arith, at-loop .loop .inv .sames, at-value .value .kept, at-keep .keep .kept))
 
 pub structure·fields-spec : {M : Type 1} (t : ℕ) → structure·fields-lts.Closed (structure·fields-callees t) (structure·fields-at t) structure·fields.Post M
 structure·fields-spec t =

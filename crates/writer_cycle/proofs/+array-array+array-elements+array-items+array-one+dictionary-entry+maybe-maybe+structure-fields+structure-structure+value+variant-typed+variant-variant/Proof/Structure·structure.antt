@@ -89,8 +89,16 @@ structure·structure-fields-requires t c κs =
     let at-inc-structure = at-if2 .before in
     let at-if1 = at-inc-structure .before in
     let at-plain-at = at-if1 .before in
-    let start = at-plain-at .before .before .before .before .before .before .before in
-    (omega (arith, level-falls Depth.structure (start .args .context .depths) (at-inc-structure .inc-structure .result) (at-inc-structure .inc-structure .ensures) (at-if2 .if2 .left), start .pre .0), (structure-rowed (start .pre .1 .0) (start .pre .1 .1), start .pre .1 .0 .table, raised-in Depth.structure _ _ (at-inc-structure .inc-structure .ensures) _ (at-if2 .if2 .left), record { within = at-plain-at .plain-at .ensures .here (not-false _ (at-if1 .if1 .left)) .whole; near = start .pre .1 .3 .near; few = start .pre .1 .3 .few }))
+    let start = at-plain-at .before .before .before .before .before .before .before in (
+      omega (arith, level-falls Depth.structure (start .args .context .depths) (at-inc-structure .inc-structure .result) (at-inc-structure .inc-structure .ensures) (at-if2 .if2 .left), start .pre .0),
+      (
+        structure-rowed (start .pre .1 .0) (start .pre .1 .1),
+        start .pre .1 .0 .table,
+        raised-in Depth.structure _ _ (at-inc-structure .inc-structure .ensures) _ (at-if2 .if2 .left),
+        record
+            { within = at-plain-at .plain-at .ensures .here (not-false _ (at-if1 .if1 .left)) .whole; near = start .pre .1 .3 .near; few = start .pre .1 .3 .few },
+      ),
+    )
 
 structure·structure-ended-requires : (t : ℕ) → structure·structure-lts.Need-ended-requires (structure·structure-callees t) (structure·structure-at t) structure·structure.Post
 structure·structure-ended-requires t c κs =
@@ -120,7 +128,12 @@ structure·structure-returns-3 t c =
     let at-if1 = at-inc-structure .before in
     let at-plain-at = at-if1 .before in
     let start = at-plain-at .before .before .before .before .before .before .before in
-    value-structure (start .pre .1 .0) (start .pre .1 .1) _ _ _ (few-variants (start .pre .1 .2)) _ _ _ _ _ _ (at-plain-at .plain-at .ensures .here (not-false _ (at-if1 .if1 .left))) _ (at-inc-structure .inc-structure .ensures) _ _ _ (at-if2 .if2 .left) (at-structure-end .structure-end .ensures _ _ _ _ _ _ _ (structure-structured _ _) (λ f. sealed-no-ends _ _ _ (few-variants (raised-in Depth.structure _ _ (at-inc-structure .inc-structure .ensures) false (at-if2 .if2 .left))) _ _ (sym (structure-fixed (start .pre .1 .0) (start .pre .1 .1)) ∙ f) _) (λ z. omega (arith, row-bounds z (at-ended .ended .ensures _ _ _ _ _ _ _ _ _ _ _ (at-fields .fields .ensures)) .forward)) (omega (arith, at-fields .fields .kept)) (omega (arith, at-fields .fields .kept)) (at-ended .ended .ensures _ _ _ _ _ _ _ _ _ _ _ (at-fields .fields .ensures)))
+    value-structure (start .pre .1 .0) (start .pre .1 .1) _ _ _ (few-variants (start .pre .1 .2)) _ _ _ _ _ _ (at-plain-at .plain-at .ensures .here (not-false _ (at-if1 .if1 .left))) _ (at-inc-structure .inc-structure .ensures) _
+    _ _ (at-if2 .if2 .left)
+    (at-structure-end .structure-end .ensures _ _ _ _ _ _ _ (structure-structured _ _)
+    (λ f. sealed-no-ends _ _ _ (few-variants (raised-in Depth.structure _ _ (at-inc-structure .inc-structure .ensures) false (at-if2 .if2 .left))) _ _ (sym (structure-fixed (start .pre .1 .0) (start .pre .1 .1)) ∙ f) _)
+    (λ z. omega (arith, row-bounds z (at-ended .ended .ensures _ _ _ _ _ _ _ _ _ _ _ (at-fields .fields .ensures)) .forward)) (omega (arith, at-fields .fields .kept)) (omega (arith, at-fields .fields .kept))
+    (at-ended .ended .ensures _ _ _ _ _ _ _ _ _ _ _ (at-fields .fields .ensures)))
 
 pub structure·structure-spec : {M : Type 1} (t : ℕ) → structure·structure-lts.Closed (structure·structure-callees t) (structure·structure-at t) structure·structure.Post M
 structure·structure-spec t =

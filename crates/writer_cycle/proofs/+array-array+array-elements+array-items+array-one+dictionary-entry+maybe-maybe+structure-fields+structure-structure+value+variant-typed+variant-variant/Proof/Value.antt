@@ -109,6 +109,15 @@ value-structure-requires-2 t c κs =
 value-enum-told-7 : (t : ℕ) → value-lts.Need-enum-told-7 (value-callees t) (value-at t) value.Post
 value-enum-told-7 t c = search needs
 
+value-maybe-requires-2 : (t : ℕ) → value-lts.Need-maybe-requires-2 (value-callees t) (value-at t) value.Post
+value-maybe-requires-2 t c κs =
+    let at-enum-told7 = c .before .before in
+    let start = at-enum-told7 .before .before .before .before .before .before .before .before in
+    begins-not _ _ (start .pre .1 .0 .typed) _ (sym (described-kind (start .pre .1 .0)) ∙ at-enum-told7 .enum-told7 .given .1) refl
+
+value-enum-told-8 : (t : ℕ) → value-lts.Need-enum-told-8 (value-callees t) (value-at t) value.Post
+value-enum-told-8 t c = search needs
+
 value-variant-requires : (t : ℕ) → value-lts.Need-variant-requires (value-callees t) (value-at t) value.Post
 value-variant-requires t c κs =
     let start = c .before .before .before .before .before .before .before .before .before .before in
@@ -214,10 +223,9 @@ value-same-length-15 t c = search needs
 
 value-returns-9 : (t : ℕ) → value-lts.Need-returns-9 (value-callees t) (value-at t) value.Post
 value-returns-9 t c =
-    let at-variant = c .before .before .before .before in
-    let at-enum-told7 = at-variant .before .before .before in
+    let at-enum-told7 = c .before .before .before .before .before .before .before in
     let start = at-enum-told7 .before .before .before .before .before .before .before .before in
-    value-variant _ _ (start .pre .1 .0 .typed) _ _ _ _ _ _ _ _ _ _ _ _ (sym (described-kind (start .pre .1 .0)) ∙ at-enum-told7 .enum-told7 .given .1) (at-variant .variant .ensures)
+    begins-not _ _ (start .pre .1 .0 .typed) _ (sym (described-kind (start .pre .1 .0)) ∙ at-enum-told7 .enum-told7 .given .1) refl
 
 value-same-length-16 : (t : ℕ) → value-lts.Need-same-length-16 (value-callees t) (value-at t) value.Post
 value-same-length-16 t c = search needs
@@ -227,9 +235,22 @@ value-same-length-17 t c = search needs
 
 value-returns-10 : (t : ℕ) → value-lts.Need-returns-10 (value-callees t) (value-at t) value.Post
 value-returns-10 t c =
+    let at-variant = c .before .before .before .before in
+    let at-enum-told8 = at-variant .before .before .before in
+    let start = at-enum-told8 .before .before .before .before .before .before .before .before in
+    value-variant _ _ (start .pre .1 .0 .typed) _ _ _ _ _ _ _ _ _ _ _ _ (sym (described-kind (start .pre .1 .0)) ∙ at-enum-told8 .enum-told8 .given .1) (at-variant .variant .ensures)
+
+value-same-length-18 : (t : ℕ) → value-lts.Need-same-length-18 (value-callees t) (value-at t) value.Post
+value-same-length-18 t c = search needs
+
+value-same-length-19 : (t : ℕ) → value-lts.Need-same-length-19 (value-callees t) (value-at t) value.Post
+value-same-length-19 t c = search needs
+
+value-returns-11 : (t : ℕ) → value-lts.Need-returns-11 (value-callees t) (value-at t) value.Post
+value-returns-11 t c =
     let at-match = c .before .before .before .before .before .before .before in
     let start = at-match .before .before .before .before .before .before .before in
-    value-none _ _ (start .pre .1 .0 .typed) _ _ _ _ _ _ _ _ _ _ _ _ _ (described-kind (start .pre .1 .0)) (at-match .match .keys10)
+    value-none _ _ (start .pre .1 .0 .typed) _ _ _ _ _ _ _ _ _ _ _ _ _ (described-kind (start .pre .1 .0)) (at-match .match .keys11)
 
 pub value-spec : {M : Type 1} (t : ℕ) → value-lts.Closed (value-callees t) (value-at t) value.Post M
 value-spec t =
@@ -251,6 +272,8 @@ value-spec t =
     (value-enum-told-6 t)
     (value-structure-requires-2 t)
     (value-enum-told-7 t)
+    (value-maybe-requires-2 t)
+    (value-enum-told-8 t)
     (value-variant-requires t)
     (value-variant-requires-2 t)
     (value-same-length t)
@@ -280,3 +303,6 @@ value-spec t =
     (value-same-length-16 t)
     (value-same-length-17 t)
     (value-returns-10 t)
+    (value-same-length-18 t)
+    (value-same-length-19 t)
+    (value-returns-11 t)

@@ -84,7 +84,8 @@ variant·typed-returns-2 t c =
     let at-if1 = at-inc-variant .before in
     let at-shapes-of = at-if1 .before .before in
     let start = at-shapes-of .before .before .before .before .before .before .before in
-    rw (c .refused2 .ensures) (value-variant-deep _ _ _ (few-variants (start .pre .1 .2)) _ _ _ _ _ _ (start .pre .1 .0) _ _ (start .pre .1 .1) (table-type _ _ _ _ refl (at-shapes-of .shapes-of .ensures) (not-false _ (at-if1 .if1 .left))) _ (at-inc-variant .inc-variant .ensures) (at-if2 .if2 .taken))
+    rw (c .refused2 .ensures)
+    (value-variant-deep _ _ _ (few-variants (start .pre .1 .2)) _ _ _ _ _ _ (start .pre .1 .0) _ _ (start .pre .1 .1) (table-type _ _ _ _ refl (at-shapes-of .shapes-of .ensures) (not-false _ (at-if1 .if1 .left))) _ (at-inc-variant .inc-variant .ensures) (at-if2 .if2 .taken))
 
 variant·typed-slice-aggregate-shape-in : (t : ℕ) → variant·typed-lts.Need-slice-aggregate-shape-in (variant·typed-callees t) (variant·typed-at t) variant·typed.Post
 variant·typed-slice-aggregate-shape-in t c = search needs
@@ -107,16 +108,30 @@ variant·typed-value-requires t c κs =
     let at-inc-variant = at-if2 .before in
     let at-if1 = at-inc-variant .before in
     let at-shapes-of = at-if1 .before .before in
-    let start = at-shapes-of .before .before .before .before .before .before .before in
-    (omega (arith, level-falls Depth.variant (start .args .context .depths) (at-inc-variant .inc-variant .result) (at-inc-variant .inc-variant .ensures) (at-if2 .if2 .left), start .pre .0), (described-as (at-shape-in .shape-in .ensures) (front-described _ _ (table-filled _ _ _ _ refl (at-shapes-of .shapes-of .ensures) (at-shapes-of .shapes-of .kept .1 .0) (not-false _ (at-if1 .if1 .left))) (front _ (table-type _ _ _ _ refl (at-shapes-of .shapes-of .ensures) (not-false _ (at-if1 .if1 .left))))), raised-in Depth.variant _ _ (at-inc-variant .inc-variant .ensures) _ (at-if2 .if2 .left), record { within = omega (arith, start .pre .1 .1 .at .whole); near = start .pre .1 .3 .near; few = start .pre .1 .3 .few }))
+    let start = at-shapes-of .before .before .before .before .before .before .before in (
+      omega (arith, level-falls Depth.variant (start .args .context .depths) (at-inc-variant .inc-variant .result) (at-inc-variant .inc-variant .ensures) (at-if2 .if2 .left), start .pre .0),
+      (
+        described-as (at-shape-in .shape-in .ensures)
+            (front-described _ _ (table-filled _ _ _ _ refl (at-shapes-of .shapes-of .ensures) (at-shapes-of .shapes-of .kept .1 .0) (not-false _ (at-if1 .if1 .left))) (front _ (table-type _ _ _ _ refl (at-shapes-of .shapes-of .ensures) (not-false _ (at-if1 .if1 .left))))),
+        raised-in Depth.variant _ _ (at-inc-variant .inc-variant .ensures) _ (at-if2 .if2 .left),
+        record { within = omega (arith, start .pre .1 .1 .at .whole); near = start .pre .1 .3 .near; few = start .pre .1 .3 .few },
+      ),
+    )
 
 variant·typed-variant-end-requires : (t : ℕ) → variant·typed-lts.Need-variant-end-requires (variant·typed-callees t) (variant·typed-at t) variant·typed.Post
 variant·typed-variant-end-requires t c κs =
     let at-value = c .before .before .before .before .before in
     let at-if1 = at-value .before .before .before .before .before .before .before .before .before .before in
     let at-shapes-of = at-if1 .before .before in
-    let start = at-shapes-of .before .before .before .before .before .before .before in
-    (start .pre .1 .3 .near, λ z. bounds z (at-value .value .ensures) .small, λ z. bounds z (at-value .value .ensures) .within, start .pre .1 .1 .order, start .pre .1 .1 .inside, front-short _ _ _ (start .pre .1 .1 .order) (start .pre .1 .1 .inside) ((table-filled _ _ _ _ refl (at-shapes-of .shapes-of .ensures) (at-shapes-of .shapes-of .kept .1 .0) (not-false _ (at-if1 .if1 .left))) .few))
+    let start = at-shapes-of .before .before .before .before .before .before .before in (
+      start .pre .1 .3 .near,
+      λ z. bounds z (at-value .value .ensures) .small,
+      λ z. bounds z (at-value .value .ensures) .within,
+      start .pre .1 .1 .order,
+      start .pre .1 .1 .inside,
+      front-short _ _ _ (start .pre .1 .1 .order)
+          (start .pre .1 .1 .inside) ((table-filled _ _ _ _ refl (at-shapes-of .shapes-of .ensures) (at-shapes-of .shapes-of .kept .1 .0) (not-false _ (at-if1 .if1 .left))) .few),
+    )
 
 variant·typed-same-length : (t : ℕ) → variant·typed-lts.Need-same-length (variant·typed-callees t) (variant·typed-at t) variant·typed.Post
 variant·typed-same-length t c = search needs
@@ -134,7 +149,9 @@ variant·typed-returns-3 t c =
     let at-if1 = at-inc-variant .before in
     let at-shapes-of = at-if1 .before .before in
     let start = at-shapes-of .before .before .before .before .before .before .before in
-    value-variant-on _ _ _ (few-variants (start .pre .1 .2)) _ _ _ _ _ _ (start .pre .1 .0) _ _ (start .pre .1 .1) (table-type _ _ _ _ refl (at-shapes-of .shapes-of .ensures) (not-false _ (at-if1 .if1 .left))) _ (at-inc-variant .inc-variant .ensures) _ _ _ _ (ap (λ (s : Shape). s .at) (at-shape-in .shape-in .ensures)) (at-if2 .if2 .left) (at-variant-end .variant-end .ensures _ _ _ _ _ _ _ (front-spells _ (table-type _ _ _ _ refl (at-shapes-of .shapes-of .ensures) (not-false _ (at-if1 .if1 .left))) _ (ap (λ (s : Shape). s .at) (at-shape-in .shape-in .ensures))) (omega (arith, at-value .value .kept)) (at-value .value .ensures))
+    value-variant-on _ _ _ (few-variants (start .pre .1 .2)) _ _ _ _ _ _ (start .pre .1 .0) _ _ (start .pre .1 .1) (table-type _ _ _ _ refl (at-shapes-of .shapes-of .ensures) (not-false _ (at-if1 .if1 .left))) _
+    (at-inc-variant .inc-variant .ensures) _ _ _ _ (ap (λ (s : Shape). s .at) (at-shape-in .shape-in .ensures)) (at-if2 .if2 .left)
+    (at-variant-end .variant-end .ensures _ _ _ _ _ _ _ (front-spells _ (table-type _ _ _ _ refl (at-shapes-of .shapes-of .ensures) (not-false _ (at-if1 .if1 .left))) _ (ap (λ (s : Shape). s .at) (at-shape-in .shape-in .ensures))) (omega (arith, at-value .value .kept)) (at-value .value .ensures))
 
 pub variant·typed-spec : {M : Type 1} (t : ℕ) → variant·typed-lts.Closed (variant·typed-callees t) (variant·typed-at t) variant·typed.Post M
 variant·typed-spec t =

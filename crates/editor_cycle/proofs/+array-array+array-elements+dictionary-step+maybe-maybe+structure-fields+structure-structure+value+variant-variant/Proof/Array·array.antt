@@ -1,0 +1,60 @@
+-- The needs of `array·array`, and what answers each.
+use mathlib.Core.Path.{_∙_, _≡_, ap, refl, sym}
+use native.Mathlib.Omega.{arith}
+use Rattle.editor_cycle.proofs.WalkLaws.{counts}
+use Rattle.editor_cycle.proofs.Items.{item-is, array-fixed, array-deeper, repeats, elements-ready, array-walks}
+use borrow.Author.Needs.{needs}
+use Prim.Native.Nat.{ℕ}
+use Rattle.editor_cycle.proofs as of
+use Rattle.editor_cycle.proofs.+array-array+array-elements+dictionary-step+maybe-maybe+structure-fields+structure-structure+value+variant-variant as cycle
+use cycle.Proof.Measures.{array·array-at, array·elements-below}
+use Rattle.container_depths.proofs.ContainerDepths.inc_array.Reads as inc-array-reads
+use cycle.Lts-array-array as array·array-lts
+use of.answers.counted.Reads as counted-reads
+use of.array.array.Reads as array·array
+use of.array.elements.Reads as array·elements
+use Rattle.signature.proofs.items.item_of.Reads as item-of-reads
+
+abbrev array·array-callees : ℕ → array·array-lts.Claims
+array·array-callees t = (
+  item-of-reads.Asked,
+  item-of-reads.Learnt,
+  counted-reads.Asked,
+  counted-reads.Learnt,
+  inc-array-reads.Asked,
+  inc-array-reads.Learnt,
+  array·elements-below t,
+  array·elements.Post,
+)
+
+array·array-item-of-requires : (t : ℕ) → array·array-lts.Need-item-of-requires (array·array-callees t) (array·array-at t) array·array.Post
+array·array-item-of-requires t c κs = search needs
+
+array·array-counted-requires : (t : ℕ) → array·array-lts.Need-counted-requires (array·array-callees t) (array·array-at t) array·array.Post
+array·array-counted-requires t c κs = search needs
+
+array·array-returns : (t : ℕ) → array·array-lts.Need-returns (array·array-callees t) (array·array-at t) array·array.Post
+array·array-returns t c = counts _ _ _ _ _ _ _ _ _ 0 _ (c .counted .ensures) (array-fixed (item-is (c .before .before .before .before .before .before .before .args .text .now) (c .before .before .before .before .before .before .before .args .tables .now) (c .before .before .before .before .before .before .before .args .shape) (c .before .before .before .before .before .before .before .pre .1 .0) (c .before .before .before .before .before .before .before .pre .1 .1) (c .before .before .item-of .result) (c .before .before .item-of .ensures)) (c .before .before .before .before .before .before .before .args .d) (c .before .before .before .before .before .before .before .args .aim .big) (c .before .before .before .before .before .before .before .args .part .now) (c .before .if1 .taken)) (omega arith) refl
+
+array·array-inc-array-requires : (t : ℕ) → array·array-lts.Need-inc-array-requires (array·array-callees t) (array·array-at t) array·array.Post
+array·array-inc-array-requires t c κs = search needs
+
+array·array-elements-requires : (t : ℕ) → array·array-lts.Need-elements-requires (array·array-callees t) (array·array-at t) array·array.Post
+array·array-elements-requires t c κs = (omega (arith, array-deeper (item-is (c .before .before .before .before .before .before .before .before .before .args .text .now) (c .before .before .before .before .before .before .before .before .before .args .tables .now) (c .before .before .before .before .before .before .before .before .before .args .shape) (c .before .before .before .before .before .before .before .before .before .pre .1 .0) (c .before .before .before .before .before .before .before .before .before .pre .1 .1) (c .before .before .before .before .item-of .result) (c .before .before .before .before .item-of .ensures)) (c .before .before .before .before .before .before .before .before .before .args .d) (c .before .before .before .if1 .left) (c .before .before .inc-array .result) (c .before .before .inc-array .ensures) (c .before .before .before .before .before .before .before .before .before .args .place) (c .before .before .before .before .before .before .before .before .before .args .part .now) (c .before .before .before .before .before .before .before .before .before .pre .1 .2) .falls, c .before .before .before .before .before .before .before .before .before .pre .0), (repeats (item-is (c .before .before .before .before .before .before .before .before .before .args .text .now) (c .before .before .before .before .before .before .before .before .before .args .tables .now) (c .before .before .before .before .before .before .before .before .before .args .shape) (c .before .before .before .before .before .before .before .before .before .pre .1 .0) (c .before .before .before .before .before .before .before .before .before .pre .1 .1) (c .before .before .before .before .item-of .result) (c .before .before .before .before .item-of .ensures)) (c .before .before .before .before .before .before .before .before .before .args .d) (c .before .before .before .if1 .left), elements-ready (item-is (c .before .before .before .before .before .before .before .before .before .args .text .now) (c .before .before .before .before .before .before .before .before .before .args .tables .now) (c .before .before .before .before .before .before .before .before .before .args .shape) (c .before .before .before .before .before .before .before .before .before .pre .1 .0) (c .before .before .before .before .before .before .before .before .before .pre .1 .1) (c .before .before .before .before .item-of .result) (c .before .before .before .before .item-of .ensures)) (c .before .before .before .before .before .before .before .before .before .args .d) (c .before .before .before .if1 .left) (c .before .before .inc-array .result) (c .before .before .inc-array .ensures) (c .before .before .before .before .before .before .before .before .before .args .place) (c .before .before .before .before .before .before .before .before .before .args .part .now) (c .before .before .before .before .before .before .before .before .before .pre .1 .2)))
+
+array·array-same-length : (t : ℕ) → array·array-lts.Need-same-length (array·array-callees t) (array·array-at t) array·array.Post
+array·array-same-length t c = search needs
+
+array·array-returns-2 : (t : ℕ) → array·array-lts.Need-returns-2 (array·array-callees t) (array·array-at t) array·array.Post
+array·array-returns-2 t c = array-walks (item-is (c .before .before .before .before .before .before .before .before .before .before .before .before .args .text .now) (c .before .before .before .before .before .before .before .before .before .before .before .before .args .tables .now) (c .before .before .before .before .before .before .before .before .before .before .before .before .args .shape) (c .before .before .before .before .before .before .before .before .before .before .before .before .pre .1 .0) (c .before .before .before .before .before .before .before .before .before .before .before .before .pre .1 .1) (c .before .before .before .before .before .before .before .item-of .result) (c .before .before .before .before .before .before .before .item-of .ensures)) (c .before .before .before .before .before .before .before .before .before .before .before .before .args .d) (c .before .before .before .before .before .before .if1 .left) (c .before .before .before .before .before .inc-array .result) (c .before .before .before .before .before .inc-array .ensures) (c .before .before .before .before .before .before .before .before .before .before .before .before .args .place) (c .before .before .before .before .before .before .before .before .before .before .before .before .args .part .now) (c .before .before .before .before .before .before .before .before .before .before .before .before .pre .1 .2) (c .before .before .before .before .before .before .before .before .before .before .before .before .args .aim .big) _ _ _ _ _ (c .before .before .elements .ensures)
+
+pub array·array-spec : {M : Type 1} (t : ℕ) → array·array-lts.Closed (array·array-callees t) (array·array-at t) array·array.Post M
+array·array-spec t =
+    array·array-lts.spec (array·array-callees t) (array·array-at t) array·array.Post
+    (array·array-item-of-requires t)
+    (array·array-counted-requires t)
+    (array·array-returns t)
+    (array·array-inc-array-requires t)
+    (array·array-elements-requires t)
+    (array·array-same-length t)
+    (array·array-returns-2 t)

@@ -1,0 +1,118 @@
+-- The needs of `variant·variant`, and what answers each.
+use mathlib.Core.Path.{_∙_, _≡_, ap, refl, sym}
+use native.Mathlib.Omega.{arith}
+use Rattle.reader_basic.proofs.Answers.{denied, granted}
+use lib.ListN.{length-take}
+use Rattle.signature.specs.declared.shapes.Shape.{Shape}
+use Rattle.signature.proofs.TreeLaws.{front}
+use Rattle.reader_basic.proofs.Loops.{tail}
+use Rattle.editor_cycle.proofs.WalkLaws.{counts}
+use Rattle.editor_cycle.proofs.Variants.{separator-positive, variant-untyped, variant-deeper, front-placed, value-ready, variant-fits, variant-closed, signature-short}
+use borrow.Author.Needs.{needs}
+use Prim.Native.Nat.{ℕ}
+use Rattle.editor_cycle.proofs as of
+use Rattle.editor_cycle.proofs.+array-array+array-elements+dictionary-step+maybe-maybe+structure-fields+structure-structure+value+variant-variant as cycle
+use cycle.Proof.Measures.{value-below, variant·variant-at}
+use Rattle.container_depths.proofs.ContainerDepths.inc_variant.Reads as inc-variant-reads
+use cycle.Lts-variant-variant as variant·variant-lts
+use of.answers.counted.Reads as counted-reads
+use of.closing.close_variant.Reads as close-variant-reads
+use of.value.Reads as value
+use of.variant.variant.Reads as variant·variant
+use Rattle.reader_basic.proofs.basic.separator.Reads as separator-reads
+use Rattle.signature.proofs.shapes.shape_in.Reads as shape-in-reads
+use Rattle.strict_basic.proofs.sizes.tables_of.Reads as tables-of-reads
+
+abbrev variant·variant-callees : ℕ → variant·variant-lts.Claims
+variant·variant-callees t = (
+  separator-reads.Asked,
+  separator-reads.Learnt,
+  inc-variant-reads.Asked,
+  inc-variant-reads.Learnt,
+  tables-of-reads.Asked,
+  tables-of-reads.Learnt,
+  counted-reads.Asked,
+  counted-reads.Learnt,
+  shape-in-reads.Asked,
+  shape-in-reads.Learnt,
+  value-below t,
+  value.Post,
+  close-variant-reads.Asked,
+  close-variant-reads.Learnt,
+)
+
+variant·variant-separator-requires : (t : ℕ) → variant·variant-lts.Need-separator-requires (variant·variant-callees t) (variant·variant-at t) variant·variant.Post
+variant·variant-separator-requires t c κs = search needs
+
+variant·variant-inc-variant-requires : (t : ℕ) → variant·variant-lts.Need-inc-variant-requires (variant·variant-callees t) (variant·variant-at t) variant·variant.Post
+variant·variant-inc-variant-requires t c κs = search needs
+
+variant·variant-sub-end : (t : ℕ) → variant·variant-lts.Need-sub-end (variant·variant-callees t) (variant·variant-at t) variant·variant.Post
+variant·variant-sub-end t c = omega (arith, separator-positive (c .before .before .before .before .before .args .d) (c .before .before .before .before .before .args .place) (c .before .before .before .before .before .args .part .now) (c .before .before .before .before .before .pre .1) (c .before .before .separator .result) (c .before .before .separator .ensures .0))
+
+variant·variant-sub-signature : (t : ℕ) → variant·variant-lts.Need-sub-signature (variant·variant-callees t) (variant·variant-at t) variant·variant.Post
+variant·variant-sub-signature t c = omega (arith, c .before .before .separator .ensures .1)
+
+variant·variant-part-signature-start : (t : ℕ) → variant·variant-lts.Need-part-signature-start (variant·variant-callees t) (variant·variant-at t) variant·variant.Post
+variant·variant-part-signature-start t c = omega (arith, c .before .before .separator .ensures .1)
+
+variant·variant-part-signature-end : (t : ℕ) → variant·variant-lts.Need-part-signature-end (variant·variant-callees t) (variant·variant-at t) variant·variant.Post
+variant·variant-part-signature-end t c = omega (arith, c .before .before .separator .ensures .1)
+
+variant·variant-slice-aggregate-tables-of : (t : ℕ) → variant·variant-lts.Need-slice-aggregate-tables-of (variant·variant-callees t) (variant·variant-at t) variant·variant.Post
+variant·variant-slice-aggregate-tables-of t c = search needs
+
+variant·variant-tables-of-requires : (t : ℕ) → variant·variant-lts.Need-tables-of-requires (variant·variant-callees t) (variant·variant-at t) variant·variant.Post
+variant·variant-tables-of-requires t c κs = search needs
+
+variant·variant-counted-requires : (t : ℕ) → variant·variant-lts.Need-counted-requires (variant·variant-callees t) (variant·variant-at t) variant·variant.Post
+variant·variant-counted-requires t c κs = search needs
+
+variant·variant-returns : (t : ℕ) → variant·variant-lts.Need-returns (variant·variant-callees t) (variant·variant-at t) variant·variant.Post
+variant·variant-returns t c = counts _ _ _ _ _ _ _ _ _ 0 _ (c .counted .ensures) (variant-untyped (c .before .before .before .before .before .before .before .before .before .before .before .args .d) (c .before .before .before .before .before .before .before .before .before .before .before .args .place) (c .before .before .before .before .before .before .before .before .before .before .before .args .part .now) (c .before .before .before .before .before .before .before .before .before .before .before .pre .1) (c .before .before .before .before .before .before .before .before .separator .result) (c .before .before .before .before .before .before .before .before .separator .ensures .0) (c .before .before .before .before .before .before .before .before .before .before .before .args .aim .big) _ (tail (c .before .before .before .before .before .before .before .before .separator .result) (c .before .before .before .before .before .before .before .before .before .before .before .args .part .now)) (sym (c .before .before .before .tables-of .ensures .judged) ∙ denied (c .before .if1 .taken))) (omega arith) refl
+
+variant·variant-slice-aggregate-shape-in : (t : ℕ) → variant·variant-lts.Need-slice-aggregate-shape-in (variant·variant-callees t) (variant·variant-at t) variant·variant.Post
+variant·variant-slice-aggregate-shape-in t c = search needs
+
+variant·variant-shape-in-requires : (t : ℕ) → variant·variant-lts.Need-shape-in-requires (variant·variant-callees t) (variant·variant-at t) variant·variant.Post
+variant·variant-shape-in-requires t c κs = search needs
+
+variant·variant-slice-aggregate-value : (t : ℕ) → variant·variant-lts.Need-slice-aggregate-value (variant·variant-callees t) (variant·variant-at t) variant·variant.Post
+variant·variant-slice-aggregate-value t c = search needs
+
+variant·variant-slice-aggregate-value-2 : (t : ℕ) → variant·variant-lts.Need-slice-aggregate-value-2 (variant·variant-callees t) (variant·variant-at t) variant·variant.Post
+variant·variant-slice-aggregate-value-2 t c = simp length-take (omega (arith, c .before .before .before .before .before .before .before .before .before .before .before .separator .ensures .1))
+
+variant·variant-value-requires : (t : ℕ) → variant·variant-lts.Need-value-requires (variant·variant-callees t) (variant·variant-at t) variant·variant.Post
+variant·variant-value-requires t c κs = (omega (arith, variant-deeper (c .before .before .before .before .before .before .before .before .before .before .before .before .before .before .before .args .d) (c .before .before .before .before .before .before .before .before .before .before .before .before .before .before .before .args .place) (c .before .before .before .before .before .before .before .before .before .before .before .before .before .before .before .args .part .now) (c .before .before .before .before .before .before .before .before .before .before .before .before .before .before .before .pre .1) (c .before .before .before .before .before .before .before .before .before .before .before .before .separator .result) (c .before .before .before .before .before .before .before .before .before .before .before .before .separator .ensures .0) (c .before .before .before .before .before .before .before .before .before .before .before .inc-variant .result) (c .before .before .before .before .before .before .before .before .before .before .before .inc-variant .ensures) .falls, c .before .before .before .before .before .before .before .before .before .before .before .before .before .before .before .pre .0), (front-placed _ _ (c .before .before .before .before .before .before .before .tables-of .ensures .filled (granted (c .before .before .before .before .before .if1 .left))) (front _ (sym (c .before .before .before .before .before .before .before .tables-of .ensures .judged) ∙ granted (c .before .before .before .before .before .if1 .left))) _ (c .before .before .before .shape-in .ensures), value-ready (c .before .before .before .before .before .before .before .before .before .before .before .before .before .before .before .args .d) (c .before .before .before .before .before .before .before .before .before .before .before .before .before .before .before .args .place) (c .before .before .before .before .before .before .before .before .before .before .before .before .before .before .before .args .part .now) (c .before .before .before .before .before .before .before .before .before .before .before .before .before .before .before .pre .1) (c .before .before .before .before .before .before .before .before .before .before .before .before .separator .result) (c .before .before .before .before .before .before .before .before .before .before .before .before .separator .ensures .0) (c .before .before .before .before .before .before .before .before .before .before .before .inc-variant .result) (c .before .before .before .before .before .before .before .before .before .before .before .inc-variant .ensures) _ (tail (c .before .before .before .before .before .before .before .before .before .before .before .before .separator .result) (c .before .before .before .before .before .before .before .before .before .before .before .before .before .before .before .args .part .now)) (front _ (sym (c .before .before .before .before .before .before .before .tables-of .ensures .judged) ∙ granted (c .before .before .before .before .before .if1 .left))) _ (ap (λ (x : Shape). x .at) (c .before .before .before .shape-in .ensures)) _ refl (omega (arith, c .before .before .before .before .before .before .before .before .before .before .before .before .separator .ensures .1))))
+
+variant·variant-close-variant-requires : (t : ℕ) → variant·variant-lts.Need-close-variant-requires (variant·variant-callees t) (variant·variant-at t) variant·variant.Post
+variant·variant-close-variant-requires t c κs = (variant-fits (c .before .before .before .before .before .before .before .before .before .before .before .before .before .before .before .before .before .before .before .args .d) (c .before .before .before .before .before .before .before .before .before .before .before .before .before .before .before .before .before .before .before .args .place) (c .before .before .before .before .before .before .before .before .before .before .before .before .before .before .before .before .before .before .before .args .part .now) (c .before .before .before .before .before .before .before .before .before .before .before .before .before .before .before .before .before .before .before .pre .1) (c .before .before .before .before .before .before .before .before .before .before .before .before .before .before .before .before .separator .result) (c .before .before .before .before .before .before .before .before .before .before .before .before .before .before .before .before .separator .ensures .0) (c .before .before .before .before .before .before .before .before .before .before .before .before .before .before .before .inc-variant .result) (c .before .before .before .before .before .before .before .before .before .before .before .before .before .before .before .inc-variant .ensures) _ (tail (c .before .before .before .before .before .before .before .before .before .before .before .before .before .before .before .before .separator .result) (c .before .before .before .before .before .before .before .before .before .before .before .before .before .before .before .before .before .before .before .args .part .now)) (front _ (sym (c .before .before .before .before .before .before .before .before .before .before .before .tables-of .ensures .judged) ∙ granted (c .before .before .before .before .before .before .before .before .before .if1 .left))) _ (ap (λ (x : Shape). x .at) (c .before .before .before .before .before .before .before .shape-in .ensures)) _ refl (c .before .before .before .before .before .before .before .before .before .before .before .before .before .before .before .before .before .before .before .args .aim .big) _ _ _ _ _ (c .before .before .before .value .ensures), signature-short (c .before .before .before .before .before .before .before .before .before .before .before .before .before .before .before .before .separator .result) (c .before .before .before .before .before .before .before .before .before .before .before .before .before .before .before .before .before .before .before .args .part .now) (c .before .before .before .before .before .before .before .before .before .before .before .before .before .before .before .before .before .before .before .pre .1))
+
+variant·variant-same-length : (t : ℕ) → variant·variant-lts.Need-same-length (variant·variant-callees t) (variant·variant-at t) variant·variant.Post
+variant·variant-same-length t c = search needs
+
+variant·variant-returns-2 : (t : ℕ) → variant·variant-lts.Need-returns-2 (variant·variant-callees t) (variant·variant-at t) variant·variant.Post
+variant·variant-returns-2 t c = variant-closed (c .before .before .before .before .before .before .before .before .before .before .before .before .before .before .before .before .before .before .before .before .before .before .args .d) (c .before .before .before .before .before .before .before .before .before .before .before .before .before .before .before .before .before .before .before .before .before .before .args .place) (c .before .before .before .before .before .before .before .before .before .before .before .before .before .before .before .before .before .before .before .before .before .before .args .part .now) (c .before .before .before .before .before .before .before .before .before .before .before .before .before .before .before .before .before .before .before .before .before .before .pre .1) (c .before .before .before .before .before .before .before .before .before .before .before .before .before .before .before .before .before .before .before .separator .result) (c .before .before .before .before .before .before .before .before .before .before .before .before .before .before .before .before .before .before .before .separator .ensures .0) (c .before .before .before .before .before .before .before .before .before .before .before .before .before .before .before .before .before .before .inc-variant .result) (c .before .before .before .before .before .before .before .before .before .before .before .before .before .before .before .before .before .before .inc-variant .ensures) _ (tail (c .before .before .before .before .before .before .before .before .before .before .before .before .before .before .before .before .before .before .before .separator .result) (c .before .before .before .before .before .before .before .before .before .before .before .before .before .before .before .before .before .before .before .before .before .before .args .part .now)) (front _ (sym (c .before .before .before .before .before .before .before .before .before .before .before .before .before .before .tables-of .ensures .judged) ∙ granted (c .before .before .before .before .before .before .before .before .before .before .before .before .if1 .left))) _ (ap (λ (x : Shape). x .at) (c .before .before .before .before .before .before .before .before .before .before .shape-in .ensures)) _ refl (c .before .before .before .before .before .before .before .before .before .before .before .before .before .before .before .before .before .before .before .before .before .before .args .aim .big) _ _ _ _ _ (c .before .before .before .before .before .before .value .ensures) _ _ (c .before .before .close-variant .ensures)
+
+pub variant·variant-spec : {M : Type 1} (t : ℕ) → variant·variant-lts.Closed (variant·variant-callees t) (variant·variant-at t) variant·variant.Post M
+variant·variant-spec t =
+    variant·variant-lts.spec (variant·variant-callees t) (variant·variant-at t) variant·variant.Post
+    (variant·variant-separator-requires t)
+    (variant·variant-inc-variant-requires t)
+    (variant·variant-sub-end t)
+    (variant·variant-sub-signature t)
+    (variant·variant-part-signature-start t)
+    (variant·variant-part-signature-end t)
+    (variant·variant-slice-aggregate-tables-of t)
+    (variant·variant-tables-of-requires t)
+    (variant·variant-counted-requires t)
+    (variant·variant-returns t)
+    (variant·variant-slice-aggregate-shape-in t)
+    (variant·variant-shape-in-requires t)
+    (variant·variant-slice-aggregate-value t)
+    (variant·variant-slice-aggregate-value-2 t)
+    (variant·variant-value-requires t)
+    (variant·variant-close-variant-requires t)
+    (variant·variant-same-length t)
+    (variant·variant-returns-2 t)

@@ -1,0 +1,11 @@
+pub mod WalkLaws
+pub mod ClosingLaws
+pub mod Children
+pub mod ReadingLaws
+pub mod StartLaws
+pub mod Values
+pub mod Arrays
+pub mod Items
+pub mod Entries
+pub mod Structures
+pub mod Variants

@@ -1,0 +1,80 @@
+use mathlib.Core.Path.{_≡_, refl, sym, ap, _∙_}
+use native.Mathlib.Omega.{arith}
+use Rattle.reader_basic.proofs.Answers.{denied, granted}
+use Rattle.editor_cycle.proofs.ClosingLaws.{closes-same, closes-joined}
+use Rattle.editor_cycle.proofs.ClosingLaws.{front-is, rest-is, element-closed}
+use borrow.Author.Needs.{needs}
+use Rattle.editor_cycle.proofs.closing.close_element.Statement.{statement}
+use Rattle.editor_cycle.proofs.closing.close_element.Tie as tie
+use Rattle.editor_cycle.proofs.closing.close_element.Reads as reads
+use Rattle.editor_cycle.proofs.closing.close_element.Lts as lts
+use Rattle.editor_basic.proofs.elements.behind.Reads as behind-reads
+use Rattle.editor_basic.proofs.rewriter.finish_array.Reads as finish-array-reads
+use Rattle.editor_cycle.proofs.answers.edited.Reads as edited-reads
+use Rattle.editor_cycle.proofs.answers.edits.Reads as edits-reads
+use Rattle.editor_cycle.proofs.closing.first_of.Reads as first-of-reads
+
+-- src/closing.rt:91:9
+edits-requires : tie.Need-edits-requires
+edits-requires c κs = search needs
+
+-- src/closing.rt:92:9
+returns : tie.Need-returns
+returns c = closes-same _ _ _ _ (c .before .before .before .before .args .walked) _ (sym (c .before .edits .ensures) ∙ denied (c .if1 .taken))
+
+-- src/closing.rt:94:14
+add-to : tie.Need-add-to
+add-to c = let fits-of = c .before .before .before .before .before .pre .0 (sym (c .before .before .edits .ensures) ∙ granted (c .before .if1 .left)) in omega (arith, fits-of .after, fits-of .inside, fits-of .short)
+
+-- src/closing.rt:95:20
+sub-at : tie.Need-sub-at
+sub-at c = let fits-of = c .before .before .before .before .before .before .pre .0 (sym (c .before .before .before .edits .ensures) ∙ granted (c .before .before .if1 .left)) in omega (arith, fits-of .after, fits-of .inside, fits-of .short)
+
+-- src/closing.rt:95:14
+sub-at-2 : tie.Need-sub-at-2
+sub-at-2 c = let fits-of = c .before .before .before .before .before .before .pre .0 (sym (c .before .before .before .edits .ensures) ∙ granted (c .before .before .if1 .left)) in omega (arith, fits-of .after, fits-of .inside, fits-of .short)
+
+-- src/closing.rt:96:31
+sub-first-of : tie.Need-sub-first-of
+sub-first-of c = search needs
+
+-- src/closing.rt:96:9
+first-of-requires : tie.Need-first-of-requires
+first-of-requires c κs = search needs
+
+-- src/closing.rt:97:44
+behind-requires : tie.Need-behind-requires
+behind-requires c κs = search needs
+
+-- src/closing.rt:97:9
+finish-array-requires : tie.Need-finish-array-requires
+finish-array-requires c κs = let fits-of = c .before .before .before .before .before .before .before .before .before .before .before .pre .0 (sym (c .before .before .before .before .before .before .before .before .edits .ensures) ∙ granted (c .before .before .before .before .before .before .before .if1 .left)) in (front-is (c .before .before .before .before .before .before .before .before .before .before .before .args .all) (c .before .before .before .before .before .before .before .before .before .before .before .args .part .now) _ _ (c .before .before .first-of .ensures) (omega arith) (c .before .before .before .before .before .before .before .before .before .before .before .pre .1 .whole), rest-is _ _ (c .before .behind .ensures) (c .before .before .before .before .before .before .before .before .before .before .before .pre .1 .behind), omega (arith, fits-of .after, fits-of .inside, fits-of .short))
+
+-- src/closing.rt:98:5
+edited-requires : tie.Need-edited-requires
+edited-requires c κs = search needs
+
+-- src/closing.rt:78:1
+same-length : tie.Need-same-length
+same-length c = search needs
+
+-- src/closing.rt:78:1
+returns-2 : tie.Need-returns-2
+returns-2 c = let fits-of = c .before .before .before .before .before .before .before .before .before .before .before .before .before .before .before .pre .0 (sym (c .before .before .before .before .before .before .before .before .before .before .before .before .edits .ensures) ∙ granted (c .before .before .before .before .before .before .before .before .before .before .before .if1 .left)) in element-closed (c .before .before .before .before .before .before .before .before .before .before .before .before .before .before .before .args .all) (c .before .before .before .before .before .before .before .before .before .before .before .before .before .before .before .args .rest) (c .before .before .before .before .before .before .before .before .before .before .before .before .before .before .before .args .end) (c .before .before .before .before .before .before .before .before .before .before .before .before .before .before .before .args .part .now) _ _ (c .before .before .before .before .before .before .before .before .before .before .before .before .before .before .before .args .walked) _ _ _ _ _ _ _ (sym (c .before .before .before .before .before .before .before .before .before .before .before .before .edits .ensures) ∙ granted (c .before .before .before .before .before .before .before .before .before .before .before .if1 .left)) (c .edited .ensures) (c .before .before .before .before .before .before .first-of .ensures) (c .before .before .before .before .before .behind .ensures) (c .before .before .before .finish-array .ensures .1 .0) (c .before .before .before .finish-array .ensures .1 .1) refl (c .before .before .before .finish-array .ensures .0)
+
+pub close-element-spec : {M : Type 1} → statement M
+close-element-spec =
+    tie.close
+    (tie.spec
+    edits-requires
+    returns
+    add-to
+    sub-at
+    sub-at-2
+    sub-first-of
+    first-of-requires
+    behind-requires
+    finish-array-requires
+    edited-requires
+    same-length
+    returns-2)

@@ -224,9 +224,9 @@ module _ {text tables : List ℕ} {i : Item} (g : Repeats text tables i) (d : Co
       pub entry-order : (v .start ≤ v .body) × (v .body ≤ length l)
       entry-order = (omega (arith, start-of, body-is, value-at .least), omega (arith, body-is))
 
-      pub value-ready : Ready value-test d (p + v .start) (take (v .body - v .start) (drop (v .start) l))
+      pub entry-ready : Ready value-test d (p + v .start) (take (v .body - v .start) (drop (v .start) l))
       unfolding part
-      value-ready = record {
+      entry-ready = record {
         shallow = w .shallow;
         near = (let n = length-part (v .start) (v .body) l (entry-order .1) in omega (arith, w .near, entry-order .0, entry-order .1));
         written = ap (λ (j : ℕ). value-test .accepts (depthsOf d) (part (v .start) j l)) body-is ∙ ap (λ (j : ℕ). value-test .accepts (depthsOf d) (part j body l)) (sym start-of) ∙ value-at .it;

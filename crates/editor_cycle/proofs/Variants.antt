@@ -108,8 +108,8 @@ module _ (d : ContainerDepths) (p : ℕ) (l : List ℕ) (w : Ready (variantTest 
       unfolding typedWritten
       its-open = subst (λ (o : Option Tree). typedWritten test (depthsOf d) l s o ≡ true) its typed
 
-      pub value-ready : s ≤ length l → Ready (treeTest (r .depths .variant) sig at) (r .depths) p (take end l)
-      value-ready less = record {
+      pub typed-ready : s ≤ length l → Ready (treeTest (r .depths .variant) sig at) (r .depths) p (take end l)
+      typed-ready less = record {
         shallow = variant-deeper .shallow;
         near = (let n = length-take end l in omega (arith, w .near));
         written =

@@ -1,3 +1,5 @@
+-- The walk meets its contracts: its functions call each other as containers nest. What falls: the containers that may still be opened,
+-- and then the functions in order. Assumes nothing.
 mod Measures
 mod Array·array
 mod Array·elements

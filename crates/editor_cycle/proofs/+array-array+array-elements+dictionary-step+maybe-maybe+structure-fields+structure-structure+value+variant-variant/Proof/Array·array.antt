@@ -1,10 +1,10 @@
 -- The needs of `array·array`, and what answers each.
-use mathlib.Core.Path.{_∙_, _≡_, ap, refl, sym}
-use native.Mathlib.Omega.{arith}
-use Rattle.editor_cycle.proofs.WalkLaws.{counts}
-use Rattle.editor_cycle.proofs.Items.{item-is, array-fixed, array-deeper, repeats, elements-ready, array-walks}
-use borrow.Author.Needs.{needs}
 use Prim.Native.Nat.{ℕ}
+use Rattle.editor_cycle.proofs.Items.{array-deeper, array-fixed, array-walks, elements-ready, item-is, repeats}
+use Rattle.editor_cycle.proofs.WalkLaws.{counts}
+use borrow.Author.Needs.{needs}
+use mathlib.Core.Path.{refl}
+use native.Mathlib.Omega.{arith}
 use Rattle.editor_cycle.proofs as of
 use Rattle.editor_cycle.proofs.+array-array+array-elements+dictionary-step+maybe-maybe+structure-fields+structure-structure+value+variant-variant as cycle
 use cycle.Proof.Measures.{array·array-at, array·elements-below}
@@ -34,19 +34,53 @@ array·array-counted-requires : (t : ℕ) → array·array-lts.Need-counted-requ
 array·array-counted-requires t c κs = search needs
 
 array·array-returns : (t : ℕ) → array·array-lts.Need-returns (array·array-callees t) (array·array-at t) array·array.Post
-array·array-returns t c = counts _ _ _ _ _ _ _ _ _ 0 _ (c .counted .ensures) (array-fixed (item-is (c .before .before .before .before .before .before .before .args .text .now) (c .before .before .before .before .before .before .before .args .tables .now) (c .before .before .before .before .before .before .before .args .shape) (c .before .before .before .before .before .before .before .pre .1 .0) (c .before .before .before .before .before .before .before .pre .1 .1) (c .before .before .item-of .result) (c .before .before .item-of .ensures)) (c .before .before .before .before .before .before .before .args .d) (c .before .before .before .before .before .before .before .args .aim .big) (c .before .before .before .before .before .before .before .args .part .now) (c .before .if1 .taken)) (omega arith) refl
+array·array-returns t c =
+    let at-if1 = c .before in
+    let at-item-of = at-if1 .before in
+    let start = at-item-of .before .before .before .before .before in
+    counts _ _ _ _ _ _ _ _ _ 0 _ (c .counted .ensures) (array-fixed (item-is (start .args .text .now) (start .args .tables .now) (start .args .shape) (start .pre .1 .0)
+    (start .pre .1 .1) (at-item-of .item-of .result) (at-item-of .item-of .ensures)) (start .args .d) (start .args .aim .big) (start .args .part .now) (at-if1 .if1 .taken))
+    (omega arith) refl
 
 array·array-inc-array-requires : (t : ℕ) → array·array-lts.Need-inc-array-requires (array·array-callees t) (array·array-at t) array·array.Post
 array·array-inc-array-requires t c κs = search needs
 
 array·array-elements-requires : (t : ℕ) → array·array-lts.Need-elements-requires (array·array-callees t) (array·array-at t) array·array.Post
-array·array-elements-requires t c κs = (omega (arith, array-deeper (item-is (c .before .before .before .before .before .before .before .before .before .args .text .now) (c .before .before .before .before .before .before .before .before .before .args .tables .now) (c .before .before .before .before .before .before .before .before .before .args .shape) (c .before .before .before .before .before .before .before .before .before .pre .1 .0) (c .before .before .before .before .before .before .before .before .before .pre .1 .1) (c .before .before .before .before .item-of .result) (c .before .before .before .before .item-of .ensures)) (c .before .before .before .before .before .before .before .before .before .args .d) (c .before .before .before .if1 .left) (c .before .before .inc-array .result) (c .before .before .inc-array .ensures) (c .before .before .before .before .before .before .before .before .before .args .place) (c .before .before .before .before .before .before .before .before .before .args .part .now) (c .before .before .before .before .before .before .before .before .before .pre .1 .2) .falls, c .before .before .before .before .before .before .before .before .before .pre .0), (repeats (item-is (c .before .before .before .before .before .before .before .before .before .args .text .now) (c .before .before .before .before .before .before .before .before .before .args .tables .now) (c .before .before .before .before .before .before .before .before .before .args .shape) (c .before .before .before .before .before .before .before .before .before .pre .1 .0) (c .before .before .before .before .before .before .before .before .before .pre .1 .1) (c .before .before .before .before .item-of .result) (c .before .before .before .before .item-of .ensures)) (c .before .before .before .before .before .before .before .before .before .args .d) (c .before .before .before .if1 .left), elements-ready (item-is (c .before .before .before .before .before .before .before .before .before .args .text .now) (c .before .before .before .before .before .before .before .before .before .args .tables .now) (c .before .before .before .before .before .before .before .before .before .args .shape) (c .before .before .before .before .before .before .before .before .before .pre .1 .0) (c .before .before .before .before .before .before .before .before .before .pre .1 .1) (c .before .before .before .before .item-of .result) (c .before .before .before .before .item-of .ensures)) (c .before .before .before .before .before .before .before .before .before .args .d) (c .before .before .before .if1 .left) (c .before .before .inc-array .result) (c .before .before .inc-array .ensures) (c .before .before .before .before .before .before .before .before .before .args .place) (c .before .before .before .before .before .before .before .before .before .args .part .now) (c .before .before .before .before .before .before .before .before .before .pre .1 .2)))
+array·array-elements-requires t c κs =
+    let at-inc-array = c .before .before in
+    let at-if1 = at-inc-array .before in
+    let at-item-of = at-if1 .before in
+    let start = at-item-of .before .before .before .before .before in (
+      omega (
+        arith,
+        array-deeper (item-is (start .args .text .now) (start .args .tables .now) (start .args .shape) (start .pre .1 .0) (start .pre .1 .1)
+            (at-item-of .item-of .result) (at-item-of .item-of .ensures)) (start .args .d) (at-if1 .if1 .left) (at-inc-array .inc-array .result) (at-inc-array .inc-array .ensures)
+            (start .args .place) (start .args .part .now) (start .pre .1 .2) .falls,
+        start .pre .0,
+      ),
+      (
+        repeats (item-is (start .args .text .now) (start .args .tables .now)
+            (start .args .shape) (start .pre .1 .0) (start .pre .1 .1) (at-item-of .item-of .result) (at-item-of .item-of .ensures)) (start .args .d)
+            (at-if1 .if1 .left),
+        elements-ready (item-is (start .args .text .now) (start .args .tables .now) (start .args .shape) (start .pre .1 .0) (start .pre .1 .1)
+            (at-item-of .item-of .result) (at-item-of .item-of .ensures)) (start .args .d) (at-if1 .if1 .left) (at-inc-array .inc-array .result) (at-inc-array .inc-array .ensures)
+            (start .args .place) (start .args .part .now) (start .pre .1 .2),
+      ),
+    )
 
 array·array-same-length : (t : ℕ) → array·array-lts.Need-same-length (array·array-callees t) (array·array-at t) array·array.Post
 array·array-same-length t c = search needs
 
 array·array-returns-2 : (t : ℕ) → array·array-lts.Need-returns-2 (array·array-callees t) (array·array-at t) array·array.Post
-array·array-returns-2 t c = array-walks (item-is (c .before .before .before .before .before .before .before .before .before .before .before .before .args .text .now) (c .before .before .before .before .before .before .before .before .before .before .before .before .args .tables .now) (c .before .before .before .before .before .before .before .before .before .before .before .before .args .shape) (c .before .before .before .before .before .before .before .before .before .before .before .before .pre .1 .0) (c .before .before .before .before .before .before .before .before .before .before .before .before .pre .1 .1) (c .before .before .before .before .before .before .before .item-of .result) (c .before .before .before .before .before .before .before .item-of .ensures)) (c .before .before .before .before .before .before .before .before .before .before .before .before .args .d) (c .before .before .before .before .before .before .if1 .left) (c .before .before .before .before .before .inc-array .result) (c .before .before .before .before .before .inc-array .ensures) (c .before .before .before .before .before .before .before .before .before .before .before .before .args .place) (c .before .before .before .before .before .before .before .before .before .before .before .before .args .part .now) (c .before .before .before .before .before .before .before .before .before .before .before .before .pre .1 .2) (c .before .before .before .before .before .before .before .before .before .before .before .before .args .aim .big) _ _ _ _ _ (c .before .before .elements .ensures)
+array·array-returns-2 t c =
+    let at-elements = c .before .before in
+    let at-inc-array = at-elements .before .before .before in
+    let at-if1 = at-inc-array .before in
+    let at-item-of = at-if1 .before in
+    let start = at-item-of .before .before .before .before .before in
+    array-walks (item-is (start .args .text .now) (start .args .tables .now) (start .args .shape) (start .pre .1 .0) (start .pre .1 .1) (at-item-of .item-of .result)
+    (at-item-of .item-of .ensures)) (start .args .d) (at-if1 .if1 .left) (at-inc-array .inc-array .result) (at-inc-array .inc-array .ensures) (start .args .place)
+    (start .args .part .now) (start .pre .1 .2) (start .args .aim .big) _ _ _ _ _ (at-elements .elements .ensures)
 
 pub array·array-spec : {M : Type 1} (t : ℕ) → array·array-lts.Closed (array·array-callees t) (array·array-at t) array·array.Post M
 array·array-spec t =

@@ -1,14 +1,14 @@
 -- The needs of `array·elements`, and what answers each.
-use mathlib.Core.Path.{_∙_, _≡_, ap, refl, sym}
-use native.Mathlib.Omega.{arith}
-use lib.ListN.{length}
+use Prim.Native.Nat.{_+_, ℕ}
 use Rattle.container_depths.specs.Opening.{depthsOf}
 use Rattle.editor_basic.specs.declared.elements.Elements.{Elements}
-use Rattle.editor_cycle.specs.Walks.{newOf, containerMost, entryMost, most, itemEditor, itemTest}
+use Rattle.editor_cycle.proofs.Arrays.{ElementsLeft, body-inside, element-beyond, element-fits, element-ready, elements-begin, elements-behind, elements-counted, elements-found, elements-less, elements-turn}
 use Rattle.editor_cycle.proofs.Values.{most-small}
-use Rattle.editor_cycle.proofs.Arrays.{ElementsLeft, body-inside, elements-begin, elements-less, elements-behind, elements-counted, element-fits, element-beyond, elements-turn, elements-found, element-ready}
+use Rattle.editor_cycle.specs.Walks.{containerMost, entryMost, itemEditor, itemTest, most, newOf}
 use borrow.Author.Needs.{needs}
-use Prim.Native.Nat.{ℕ, _+_}
+use lib.ListN.{length}
+use mathlib.Core.Path.{_≡_, ap, refl}
+use native.Mathlib.Omega.{arith}
 use Rattle.editor_cycle.proofs as of
 use Rattle.editor_cycle.proofs.+array-array+array-elements+dictionary-step+maybe-maybe+structure-fields+structure-structure+value+variant-variant as cycle
 use cycle.Proof.Measures.{array·elements-at, dictionary·step-below}
@@ -46,49 +46,136 @@ array·elements-μ-loop text tables item part place number aim d out₀ all rest
     rest .count
 
 array·elements-elements-of-requires : (t : ℕ) → array·elements-lts.Need-elements-of-requires (array·elements-callees t) (array·elements-at t) array·elements.Post array·elements-Inv-loop array·elements-μ-loop
-array·elements-elements-of-requires t c κs = body-inside (itemTest (c .before .before .before .before .args .d .variant) (c .before .before .before .before .args .text .now) (c .before .before .before .before .args .item)) (depthsOf (c .before .before .before .before .args .d)) (c .before .before .before .before .args .part .now) (c .before .before .before .before .pre .1 .1 .written)
+array·elements-elements-of-requires t c κs =
+    let start = c .before .before .before .before in
+    body-inside (itemTest (start .args .d .variant) (start .args .text .now) (start .args .item)) (depthsOf (start .args .d)) (start .args .part .now) (start .pre .1 .1 .written)
 
 array·elements-loop-holds : (t : ℕ) → array·elements-lts.Need-loop-holds (array·elements-callees t) (array·elements-at t) array·elements.Post array·elements-Inv-loop array·elements-μ-loop
-array·elements-loop-holds t c = (elements-begin (itemTest (c .before .before .before .before .before .args .d .variant) (c .before .before .before .before .before .args .text .now) (c .before .before .before .before .before .args .item)) (itemEditor (c .before .before .before .before .before .args .aim .big) (c .before .before .before .before .before .args .d .variant) (c .before .before .before .before .before .args .text .now) (c .before .before .before .before .before .args .item)) (depthsOf (c .before .before .before .before .before .args .d)) (c .before .before .before .before .before .args .part .now) (c .before .before .before .before .before .args .item .alignment) _ _ (c .elements-of .ensures) (c .before .before .before .before .before .pre .1 .0 .aligned) (c .before .before .before .before .before .pre .1 .0 .test-alignment (c .before .before .before .before .before .args .d .variant)) (omega (arith, c .before .before .before .before .before .pre .1 .1 .near)) (c .before .before .before .before .before .pre .1 .1 .written), refl)
+array·elements-loop-holds t c =
+    let start = c .before .before .before .before .before in (
+      elements-begin (itemTest (start .args .d .variant) (start .args .text .now) (start .args .item)) (itemEditor (start .args .aim .big) (start .args .d .variant)
+          (start .args .text .now) (start .args .item)) (depthsOf (start .args .d)) (start .args .part .now) (start .args .item .alignment) _ _ (c .elements-of .ensures)
+          (start .pre .1 .0 .aligned) (start .pre .1 .0 .test-alignment (start .args .d .variant)) (omega (arith, start .pre .1 .1 .near)) (start .pre .1 .1 .written),
+      refl,
+    )
 
 array·elements-first-element-requires : (t : ℕ) → array·elements-lts.Need-first-element-requires (array·elements-callees t) (array·elements-at t) array·elements.Post array·elements-Inv-loop array·elements-μ-loop
 array·elements-first-element-requires t c κs = (c .before .before .loop .inv .0 .stands, c .if1 .taken)
 
 array·elements-sub-step : (t : ℕ) → array·elements-lts.Need-sub-step (array·elements-callees t) (array·elements-at t) array·elements.Post array·elements-Inv-loop array·elements-μ-loop
-array·elements-sub-step t c = omega (arith, c .first-element .ensures .order, c .first-element .ensures .inside, c .before .before .before .before .before .before .before .before .before .pre .1 .1 .near)
+array·elements-sub-step t c =
+    let start = c .before .before .before .before .before .before .before .before .before in
+    omega (arith, c .first-element .ensures .order, c .first-element .ensures .inside, start .pre .1 .1 .near)
 
 array·elements-part-step-start : (t : ℕ) → array·elements-lts.Need-part-step-start (array·elements-callees t) (array·elements-at t) array·elements.Post array·elements-Inv-loop array·elements-μ-loop
-array·elements-part-step-start t c = omega (arith, c .first-element .ensures .order, c .first-element .ensures .inside, c .before .before .before .before .before .before .before .before .before .pre .1 .1 .near)
+array·elements-part-step-start t c =
+    let start = c .before .before .before .before .before .before .before .before .before in
+    omega (arith, c .first-element .ensures .order, c .first-element .ensures .inside, start .pre .1 .1 .near)
 
 array·elements-part-step-end : (t : ℕ) → array·elements-lts.Need-part-step-end (array·elements-callees t) (array·elements-at t) array·elements.Post array·elements-Inv-loop array·elements-μ-loop
-array·elements-part-step-end t c = omega (arith, c .first-element .ensures .order, c .first-element .ensures .inside, c .before .before .before .before .before .before .before .before .before .pre .1 .1 .near)
+array·elements-part-step-end t c =
+    let start = c .before .before .before .before .before .before .before .before .before in
+    omega (arith, c .first-element .ensures .order, c .first-element .ensures .inside, start .pre .1 .1 .near)
 
 array·elements-add-step : (t : ℕ) → array·elements-lts.Need-add-step (array·elements-callees t) (array·elements-at t) array·elements.Post array·elements-Inv-loop array·elements-μ-loop
-array·elements-add-step t c = omega (arith, c .before .first-element .ensures .order, c .before .first-element .ensures .inside, c .before .before .before .before .before .before .before .before .before .before .pre .1 .1 .near)
+array·elements-add-step t c =
+    let at-first-element = c .before in
+    let start = at-first-element .before .before .before .before .before .before .before .before .before in
+    omega (arith, at-first-element .first-element .ensures .order, at-first-element .first-element .ensures .inside, start .pre .1 .1 .near)
 
 array·elements-step-requires : (t : ℕ) → array·elements-lts.Need-step-requires (array·elements-callees t) (array·elements-at t) array·elements.Post array·elements-Inv-loop array·elements-μ-loop
-array·elements-step-requires t c κs = (omega (arith, c .before .before .before .before .before .before .before .before .before .before .before .pre .0), (c .before .before .before .before .before .before .before .before .before .before .before .pre .1 .0, element-ready (c .before .before .before .before .before .before .before .before .before .before .before .args .d) (c .before .before .before .before .before .loop .inv .0) (c .before .before .before .if1 .taken) (c .before .before .first-element .ensures) (c .before .before .before .before .before .before .before .before .before .before .before .args .place) (c .before .before .before .before .before .before .before .before .before .before .before .pre .1 .1 .shallow) (c .before .before .before .before .before .before .before .before .before .before .before .pre .1 .1 .near)))
+array·elements-step-requires t c κs =
+    let at-first-element = c .before .before in
+    let at-if1 = at-first-element .before in
+    let at-loop = at-if1 .before .before in
+    let start = at-loop .before .before .before .before .before .before in
+    (omega (arith, start .pre .0), (start .pre .1 .0, element-ready (start .args .d) (at-loop .loop .inv .0) (at-if1 .if1 .taken) (at-first-element .first-element .ensures) (start .args .place) (start .pre .1 .1 .shallow) (start .pre .1 .1 .near)))
 
 array·elements-close-element-requires : (t : ℕ) → array·elements-lts.Need-close-element-requires (array·elements-callees t) (array·elements-at t) array·elements.Post array·elements-Inv-loop array·elements-μ-loop
-array·elements-close-element-requires t c κs = (element-fits (c .before .before .before .before .before .before .before .before .before .before .before .elements-of .ensures) (c .before .before .before .before .before .before .before .before .before .before .before .before .before .before .before .before .pre .1 .0 .editor-alignment (c .before .before .before .before .before .before .before .before .before .before .before .before .before .before .before .before .args .aim .big) (c .before .before .before .before .before .before .before .before .before .before .before .before .before .before .before .before .args .d .variant)) (c .before .before .before .before .before .before .before .before .before .before .before .before .before .before .before .before .pre .1 .0 .editor-fixed (c .before .before .before .before .before .before .before .before .before .before .before .before .before .before .before .before .args .aim .big) (c .before .before .before .before .before .before .before .before .before .before .before .before .before .before .before .before .args .d .variant)) (c .before .before .before .before .before .before .before .before .before .before .loop .inv .0) (c .before .before .before .before .before .before .before .before .before .before .before .before .before .before .before .before .args .place) (newOf (c .before .before .before .before .before .before .before .before .before .before .before .before .before .before .before .before .args .aim .new)) (most (c .before .before .before .before .before .before .before .before .before .before .before .before .before .before .before .before .args .d) + containerMost) (c .before .before .before .before .before .before .before .before .if1 .taken) (c .before .before .before .before .before .before .before .first-element .ensures) (most (c .before .before .before .before .before .before .before .before .before .before .before .before .before .before .before .before .args .d) + entryMost) _ _ _ (c .before .before .before .before .before .before .before .before .before .before .loop .inv .1) _ (c .before .before .before .before .step .ensures) (omega (arith, most-small (c .before .before .before .before .before .before .before .before .before .before .before .before .before .before .before .before .args .d), c .before .before .before .before .before .before .before .first-element .ensures .order, c .before .before .before .before .before .before .before .first-element .ensures .inside, c .before .before .before .before .before .before .before .before .before .before .before .before .before .before .before .before .pre .1 .1 .near)), elements-behind (c .before .before .before .before .before .before .before .before .before .before .loop .inv .0) (c .before .before .before .before .before .before .before .before .if1 .taken) (c .before .before .before .before .before .before .before .first-element .ensures))
+array·elements-close-element-requires t c κs =
+    let at-step = c .before .before .before .before in
+    let at-first-element = at-step .before .before .before in
+    let at-if1 = at-first-element .before in
+    let at-loop = at-if1 .before .before in
+    let at-elements-of = at-loop .before in
+    let start = at-elements-of .before .before .before .before .before in (
+      element-fits (at-elements-of .elements-of .ensures) (start .pre .1 .0 .editor-alignment (start .args .aim .big) (start .args .d .variant)) (start .pre .1 .0 .editor-fixed
+          (start .args .aim .big) (start .args .d .variant)) (at-loop .loop .inv .0) (start .args .place) (newOf (start .args .aim .new)) (most (start .args .d) + containerMost)
+          (at-if1 .if1 .taken) (at-first-element .first-element .ensures) (most (start .args .d) + entryMost) _ _ _ (at-loop .loop .inv .1) _ (at-step .step .ensures) (omega
+          (arith, most-small (start .args .d), at-first-element .first-element .ensures .order, at-first-element .first-element .ensures .inside, start .pre .1 .1 .near)),
+      elements-behind
+          (at-loop .loop .inv .0) (at-if1 .if1 .taken) (at-first-element .first-element .ensures),
+    )
 
 array·elements-same-length : (t : ℕ) → array·elements-lts.Need-same-length (array·elements-callees t) (array·elements-at t) array·elements.Post array·elements-Inv-loop array·elements-μ-loop
-array·elements-same-length t c = omega (arith, ap length (c .before .before .before .before .before .before .before .before .before .before .before .before .before .loop .inv .1))
+array·elements-same-length t c =
+    let at-loop = c .before .before .before .before .before .before .before .before .before .before .before .before .before in
+    omega (arith, ap length (at-loop .loop .inv .1))
 
 array·elements-returns : (t : ℕ) → array·elements-lts.Need-returns (array·elements-callees t) (array·elements-at t) array·elements.Post array·elements-Inv-loop array·elements-μ-loop
-array·elements-returns t c = elements-found (c .before .before .before .before .before .before .before .before .before .before .before .before .before .before .elements-of .ensures) (c .before .before .before .before .before .before .before .before .before .before .before .before .before .before .before .before .before .before .before .pre .1 .0 .editor-alignment (c .before .before .before .before .before .before .before .before .before .before .before .before .before .before .before .before .before .before .before .args .aim .big) (c .before .before .before .before .before .before .before .before .before .before .before .before .before .before .before .before .before .before .before .args .d .variant)) (c .before .before .before .before .before .before .before .before .before .before .before .before .before .before .before .before .before .before .before .pre .1 .0 .editor-fixed (c .before .before .before .before .before .before .before .before .before .before .before .before .before .before .before .before .before .before .before .args .aim .big) (c .before .before .before .before .before .before .before .before .before .before .before .before .before .before .before .before .before .before .before .args .d .variant)) (c .before .before .before .before .before .before .before .before .before .before .before .before .before .loop .inv .0) (c .before .before .before .before .before .before .before .before .before .before .before .before .before .before .before .before .before .before .before .args .place) (newOf (c .before .before .before .before .before .before .before .before .before .before .before .before .before .before .before .before .before .before .before .args .aim .new)) (most (c .before .before .before .before .before .before .before .before .before .before .before .before .before .before .before .before .before .before .before .args .d) + containerMost) (c .before .before .before .before .before .before .before .before .before .before .before .if1 .taken) (c .before .before .before .before .before .before .before .before .before .before .first-element .ensures) (most (c .before .before .before .before .before .before .before .before .before .before .before .before .before .before .before .before .before .before .before .args .d) + entryMost) _ _ _ (c .before .before .before .before .before .before .before .before .before .before .before .before .before .loop .inv .1) _ (c .before .before .before .before .before .before .before .step .ensures) (c .before .before .before .before .if2 .taken) _ _ (c .before .before .close-element .ensures) (omega (arith, most-small (c .before .before .before .before .before .before .before .before .before .before .before .before .before .before .before .before .before .before .before .args .d), c .before .before .before .before .before .before .before .before .before .before .first-element .ensures .order, c .before .before .before .before .before .before .before .before .before .before .first-element .ensures .inside, c .before .before .before .before .before .before .before .before .before .before .before .before .before .before .before .before .before .before .before .pre .1 .1 .near))
+array·elements-returns t c =
+    let at-close-element = c .before .before in
+    let at-if2 = at-close-element .before .before in
+    let at-step = at-if2 .before .before .before in
+    let at-first-element = at-step .before .before .before in
+    let at-if1 = at-first-element .before in
+    let at-loop = at-if1 .before .before in
+    let at-elements-of = at-loop .before in
+    let start = at-elements-of .before .before .before .before .before in
+    elements-found (at-elements-of .elements-of .ensures) (start .pre .1 .0 .editor-alignment (start .args .aim .big) (start .args .d .variant)) (start .pre .1 .0 .editor-fixed
+    (start .args .aim .big) (start .args .d .variant)) (at-loop .loop .inv .0) (start .args .place) (newOf (start .args .aim .new)) (most (start .args .d) + containerMost)
+    (at-if1 .if1 .taken) (at-first-element .first-element .ensures) (most (start .args .d) + entryMost) _ _ _ (at-loop .loop .inv .1) _ (at-step .step .ensures)
+    (at-if2 .if2 .taken) _ _ (at-close-element .close-element .ensures) (omega (
+      arith,
+      most-small
+          (start .args .d),
+      at-first-element .first-element .ensures .order,
+      at-first-element .first-element .ensures .inside,
+      start .pre .1 .1 .near,
+    ))
 
 array·elements-sub-left : (t : ℕ) → array·elements-lts.Need-sub-left (array·elements-callees t) (array·elements-at t) array·elements.Post array·elements-Inv-loop array·elements-μ-loop
-array·elements-sub-left t c = omega (arith, element-beyond (c .before .before .before .before .before .before .before .before .before .before .before .elements-of .ensures) (c .before .before .before .before .before .before .before .before .before .before .before .before .before .before .before .before .pre .1 .0 .editor-alignment (c .before .before .before .before .before .before .before .before .before .before .before .before .before .before .before .before .args .aim .big) (c .before .before .before .before .before .before .before .before .before .before .before .before .before .before .before .before .args .d .variant)) (c .before .before .before .before .before .before .before .before .before .before .before .before .before .before .before .before .pre .1 .0 .editor-fixed (c .before .before .before .before .before .before .before .before .before .before .before .before .before .before .before .before .args .aim .big) (c .before .before .before .before .before .before .before .before .before .before .before .before .before .before .before .before .args .d .variant)) (c .before .before .before .before .before .before .before .before .before .before .loop .inv .0) (c .before .before .before .before .before .before .before .before .before .before .before .before .before .before .before .before .args .place) (newOf (c .before .before .before .before .before .before .before .before .before .before .before .before .before .before .before .before .args .aim .new)) (most (c .before .before .before .before .before .before .before .before .before .before .before .before .before .before .before .before .args .d) + containerMost) (c .before .before .before .before .before .before .before .before .if1 .taken) (c .before .before .before .before .before .before .before .first-element .ensures) (most (c .before .before .before .before .before .before .before .before .before .before .before .before .before .before .before .before .args .d) + entryMost) _ _ _ (c .before .before .before .before .before .before .before .before .before .before .loop .inv .1) _ (c .before .before .before .before .step .ensures) (c .before .if2 .left))
+array·elements-sub-left t c =
+    let at-if2 = c .before in
+    let at-step = at-if2 .before .before .before in
+    let at-first-element = at-step .before .before .before in
+    let at-if1 = at-first-element .before in
+    let at-loop = at-if1 .before .before in
+    let at-elements-of = at-loop .before in
+    let start = at-elements-of .before .before .before .before .before in
+    omega (
+      arith,
+      element-beyond (at-elements-of .elements-of .ensures) (start .pre .1 .0 .editor-alignment (start .args .aim .big) (start .args .d .variant))
+          (start .pre .1 .0 .editor-fixed (start .args .aim .big) (start .args .d .variant)) (at-loop .loop .inv .0) (start .args .place) (newOf (start .args .aim .new)) (most
+          (start .args .d) + containerMost) (at-if1 .if1 .taken) (at-first-element .first-element .ensures) (most (start .args .d) + entryMost) _ _ _ (at-loop .loop .inv .1) _
+          (at-step .step .ensures) (at-if2 .if2 .left),
+    )
 
 array·elements-behind-requires : (t : ℕ) → array·elements-lts.Need-behind-requires (array·elements-callees t) (array·elements-at t) array·elements.Post array·elements-Inv-loop array·elements-μ-loop
-array·elements-behind-requires t c κs = (c .before .before .before .before .before .before .before .before .if1 .taken, elements-behind (c .before .before .before .before .before .before .before .before .before .before .loop .inv .0) (c .before .before .before .before .before .before .before .before .if1 .taken) (c .before .before .before .before .before .before .before .first-element .ensures) .near)
+array·elements-behind-requires t c κs =
+    let at-first-element = c .before .before .before .before .before .before .before in
+    let at-if1 = at-first-element .before in
+    let at-loop = at-if1 .before .before in
+    (at-if1 .if1 .taken, elements-behind (at-loop .loop .inv .0) (at-if1 .if1 .taken) (at-first-element .first-element .ensures) .near)
 
 array·elements-loop-less : (t : ℕ) → array·elements-lts.Need-loop-less (array·elements-callees t) (array·elements-at t) array·elements.Post array·elements-Inv-loop array·elements-μ-loop
-array·elements-loop-less t c = omega (arith, ap (λ (e : Elements). e .count) (c .behind .ensures), c .before .before .before .before .before .before .before .before .before .if1 .taken)
+array·elements-loop-less t c =
+    let at-if1 = c .before .before .before .before .before .before .before .before .before in
+    omega (arith, ap (λ (e : Elements). e .count) (c .behind .ensures), at-if1 .if1 .taken)
 
 array·elements-loop-again : (t : ℕ) → array·elements-lts.Need-loop-again (array·elements-callees t) (array·elements-at t) array·elements.Post array·elements-Inv-loop array·elements-μ-loop
-array·elements-loop-again t c = elements-turn (c .before .before .before .before .before .before .before .before .before .before .before .before .elements-of .ensures) (c .before .before .before .before .before .before .before .before .before .before .before .before .before .before .before .before .before .pre .1 .0 .editor-alignment (c .before .before .before .before .before .before .before .before .before .before .before .before .before .before .before .before .before .args .aim .big) (c .before .before .before .before .before .before .before .before .before .before .before .before .before .before .before .before .before .args .d .variant)) (c .before .before .before .before .before .before .before .before .before .before .before .before .before .before .before .before .before .pre .1 .0 .editor-fixed (c .before .before .before .before .before .before .before .before .before .before .before .before .before .before .before .before .before .args .aim .big) (c .before .before .before .before .before .before .before .before .before .before .before .before .before .before .before .before .before .args .d .variant)) (c .before .before .before .before .before .before .before .before .before .before .before .loop .inv .0) (c .before .before .before .before .before .before .before .before .before .before .before .before .before .before .before .before .before .args .place) (newOf (c .before .before .before .before .before .before .before .before .before .before .before .before .before .before .before .before .before .args .aim .new)) (most (c .before .before .before .before .before .before .before .before .before .before .before .before .before .before .before .before .before .args .d) + containerMost) (c .before .before .before .before .before .before .before .before .before .if1 .taken) (c .before .before .before .before .before .before .before .before .first-element .ensures) (most (c .before .before .before .before .before .before .before .before .before .before .before .before .before .before .before .before .before .args .d) + entryMost) _ _ _ (c .before .before .before .before .before .before .before .before .before .before .before .loop .inv .1) _ (c .before .before .before .before .before .step .ensures) (c .before .before .if2 .left) _ (c .behind .ensures)
+array·elements-loop-again t c =
+    let at-if2 = c .before .before in
+    let at-step = at-if2 .before .before .before in
+    let at-first-element = at-step .before .before .before in
+    let at-if1 = at-first-element .before in
+    let at-loop = at-if1 .before .before in
+    let at-elements-of = at-loop .before in
+    let start = at-elements-of .before .before .before .before .before in
+    elements-turn (at-elements-of .elements-of .ensures) (start .pre .1 .0 .editor-alignment (start .args .aim .big) (start .args .d .variant)) (start .pre .1 .0 .editor-fixed
+    (start .args .aim .big) (start .args .d .variant)) (at-loop .loop .inv .0) (start .args .place) (newOf (start .args .aim .new)) (most (start .args .d) + containerMost)
+    (at-if1 .if1 .taken) (at-first-element .first-element .ensures) (most (start .args .d) + entryMost) _ _ _ (at-loop .loop .inv .1) _ (at-step .step .ensures)
+    (at-if2 .if2 .left) _ (c .behind .ensures)
 
 array·elements-sub-counted : (t : ℕ) → array·elements-lts.Need-sub-counted (array·elements-callees t) (array·elements-at t) array·elements.Post array·elements-Inv-loop array·elements-μ-loop
 array·elements-sub-counted t c = omega (arith, elements-less (c .before .before .loop .inv .0))
@@ -97,10 +184,19 @@ array·elements-counted-requires : (t : ℕ) → array·elements-lts.Need-counte
 array·elements-counted-requires t c κs = search needs
 
 array·elements-same-length-2 : (t : ℕ) → array·elements-lts.Need-same-length-2 (array·elements-callees t) (array·elements-at t) array·elements.Post array·elements-Inv-loop array·elements-μ-loop
-array·elements-same-length-2 t c = omega (arith, ap length (c .before .before .before .loop .inv .1))
+array·elements-same-length-2 t c =
+    let at-loop = c .before .before .before in
+    omega (arith, ap length (at-loop .loop .inv .1))
 
 array·elements-returns-2 : (t : ℕ) → array·elements-lts.Need-returns-2 (array·elements-callees t) (array·elements-at t) array·elements.Post array·elements-Inv-loop array·elements-μ-loop
-array·elements-returns-2 t c = elements-counted (c .before .before .before .before .elements-of .ensures) (c .before .before .before .before .before .before .before .before .before .pre .1 .0 .editor-alignment (c .before .before .before .before .before .before .before .before .before .args .aim .big) (c .before .before .before .before .before .before .before .before .before .args .d .variant)) (c .before .before .before .before .before .before .before .before .before .pre .1 .0 .editor-fixed (c .before .before .before .before .before .before .before .before .before .args .aim .big) (c .before .before .before .before .before .before .before .before .before .args .d .variant)) (c .before .before .before .loop .inv .0) (c .before .before .before .before .before .before .before .before .before .args .place) (newOf (c .before .before .before .before .before .before .before .before .before .args .aim .new)) (most (c .before .before .before .before .before .before .before .before .before .args .d) + containerMost) _ _ _ (omega (arith, c .before .if1 .left)) (c .counted .ensures) (c .before .before .before .loop .inv .1)
+array·elements-returns-2 t c =
+    let at-if1 = c .before in
+    let at-loop = at-if1 .before .before in
+    let at-elements-of = at-loop .before in
+    let start = at-elements-of .before .before .before .before .before in
+    elements-counted (at-elements-of .elements-of .ensures) (start .pre .1 .0 .editor-alignment (start .args .aim .big) (start .args .d .variant)) (start .pre .1 .0 .editor-fixed
+    (start .args .aim .big) (start .args .d .variant)) (at-loop .loop .inv .0) (start .args .place) (newOf (start .args .aim .new)) (most
+    (start .args .d) + containerMost) _ _ _ (omega (arith, at-if1 .if1 .left)) (c .counted .ensures) (at-loop .loop .inv .1)
 
 pub array·elements-spec : {M : Type 1} (t : ℕ) → array·elements-lts.Closed (array·elements-callees t) (array·elements-at t) array·elements.Post M
 array·elements-spec t =

@@ -1,6 +1,6 @@
 -- What falls, for each member; what each is given at a measure t, and what a call of it asks below t.
-use Rattle.container_depths.proofs.Levels.{level}
 use Prim.Native.Nat.{_*_, _+_, _<_, ℕ}
+use Rattle.container_depths.proofs.Levels.{level}
 use borrow.Fn.Kinds.{In}
 use borrow.Fn.PlainCycle.{Measures, and, falls, is}
 use Rattle.editor_cycle.proofs as of

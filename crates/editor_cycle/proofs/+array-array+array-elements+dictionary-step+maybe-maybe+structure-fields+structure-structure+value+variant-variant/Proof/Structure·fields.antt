@@ -1,15 +1,15 @@
 -- The needs of `structure·fields`, and what answers each.
-use mathlib.Core.Path.{_∙_, _≡_, ap, refl, sym}
-use native.Mathlib.Omega.{arith}
-use lib.ListN.{length}
+use Prim.Native.Nat.{_+_, _-_, ℕ}
 use Rattle.container_depths.specs.Opening.{depthsOf}
 use Rattle.editor_basic.specs.declared.fields.Row.{Row}
-use Rattle.editor_cycle.specs.Walks.{newOf, containerMost, most}
-use Rattle.editor_cycle.specs.Starts.{rowTests}
+use Rattle.editor_cycle.proofs.Structures.{FieldsLeft, field-asked, field-at, field-behind, field-beyond, field-fits, field-placed, fields-begin, fields-counted, fields-found, fields-less, fields-turn, row-written}
 use Rattle.editor_cycle.proofs.Values.{most-small}
-use Rattle.editor_cycle.proofs.Structures.{FieldsLeft, fields-begin, row-written, fields-less, field-at, field-placed, field-asked, field-fits, field-beyond, field-behind, fields-turn, fields-counted, fields-found}
+use Rattle.editor_cycle.specs.Starts.{rowTests}
+use Rattle.editor_cycle.specs.Walks.{containerMost, most, newOf}
 use borrow.Author.Needs.{needs}
-use Prim.Native.Nat.{ℕ, _+_, _-_}
+use lib.ListN.{length}
+use mathlib.Core.Path.{_≡_, ap, refl}
+use native.Mathlib.Omega.{arith}
 use Rattle.editor_cycle.proofs as of
 use Rattle.editor_cycle.proofs.+array-array+array-elements+dictionary-step+maybe-maybe+structure-fields+structure-structure+value+variant-variant as cycle
 use cycle.Proof.Measures.{structure·fields-at, value-below}
@@ -47,7 +47,9 @@ structure·fields-μ-loop text tables part place number aim d out₀ row₀ left
     length text - row .at
 
 structure·fields-loop-holds : (t : ℕ) → structure·fields-lts.Need-loop-holds (structure·fields-callees t) (structure·fields-at t) structure·fields.Post structure·fields-Inv-loop structure·fields-μ-loop
-structure·fields-loop-holds t c = (fields-begin (c .before .before .before .before .args .aim .big) (65 - c .before .before .before .before .args .d .variant) (depthsOf (c .before .before .before .before .args .d)) _ (c .before .before .before .before .pre .1 .0) (omega (arith, c .before .before .before .before .pre .1 .1 .near)) (row-written 1 (rowTests (c .before .before .before .before .args .d .variant) (c .before .before .before .before .args .text .now) (c .before .before .before .before .args .all .at)) (c .before .before .before .before .pre .1 .1)), refl)
+structure·fields-loop-holds t c =
+    let start = c .before .before .before .before in
+    (fields-begin (start .args .aim .big) (65 - start .args .d .variant) (depthsOf (start .args .d)) _ (start .pre .1 .0) (omega (arith, start .pre .1 .1 .near)) (row-written 1 (rowTests (start .args .d .variant) (start .args .text .now) (start .args .all .at)) (start .pre .1 .1)), refl)
 
 structure·fields-first-field-requires : (t : ℕ) → structure·fields-lts.Need-first-field-requires (structure·fields-callees t) (structure·fields-at t) structure·fields.Post structure·fields-Inv-loop structure·fields-μ-loop
 structure·fields-first-field-requires t c κs = c .loop .inv .0 .stands
@@ -56,52 +58,163 @@ structure·fields-shape-in-requires : (t : ℕ) → structure·fields-lts.Need-s
 structure·fields-shape-in-requires t c κs = search needs
 
 structure·fields-sub-value : (t : ℕ) → structure·fields-lts.Need-sub-value (structure·fields-callees t) (structure·fields-at t) structure·fields.Post structure·fields-Inv-loop structure·fields-μ-loop
-structure·fields-sub-value t c = omega (arith, c .before .first-field .ensures .order, c .before .first-field .ensures .inside, c .before .before .before .before .before .before .before .pre .1 .1 .near)
+structure·fields-sub-value t c =
+    let at-first-field = c .before in
+    let start = at-first-field .before .before .before .before .before .before in
+    omega (arith, at-first-field .first-field .ensures .order, at-first-field .first-field .ensures .inside, start .pre .1 .1 .near)
 
 structure·fields-part-value-start : (t : ℕ) → structure·fields-lts.Need-part-value-start (structure·fields-callees t) (structure·fields-at t) structure·fields.Post structure·fields-Inv-loop structure·fields-μ-loop
-structure·fields-part-value-start t c = omega (arith, c .before .first-field .ensures .order, c .before .first-field .ensures .inside, c .before .before .before .before .before .before .before .pre .1 .1 .near)
+structure·fields-part-value-start t c =
+    let at-first-field = c .before in
+    let start = at-first-field .before .before .before .before .before .before in
+    omega (arith, at-first-field .first-field .ensures .order, at-first-field .first-field .ensures .inside, start .pre .1 .1 .near)
 
 structure·fields-part-value-end : (t : ℕ) → structure·fields-lts.Need-part-value-end (structure·fields-callees t) (structure·fields-at t) structure·fields.Post structure·fields-Inv-loop structure·fields-μ-loop
-structure·fields-part-value-end t c = omega (arith, c .before .first-field .ensures .order, c .before .first-field .ensures .inside, c .before .before .before .before .before .before .before .pre .1 .1 .near)
+structure·fields-part-value-end t c =
+    let at-first-field = c .before in
+    let start = at-first-field .before .before .before .before .before .before in
+    omega (arith, at-first-field .first-field .ensures .order, at-first-field .first-field .ensures .inside, start .pre .1 .1 .near)
 
 structure·fields-add-value : (t : ℕ) → structure·fields-lts.Need-add-value (structure·fields-callees t) (structure·fields-at t) structure·fields.Post structure·fields-Inv-loop structure·fields-μ-loop
-structure·fields-add-value t c = omega (arith, c .before .before .first-field .ensures .order, c .before .before .first-field .ensures .inside, c .before .before .before .before .before .before .before .before .pre .1 .1 .near)
+structure·fields-add-value t c =
+    let at-first-field = c .before .before in
+    let start = at-first-field .before .before .before .before .before .before in
+    omega (arith, at-first-field .first-field .ensures .order, at-first-field .first-field .ensures .inside, start .pre .1 .1 .near)
 
 structure·fields-value-requires : (t : ℕ) → structure·fields-lts.Need-value-requires (structure·fields-callees t) (structure·fields-at t) structure·fields.Post structure·fields-Inv-loop structure·fields-μ-loop
-structure·fields-value-requires t c κs = (omega (arith, c .before .before .before .before .before .before .before .before .before .pre .0), (field-placed (c .before .before .before .before .before .before .before .before .before .args .aim .big) (c .before .before .before .before .before .before .before .before .before .args .d) (c .before .before .before .before .loop .inv .0) (c .before .before .before .first-field .ensures) (c .before .before .shape-in .result) (c .before .before .shape-in .ensures), field-asked (c .before .before .before .before .before .before .before .before .before .args .aim .big) (c .before .before .before .before .before .before .before .before .before .args .d) (c .before .before .before .before .loop .inv .0) (c .before .before .before .first-field .ensures) (c .before .before .shape-in .result) (c .before .before .shape-in .ensures) (c .before .before .before .before .before .before .before .before .before .args .place) (c .before .before .before .before .before .before .before .before .before .pre .1 .1 .shallow) (c .before .before .before .before .before .before .before .before .before .pre .1 .1 .near)))
+structure·fields-value-requires t c κs =
+    let at-shape-in = c .before .before in
+    let at-first-field = at-shape-in .before in
+    let at-loop = at-first-field .before in
+    let start = at-loop .before .before .before .before .before in (
+      omega (arith, start .pre .0),
+      (
+        field-placed (start .args .aim .big) (start .args .d) (at-loop .loop .inv .0) (at-first-field .first-field .ensures)
+            (at-shape-in .shape-in .result) (at-shape-in .shape-in .ensures),
+        field-asked (start .args .aim .big) (start .args .d) (at-loop .loop .inv .0)
+            (at-first-field .first-field .ensures) (at-shape-in .shape-in .result) (at-shape-in .shape-in .ensures) (start .args .place) (start .pre .1 .1 .shallow)
+            (start .pre .1 .1 .near),
+      ),
+    )
 
 structure·fields-close-field-requires : (t : ℕ) → structure·fields-lts.Need-close-field-requires (structure·fields-callees t) (structure·fields-at t) structure·fields.Post structure·fields-Inv-loop structure·fields-μ-loop
-structure·fields-close-field-requires t c κs = (field-fits (c .before .before .before .before .before .before .before .before .before .before .before .before .before .before .args .d .variant) (c .before .before .before .before .before .before .before .before .before .before .before .before .before .before .args .aim .big) (c .before .before .before .before .before .before .before .before .before .before .before .before .before .before .pre .1 .0) (c .before .before .before .before .before .before .before .before .before .loop .inv .0) (c .before .before .before .before .before .before .before .before .first-field .ensures) (c .before .before .before .before .before .before .before .before .before .before .before .before .before .before .args .place) (newOf (c .before .before .before .before .before .before .before .before .before .before .before .before .before .before .args .aim .new)) (most (c .before .before .before .before .before .before .before .before .before .before .before .before .before .before .args .d) + containerMost) _ (field-at (c .before .before .before .before .before .before .before .before .before .before .before .before .before .before .args .aim .big) (c .before .before .before .before .before .before .before .before .before .before .before .before .before .before .args .d) (c .before .before .before .before .before .before .before .before .before .loop .inv .0) (c .before .before .before .before .before .before .before .before .first-field .ensures) (c .before .before .before .before .before .before .before .shape-in .result) (c .before .before .before .before .before .before .before .shape-in .ensures)) (most (c .before .before .before .before .before .before .before .before .before .before .before .before .before .before .args .d)) _ _ _ (c .before .before .before .before .before .before .before .before .before .loop .inv .1) _ (c .before .before .before .before .value .ensures) (omega (arith, most-small (c .before .before .before .before .before .before .before .before .before .before .before .before .before .before .args .d), c .before .before .before .before .before .before .before .before .first-field .ensures .order, c .before .before .before .before .before .before .before .before .first-field .ensures .inside, c .before .before .before .before .before .before .before .before .before .before .before .before .before .before .pre .1 .1 .near)), field-behind (c .before .before .before .before .before .before .before .before .before .before .before .before .before .before .args .d .variant) (c .before .before .before .before .before .before .before .before .before .before .before .before .before .before .args .aim .big) (c .before .before .before .before .before .before .before .before .before .before .before .before .before .before .pre .1 .0) (c .before .before .before .before .before .before .before .before .before .loop .inv .0) (c .before .before .before .before .before .before .before .before .first-field .ensures) (c .before .before .before .before .before .before .before .before .before .before .before .before .before .before .args .place) (newOf (c .before .before .before .before .before .before .before .before .before .before .before .before .before .before .args .aim .new)) (most (c .before .before .before .before .before .before .before .before .before .before .before .before .before .before .args .d) + containerMost) _ (field-at (c .before .before .before .before .before .before .before .before .before .before .before .before .before .before .args .aim .big) (c .before .before .before .before .before .before .before .before .before .before .before .before .before .before .args .d) (c .before .before .before .before .before .before .before .before .before .loop .inv .0) (c .before .before .before .before .before .before .before .before .first-field .ensures) (c .before .before .before .before .before .before .before .shape-in .result) (c .before .before .before .before .before .before .before .shape-in .ensures)) (most (c .before .before .before .before .before .before .before .before .before .before .before .before .before .before .args .d)) _ _ _ (c .before .before .before .before .before .before .before .before .before .loop .inv .1) _ (c .before .before .before .before .value .ensures) (c .before .if1 .taken))
+structure·fields-close-field-requires t c κs =
+    let at-if1 = c .before in
+    let at-value = at-if1 .before .before .before in
+    let at-shape-in = at-value .before .before .before in
+    let at-first-field = at-shape-in .before in
+    let at-loop = at-first-field .before in
+    let start = at-loop .before .before .before .before .before in (
+      field-fits (start .args .d .variant) (start .args .aim .big) (start .pre .1 .0) (at-loop .loop .inv .0) (at-first-field .first-field .ensures) (start .args .place) (newOf
+          (start .args .aim .new)) (most (start .args .d) + containerMost) _ (field-at (start .args .aim .big) (start .args .d) (at-loop .loop .inv .0)
+          (at-first-field .first-field .ensures) (at-shape-in .shape-in .result) (at-shape-in .shape-in .ensures)) (most (start .args .d)) _ _ _ (at-loop .loop .inv .1) _
+          (at-value .value .ensures) (omega (
+            arith,
+            most-small
+                (start .args .d),
+            at-first-field .first-field .ensures .order,
+            at-first-field .first-field .ensures .inside,
+            start .pre .1 .1 .near,
+          )),
+      field-behind
+          (start .args .d .variant) (start .args .aim .big) (start .pre .1 .0) (at-loop .loop .inv .0) (at-first-field .first-field .ensures) (start .args .place) (newOf
+          (start .args .aim .new)) (most (start .args .d) + containerMost) _ (field-at (start .args .aim .big) (start .args .d) (at-loop .loop .inv .0)
+          (at-first-field .first-field .ensures) (at-shape-in .shape-in .result) (at-shape-in .shape-in .ensures)) (most (start .args .d)) _ _ _ (at-loop .loop .inv .1) _
+          (at-value .value .ensures) (at-if1 .if1 .taken),
+    )
 
 structure·fields-same-length : (t : ℕ) → structure·fields-lts.Need-same-length (structure·fields-callees t) (structure·fields-at t) structure·fields.Post structure·fields-Inv-loop structure·fields-μ-loop
-structure·fields-same-length t c = omega (arith, ap length (c .before .before .before .before .before .before .before .before .before .before .before .before .loop .inv .1))
+structure·fields-same-length t c =
+    let at-loop = c .before .before .before .before .before .before .before .before .before .before .before .before in
+    omega (arith, ap length (at-loop .loop .inv .1))
 
 structure·fields-returns : (t : ℕ) → structure·fields-lts.Need-returns (structure·fields-callees t) (structure·fields-at t) structure·fields.Post structure·fields-Inv-loop structure·fields-μ-loop
-structure·fields-returns t c = fields-found (c .before .before .before .before .before .before .before .before .before .before .before .before .before .before .before .before .before .args .d .variant) (c .before .before .before .before .before .before .before .before .before .before .before .before .before .before .before .before .before .args .aim .big) (c .before .before .before .before .before .before .before .before .before .before .before .before .before .before .before .before .before .pre .1 .0) (c .before .before .before .before .before .before .before .before .before .before .before .before .loop .inv .0) (c .before .before .before .before .before .before .before .before .before .before .before .first-field .ensures) (c .before .before .before .before .before .before .before .before .before .before .before .before .before .before .before .before .before .args .place) (newOf (c .before .before .before .before .before .before .before .before .before .before .before .before .before .before .before .before .before .args .aim .new)) (most (c .before .before .before .before .before .before .before .before .before .before .before .before .before .before .before .before .before .args .d) + containerMost) _ (field-at (c .before .before .before .before .before .before .before .before .before .before .before .before .before .before .before .before .before .args .aim .big) (c .before .before .before .before .before .before .before .before .before .before .before .before .before .before .before .before .before .args .d) (c .before .before .before .before .before .before .before .before .before .before .before .before .loop .inv .0) (c .before .before .before .before .before .before .before .before .before .before .before .first-field .ensures) (c .before .before .before .before .before .before .before .before .before .before .shape-in .result) (c .before .before .before .before .before .before .before .before .before .before .shape-in .ensures)) (most (c .before .before .before .before .before .before .before .before .before .before .before .before .before .before .before .before .before .args .d)) _ _ _ (c .before .before .before .before .before .before .before .before .before .before .before .before .loop .inv .1) _ (c .before .before .before .before .before .before .before .value .ensures) (c .before .before .before .before .if1 .taken) _ _ (c .before .before .close-field .ensures) (omega (arith, most-small (c .before .before .before .before .before .before .before .before .before .before .before .before .before .before .before .before .before .args .d), c .before .before .before .before .before .before .before .before .before .before .before .first-field .ensures .order, c .before .before .before .before .before .before .before .before .before .before .before .first-field .ensures .inside, c .before .before .before .before .before .before .before .before .before .before .before .before .before .before .before .before .before .pre .1 .1 .near))
+structure·fields-returns t c =
+    let at-close-field = c .before .before in
+    let at-if1 = at-close-field .before .before in
+    let at-value = at-if1 .before .before .before in
+    let at-shape-in = at-value .before .before .before in
+    let at-first-field = at-shape-in .before in
+    let at-loop = at-first-field .before in
+    let start = at-loop .before .before .before .before .before in
+    fields-found (start .args .d .variant) (start .args .aim .big) (start .pre .1 .0) (at-loop .loop .inv .0) (at-first-field .first-field .ensures) (start .args .place) (newOf
+    (start .args .aim .new)) (most (start .args .d) + containerMost) _ (field-at (start .args .aim .big) (start .args .d) (at-loop .loop .inv .0)
+    (at-first-field .first-field .ensures) (at-shape-in .shape-in .result) (at-shape-in .shape-in .ensures)) (most (start .args .d)) _ _ _ (at-loop .loop .inv .1) _
+    (at-value .value .ensures) (at-if1 .if1 .taken) _ _ (at-close-field .close-field .ensures) (omega (
+      arith,
+      most-small
+          (start .args .d),
+      at-first-field .first-field .ensures .order,
+      at-first-field .first-field .ensures .inside,
+      start .pre .1 .1 .near,
+    ))
 
 structure·fields-sub-left : (t : ℕ) → structure·fields-lts.Need-sub-left (structure·fields-callees t) (structure·fields-at t) structure·fields.Post structure·fields-Inv-loop structure·fields-μ-loop
-structure·fields-sub-left t c = omega (arith, field-beyond (c .before .before .before .before .before .before .before .before .before .before .before .before .before .before .args .d .variant) (c .before .before .before .before .before .before .before .before .before .before .before .before .before .before .args .aim .big) (c .before .before .before .before .before .before .before .before .before .before .before .before .before .before .pre .1 .0) (c .before .before .before .before .before .before .before .before .before .loop .inv .0) (c .before .before .before .before .before .before .before .before .first-field .ensures) (c .before .before .before .before .before .before .before .before .before .before .before .before .before .before .args .place) (newOf (c .before .before .before .before .before .before .before .before .before .before .before .before .before .before .args .aim .new)) (most (c .before .before .before .before .before .before .before .before .before .before .before .before .before .before .args .d) + containerMost) _ (field-at (c .before .before .before .before .before .before .before .before .before .before .before .before .before .before .args .aim .big) (c .before .before .before .before .before .before .before .before .before .before .before .before .before .before .args .d) (c .before .before .before .before .before .before .before .before .before .loop .inv .0) (c .before .before .before .before .before .before .before .before .first-field .ensures) (c .before .before .before .before .before .before .before .shape-in .result) (c .before .before .before .before .before .before .before .shape-in .ensures)) (most (c .before .before .before .before .before .before .before .before .before .before .before .before .before .before .args .d)) _ _ _ (c .before .before .before .before .before .before .before .before .before .loop .inv .1) _ (c .before .before .before .before .value .ensures) (c .before .if1 .left))
+structure·fields-sub-left t c =
+    let at-if1 = c .before in
+    let at-value = at-if1 .before .before .before in
+    let at-shape-in = at-value .before .before .before in
+    let at-first-field = at-shape-in .before in
+    let at-loop = at-first-field .before in
+    let start = at-loop .before .before .before .before .before in
+    omega (
+      arith,
+      field-beyond (start .args .d .variant) (start .args .aim .big) (start .pre .1 .0) (at-loop .loop .inv .0) (at-first-field .first-field .ensures)
+          (start .args .place) (newOf (start .args .aim .new)) (most (start .args .d) + containerMost) _ (field-at (start .args .aim .big) (start .args .d) (at-loop .loop .inv .0)
+          (at-first-field .first-field .ensures) (at-shape-in .shape-in .result) (at-shape-in .shape-in .ensures)) (most (start .args .d)) _ _ _ (at-loop .loop .inv .1) _
+          (at-value .value .ensures) (at-if1 .if1 .left),
+    )
 
 structure·fields-sub-counted : (t : ℕ) → structure·fields-lts.Need-sub-counted (structure·fields-callees t) (structure·fields-at t) structure·fields.Post structure·fields-Inv-loop structure·fields-μ-loop
-structure·fields-sub-counted t c = omega (arith, fields-less (c .before .before .before .before .before .before .before .before .before .before .loop .inv .0) (c .before .before .before .before .before .before .before .before .before .first-field .ensures))
+structure·fields-sub-counted t c =
+    let at-first-field = c .before .before .before .before .before .before .before .before .before in
+    let at-loop = at-first-field .before in
+    omega (arith, fields-less (at-loop .loop .inv .0) (at-first-field .first-field .ensures))
 
 structure·fields-counted-requires : (t : ℕ) → structure·fields-lts.Need-counted-requires (structure·fields-callees t) (structure·fields-at t) structure·fields.Post structure·fields-Inv-loop structure·fields-μ-loop
 structure·fields-counted-requires t c κs = search needs
 
 structure·fields-same-length-2 : (t : ℕ) → structure·fields-lts.Need-same-length-2 (structure·fields-callees t) (structure·fields-at t) structure·fields.Post structure·fields-Inv-loop structure·fields-μ-loop
-structure·fields-same-length-2 t c = omega (arith, ap length (c .before .before .before .before .before .before .before .before .before .before .before .loop .inv .1))
+structure·fields-same-length-2 t c =
+    let at-loop = c .before .before .before .before .before .before .before .before .before .before .before in
+    omega (arith, ap length (at-loop .loop .inv .1))
 
 structure·fields-returns-2 : (t : ℕ) → structure·fields-lts.Need-returns-2 (structure·fields-callees t) (structure·fields-at t) structure·fields.Post structure·fields-Inv-loop structure·fields-μ-loop
-structure·fields-returns-2 t c = fields-counted (c .before .before .before .before .before .before .before .before .before .before .before .before .before .before .before .before .args .d .variant) (c .before .before .before .before .before .before .before .before .before .before .before .before .before .before .before .before .args .aim .big) (c .before .before .before .before .before .before .before .before .before .before .before .before .before .before .before .before .pre .1 .0) (c .before .before .before .before .before .before .before .before .before .before .before .loop .inv .0) (c .before .before .before .before .before .before .before .before .before .before .first-field .ensures) (c .before .before .before .before .before .before .before .before .before .before .before .before .before .before .before .before .args .place) (newOf (c .before .before .before .before .before .before .before .before .before .before .before .before .before .before .before .before .args .aim .new)) (most (c .before .before .before .before .before .before .before .before .before .before .before .before .before .before .before .before .args .d) + containerMost) _ (field-at (c .before .before .before .before .before .before .before .before .before .before .before .before .before .before .before .before .args .aim .big) (c .before .before .before .before .before .before .before .before .before .before .before .before .before .before .before .before .args .d) (c .before .before .before .before .before .before .before .before .before .before .before .loop .inv .0) (c .before .before .before .before .before .before .before .before .before .before .first-field .ensures) (c .before .before .before .before .before .before .before .before .before .shape-in .result) (c .before .before .before .before .before .before .before .before .before .shape-in .ensures)) (most (c .before .before .before .before .before .before .before .before .before .before .before .before .before .before .before .before .args .d)) _ _ _ (c .before .before .before .before .before .before .before .before .before .before .before .loop .inv .1) _ (c .before .before .before .before .before .before .value .ensures) (c .before .before .before .if1 .left) (c .before .if2 .taken) _ (c .counted .ensures)
+structure·fields-returns-2 t c =
+    let at-if2 = c .before in
+    let at-if1 = at-if2 .before .before in
+    let at-value = at-if1 .before .before .before in
+    let at-shape-in = at-value .before .before .before in
+    let at-first-field = at-shape-in .before in
+    let at-loop = at-first-field .before in
+    let start = at-loop .before .before .before .before .before in
+    fields-counted (start .args .d .variant) (start .args .aim .big) (start .pre .1 .0) (at-loop .loop .inv .0) (at-first-field .first-field .ensures) (start .args .place) (newOf
+    (start .args .aim .new)) (most (start .args .d) + containerMost) _ (field-at (start .args .aim .big) (start .args .d) (at-loop .loop .inv .0)
+    (at-first-field .first-field .ensures) (at-shape-in .shape-in .result) (at-shape-in .shape-in .ensures)) (most (start .args .d)) _ _ _ (at-loop .loop .inv .1) _
+    (at-value .value .ensures) (at-if1 .if1 .left) (at-if2 .if2 .taken) _ (c .counted .ensures)
 
 structure·fields-behind-field-requires : (t : ℕ) → structure·fields-lts.Need-behind-field-requires (structure·fields-callees t) (structure·fields-at t) structure·fields.Post structure·fields-Inv-loop structure·fields-μ-loop
 structure·fields-behind-field-requires t c κs = search needs
 
 structure·fields-loop-less : (t : ℕ) → structure·fields-lts.Need-loop-less (structure·fields-callees t) (structure·fields-at t) structure·fields.Post structure·fields-Inv-loop structure·fields-μ-loop
-structure·fields-loop-less t c = omega (arith, ap (λ (r : Row). r .at) (c .behind-field .ensures), c .before .before .before .before .before .before .before .before .before .before .first-field .ensures .rest (c .before .if2 .left) .onward, c .before .before .before .before .before .before .before .before .before .before .first-field .ensures .rest (c .before .if2 .left) .within)
+structure·fields-loop-less t c =
+    let at-if2 = c .before in
+    let at-first-field = at-if2 .before .before .before .before .before .before .before .before .before in
+    omega (arith, ap (λ (r : Row). r .at) (c .behind-field .ensures), at-first-field .first-field .ensures .rest (at-if2 .if2 .left) .onward, at-first-field .first-field .ensures .rest (at-if2 .if2 .left) .within)
 
 structure·fields-loop-again : (t : ℕ) → structure·fields-lts.Need-loop-again (structure·fields-callees t) (structure·fields-at t) structure·fields.Post structure·fields-Inv-loop structure·fields-μ-loop
-structure·fields-loop-again t c = fields-turn (c .before .before .before .before .before .before .before .before .before .before .before .before .before .before .before .before .args .d .variant) (c .before .before .before .before .before .before .before .before .before .before .before .before .before .before .before .before .args .aim .big) (c .before .before .before .before .before .before .before .before .before .before .before .before .before .before .before .before .pre .1 .0) (c .before .before .before .before .before .before .before .before .before .before .before .loop .inv .0) (c .before .before .before .before .before .before .before .before .before .before .first-field .ensures) (c .before .before .before .before .before .before .before .before .before .before .before .before .before .before .before .before .args .place) (newOf (c .before .before .before .before .before .before .before .before .before .before .before .before .before .before .before .before .args .aim .new)) (most (c .before .before .before .before .before .before .before .before .before .before .before .before .before .before .before .before .args .d) + containerMost) _ (field-at (c .before .before .before .before .before .before .before .before .before .before .before .before .before .before .before .before .args .aim .big) (c .before .before .before .before .before .before .before .before .before .before .before .before .before .before .before .before .args .d) (c .before .before .before .before .before .before .before .before .before .before .before .loop .inv .0) (c .before .before .before .before .before .before .before .before .before .before .first-field .ensures) (c .before .before .before .before .before .before .before .before .before .shape-in .result) (c .before .before .before .before .before .before .before .before .before .shape-in .ensures)) (most (c .before .before .before .before .before .before .before .before .before .before .before .before .before .before .before .before .args .d)) _ _ _ (c .before .before .before .before .before .before .before .before .before .before .before .loop .inv .1) _ (c .before .before .before .before .before .before .value .ensures) (c .before .before .before .if1 .left) (c .before .if2 .left) _ (c .behind-field .ensures)
+structure·fields-loop-again t c =
+    let at-if2 = c .before in
+    let at-if1 = at-if2 .before .before in
+    let at-value = at-if1 .before .before .before in
+    let at-shape-in = at-value .before .before .before in
+    let at-first-field = at-shape-in .before in
+    let at-loop = at-first-field .before in
+    let start = at-loop .before .before .before .before .before in
+    fields-turn (start .args .d .variant) (start .args .aim .big) (start .pre .1 .0) (at-loop .loop .inv .0) (at-first-field .first-field .ensures) (start .args .place) (newOf
+    (start .args .aim .new)) (most (start .args .d) + containerMost) _ (field-at (start .args .aim .big) (start .args .d) (at-loop .loop .inv .0)
+    (at-first-field .first-field .ensures) (at-shape-in .shape-in .result) (at-shape-in .shape-in .ensures)) (most (start .args .d)) _ _ _ (at-loop .loop .inv .1) _
+    (at-value .value .ensures) (at-if1 .if1 .left) (at-if2 .if2 .left) _ (c .behind-field .ensures)
 
 pub structure·fields-spec : {M : Type 1} (t : ℕ) → structure·fields-lts.Closed (structure·fields-callees t) (structure·fields-at t) structure·fields.Post M
 structure·fields-spec t =

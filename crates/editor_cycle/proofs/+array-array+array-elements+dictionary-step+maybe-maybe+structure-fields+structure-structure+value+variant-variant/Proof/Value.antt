@@ -1,11 +1,11 @@
 -- The needs of `value`, and what answers each.
-use mathlib.Core.Path.{_∙_, _≡_, ap, refl, sym}
-use native.Mathlib.Omega.{arith}
-use Rattle.signature.proofs.TreeLaws.{described-kind}
+use Prim.Native.Nat.{_-_, ℕ}
+use Rattle.editor_cycle.proofs.Values.{basic-none, value-variant, variant-ready}
 use Rattle.editor_cycle.proofs.WalkLaws.{counts}
-use Rattle.editor_cycle.proofs.Values.{variant-ready, value-variant, basic-none}
+use Rattle.signature.proofs.TreeLaws.{described-kind}
 use borrow.Author.Needs.{needs}
-use Prim.Native.Nat.{ℕ, _-_}
+use mathlib.Core.Path.{_∙_, refl, sym}
+use native.Mathlib.Omega.{arith}
 use Rattle.editor_cycle.proofs as of
 use Rattle.editor_cycle.proofs.+array-array+array-elements+dictionary-step+maybe-maybe+structure-fields+structure-structure+value+variant-variant as cycle
 use cycle.Proof.Measures.{array·array-below, maybe·maybe-below, structure·structure-below, value-at, variant·variant-below}
@@ -35,25 +35,37 @@ value-enum-told : (t : ℕ) → value-lts.Need-enum-told (value-callees t) (valu
 value-enum-told t c = search needs
 
 value-maybe-requires : (t : ℕ) → value-lts.Need-maybe-requires (value-callees t) (value-at t) value.Post
-value-maybe-requires t c κs = (omega (arith, c .before .before .before .before .before .before .before .pre .0), (c .before .before .before .before .before .before .before .pre .1 .0, (sym (described-kind (c .before .before .before .before .before .before .before .pre .1 .0 .shape)) ∙ c .before .enum-told .given .1), c .before .before .before .before .before .before .before .pre .1 .1))
+value-maybe-requires t c κs =
+    let at-enum-told = c .before in
+    let start = at-enum-told .before .before .before .before .before .before in
+    (omega (arith, start .pre .0), (start .pre .1 .0, (sym (described-kind (start .pre .1 .0 .shape)) ∙ at-enum-told .enum-told .given .1), start .pre .1 .1))
 
 value-enum-told-2 : (t : ℕ) → value-lts.Need-enum-told-2 (value-callees t) (value-at t) value.Post
 value-enum-told-2 t c = search needs
 
 value-array-requires : (t : ℕ) → value-lts.Need-array-requires (value-callees t) (value-at t) value.Post
-value-array-requires t c κs = (omega (arith, c .before .before .before .before .before .before .before .pre .0), (c .before .before .before .before .before .before .before .pre .1 .0, (sym (described-kind (c .before .before .before .before .before .before .before .pre .1 .0 .shape)) ∙ c .before .enum-told2 .given .1), c .before .before .before .before .before .before .before .pre .1 .1))
+value-array-requires t c κs =
+    let at-enum-told2 = c .before in
+    let start = at-enum-told2 .before .before .before .before .before .before in
+    (omega (arith, start .pre .0), (start .pre .1 .0, (sym (described-kind (start .pre .1 .0 .shape)) ∙ at-enum-told2 .enum-told2 .given .1), start .pre .1 .1))
 
 value-enum-told-3 : (t : ℕ) → value-lts.Need-enum-told-3 (value-callees t) (value-at t) value.Post
 value-enum-told-3 t c = search needs
 
 value-structure-requires : (t : ℕ) → value-lts.Need-structure-requires (value-callees t) (value-at t) value.Post
-value-structure-requires t c κs = (omega (arith, c .before .before .before .before .before .before .before .pre .0), (c .before .before .before .before .before .before .before .pre .1 .0, (sym (described-kind (c .before .before .before .before .before .before .before .pre .1 .0 .shape)) ∙ c .before .enum-told3 .given .1), c .before .before .before .before .before .before .before .pre .1 .1))
+value-structure-requires t c κs =
+    let at-enum-told3 = c .before in
+    let start = at-enum-told3 .before .before .before .before .before .before in
+    (omega (arith, start .pre .0), (start .pre .1 .0, (sym (described-kind (start .pre .1 .0 .shape)) ∙ at-enum-told3 .enum-told3 .given .1), start .pre .1 .1))
 
 value-enum-told-4 : (t : ℕ) → value-lts.Need-enum-told-4 (value-callees t) (value-at t) value.Post
 value-enum-told-4 t c = search needs
 
 value-variant-requires : (t : ℕ) → value-lts.Need-variant-requires (value-callees t) (value-at t) value.Post
-value-variant-requires t c κs = (omega (arith, c .before .before .before .before .before .before .before .pre .0), variant-ready (c .before .before .before .before .before .before .before .args .text .now) (c .before .before .before .before .before .before .before .args .shape .at) (c .before .before .before .before .before .before .before .args .d) (c .before .before .before .before .before .before .before .pre .1 .0 .shape .typed) (sym (described-kind (c .before .before .before .before .before .before .before .pre .1 .0 .shape)) ∙ c .before .enum-told4 .given .1) (c .before .before .before .before .before .before .before .pre .1 .1))
+value-variant-requires t c κs =
+    let at-enum-told4 = c .before in
+    let start = at-enum-told4 .before .before .before .before .before .before in
+    (omega (arith, start .pre .0), variant-ready (start .args .text .now) (start .args .shape .at) (start .args .d) (start .pre .1 .0 .shape .typed) (sym (described-kind (start .pre .1 .0 .shape)) ∙ at-enum-told4 .enum-told4 .given .1) (start .pre .1 .1))
 
 value-counted-requires : (t : ℕ) → value-lts.Need-counted-requires (value-callees t) (value-at t) value.Post
 value-counted-requires t c κs = search needs
@@ -80,10 +92,19 @@ value-same-length-4 : (t : ℕ) → value-lts.Need-same-length-4 (value-callees 
 value-same-length-4 t c = search needs
 
 value-returns-4 : (t : ℕ) → value-lts.Need-returns-4 (value-callees t) (value-at t) value.Post
-value-returns-4 t c = value-variant (c .before .before .before .before .before .before .before .before .before .before .args .text .now) (c .before .before .before .before .before .before .before .before .before .before .args .shape .at) (c .before .before .before .before .before .before .before .before .before .before .args .d) (c .before .before .before .before .before .before .before .before .before .before .pre .1 .0 .shape .typed) (sym (described-kind (c .before .before .before .before .before .before .before .before .before .before .pre .1 .0 .shape)) ∙ c .before .before .before .before .enum-told4 .given .1) _ _ _ _ _ _ _ _ _ (c .before .before .variant .ensures)
+value-returns-4 t c =
+    let at-variant = c .before .before in
+    let at-enum-told4 = at-variant .before .before in
+    let start = at-enum-told4 .before .before .before .before .before .before in
+    value-variant (start .args .text .now) (start .args .shape .at) (start .args .d) (start .pre .1 .0 .shape .typed) (sym (described-kind (start .pre .1 .0 .shape)) ∙ at-enum-told4 .enum-told4 .given .1) _ _ _ _ _ _ _ _ _ (at-variant .variant .ensures)
 
 value-returns-5 : (t : ℕ) → value-lts.Need-returns-5 (value-callees t) (value-at t) value.Post
-value-returns-5 t c = counts _ _ _ _ _ _ _ _ _ 0 _ (c .counted .ensures) (basic-none (c .before .before .before .before .before .before .args .text .now) (c .before .before .before .before .before .before .args .shape .at) (c .before .before .before .before .before .before .args .shape .kind) (c .before .before .before .before .before .before .args .aim .big) (65 - c .before .before .before .before .before .before .args .d .variant) (c .before .before .before .before .before .before .args .part .now) (c .before .before .before .before .before .before .pre .1 .0 .shape .typed) (described-kind (c .before .before .before .before .before .before .pre .1 .0 .shape)) (c .before .match .keys5)) (omega arith) refl
+value-returns-5 t c =
+    let at-match = c .before in
+    let start = at-match .before .before .before .before .before in
+    counts _ _ _ _ _ _ _ _ _ 0 _ (c .counted .ensures) (basic-none (start .args .text .now) (start .args .shape .at) (start .args .shape .kind) (start .args .aim .big)
+    (65 - start .args .d .variant) (start .args .part .now) (start .pre .1 .0 .shape .typed) (described-kind (start .pre .1 .0 .shape)) (at-match .match .keys5))
+    (omega arith) refl
 
 pub value-spec : {M : Type 1} (t : ℕ) → value-lts.Closed (value-callees t) (value-at t) value.Post M
 value-spec t =

@@ -1,15 +1,15 @@
 -- The needs of `variant·variant`, and what answers each.
-use mathlib.Core.Path.{_∙_, _≡_, ap, refl, sym}
-use native.Mathlib.Omega.{arith}
-use Rattle.reader_basic.proofs.Answers.{denied, granted}
-use lib.ListN.{length-take}
-use Rattle.signature.specs.declared.shapes.Shape.{Shape}
-use Rattle.signature.proofs.TreeLaws.{front}
-use Rattle.reader_basic.proofs.Loops.{tail}
-use Rattle.editor_cycle.proofs.WalkLaws.{counts}
-use Rattle.editor_cycle.proofs.Variants.{separator-positive, variant-untyped, variant-deeper, front-placed, value-ready, variant-fits, variant-closed, signature-short}
-use borrow.Author.Needs.{needs}
 use Prim.Native.Nat.{ℕ}
+use Rattle.editor_cycle.proofs.Variants.{front-placed, separator-positive, signature-short, typed-ready, variant-closed, variant-deeper, variant-fits, variant-untyped}
+use Rattle.editor_cycle.proofs.WalkLaws.{counts}
+use Rattle.reader_basic.proofs.Answers.{denied, granted}
+use Rattle.reader_basic.proofs.Loops.{tail}
+use Rattle.signature.proofs.TreeLaws.{front}
+use Rattle.signature.specs.declared.shapes.Shape.{Shape}
+use borrow.Author.Needs.{needs}
+use lib.ListN.{length-take}
+use mathlib.Core.Path.{_∙_, ap, refl, sym}
+use native.Mathlib.Omega.{arith}
 use Rattle.editor_cycle.proofs as of
 use Rattle.editor_cycle.proofs.+array-array+array-elements+dictionary-step+maybe-maybe+structure-fields+structure-structure+value+variant-variant as cycle
 use cycle.Proof.Measures.{value-below, variant·variant-at}
@@ -48,7 +48,10 @@ variant·variant-inc-variant-requires : (t : ℕ) → variant·variant-lts.Need-
 variant·variant-inc-variant-requires t c κs = search needs
 
 variant·variant-sub-end : (t : ℕ) → variant·variant-lts.Need-sub-end (variant·variant-callees t) (variant·variant-at t) variant·variant.Post
-variant·variant-sub-end t c = omega (arith, separator-positive (c .before .before .before .before .before .args .d) (c .before .before .before .before .before .args .place) (c .before .before .before .before .before .args .part .now) (c .before .before .before .before .before .pre .1) (c .before .before .separator .result) (c .before .before .separator .ensures .0))
+variant·variant-sub-end t c =
+    let at-separator = c .before .before in
+    let start = at-separator .before .before .before in
+    omega (arith, separator-positive (start .args .d) (start .args .place) (start .args .part .now) (start .pre .1) (at-separator .separator .result) (at-separator .separator .ensures .0))
 
 variant·variant-sub-signature : (t : ℕ) → variant·variant-lts.Need-sub-signature (variant·variant-callees t) (variant·variant-at t) variant·variant.Post
 variant·variant-sub-signature t c = omega (arith, c .before .before .separator .ensures .1)
@@ -69,7 +72,14 @@ variant·variant-counted-requires : (t : ℕ) → variant·variant-lts.Need-coun
 variant·variant-counted-requires t c κs = search needs
 
 variant·variant-returns : (t : ℕ) → variant·variant-lts.Need-returns (variant·variant-callees t) (variant·variant-at t) variant·variant.Post
-variant·variant-returns t c = counts _ _ _ _ _ _ _ _ _ 0 _ (c .counted .ensures) (variant-untyped (c .before .before .before .before .before .before .before .before .before .before .before .args .d) (c .before .before .before .before .before .before .before .before .before .before .before .args .place) (c .before .before .before .before .before .before .before .before .before .before .before .args .part .now) (c .before .before .before .before .before .before .before .before .before .before .before .pre .1) (c .before .before .before .before .before .before .before .before .separator .result) (c .before .before .before .before .before .before .before .before .separator .ensures .0) (c .before .before .before .before .before .before .before .before .before .before .before .args .aim .big) _ (tail (c .before .before .before .before .before .before .before .before .separator .result) (c .before .before .before .before .before .before .before .before .before .before .before .args .part .now)) (sym (c .before .before .before .tables-of .ensures .judged) ∙ denied (c .before .if1 .taken))) (omega arith) refl
+variant·variant-returns t c =
+    let at-if1 = c .before in
+    let at-tables-of = at-if1 .before .before in
+    let at-separator = at-tables-of .before .before .before .before .before in
+    let start = at-separator .before .before .before in
+    counts _ _ _ _ _ _ _ _ _ 0 _ (c .counted .ensures) (variant-untyped (start .args .d) (start .args .place) (start .args .part .now) (start .pre .1)
+    (at-separator .separator .result) (at-separator .separator .ensures .0) (start .args .aim .big) _ (tail (at-separator .separator .result) (start .args .part .now)) (sym
+    (at-tables-of .tables-of .ensures .judged) ∙ denied (at-if1 .if1 .taken))) (omega arith) refl
 
 variant·variant-slice-aggregate-shape-in : (t : ℕ) → variant·variant-lts.Need-slice-aggregate-shape-in (variant·variant-callees t) (variant·variant-at t) variant·variant.Post
 variant·variant-slice-aggregate-shape-in t c = search needs
@@ -81,19 +91,68 @@ variant·variant-slice-aggregate-value : (t : ℕ) → variant·variant-lts.Need
 variant·variant-slice-aggregate-value t c = search needs
 
 variant·variant-slice-aggregate-value-2 : (t : ℕ) → variant·variant-lts.Need-slice-aggregate-value-2 (variant·variant-callees t) (variant·variant-at t) variant·variant.Post
-variant·variant-slice-aggregate-value-2 t c = simp length-take (omega (arith, c .before .before .before .before .before .before .before .before .before .before .before .separator .ensures .1))
+variant·variant-slice-aggregate-value-2 t c =
+    let at-separator = c .before .before .before .before .before .before .before .before .before .before .before in
+    simp length-take (omega (arith, at-separator .separator .ensures .1))
 
 variant·variant-value-requires : (t : ℕ) → variant·variant-lts.Need-value-requires (variant·variant-callees t) (variant·variant-at t) variant·variant.Post
-variant·variant-value-requires t c κs = (omega (arith, variant-deeper (c .before .before .before .before .before .before .before .before .before .before .before .before .before .before .before .args .d) (c .before .before .before .before .before .before .before .before .before .before .before .before .before .before .before .args .place) (c .before .before .before .before .before .before .before .before .before .before .before .before .before .before .before .args .part .now) (c .before .before .before .before .before .before .before .before .before .before .before .before .before .before .before .pre .1) (c .before .before .before .before .before .before .before .before .before .before .before .before .separator .result) (c .before .before .before .before .before .before .before .before .before .before .before .before .separator .ensures .0) (c .before .before .before .before .before .before .before .before .before .before .before .inc-variant .result) (c .before .before .before .before .before .before .before .before .before .before .before .inc-variant .ensures) .falls, c .before .before .before .before .before .before .before .before .before .before .before .before .before .before .before .pre .0), (front-placed _ _ (c .before .before .before .before .before .before .before .tables-of .ensures .filled (granted (c .before .before .before .before .before .if1 .left))) (front _ (sym (c .before .before .before .before .before .before .before .tables-of .ensures .judged) ∙ granted (c .before .before .before .before .before .if1 .left))) _ (c .before .before .before .shape-in .ensures), value-ready (c .before .before .before .before .before .before .before .before .before .before .before .before .before .before .before .args .d) (c .before .before .before .before .before .before .before .before .before .before .before .before .before .before .before .args .place) (c .before .before .before .before .before .before .before .before .before .before .before .before .before .before .before .args .part .now) (c .before .before .before .before .before .before .before .before .before .before .before .before .before .before .before .pre .1) (c .before .before .before .before .before .before .before .before .before .before .before .before .separator .result) (c .before .before .before .before .before .before .before .before .before .before .before .before .separator .ensures .0) (c .before .before .before .before .before .before .before .before .before .before .before .inc-variant .result) (c .before .before .before .before .before .before .before .before .before .before .before .inc-variant .ensures) _ (tail (c .before .before .before .before .before .before .before .before .before .before .before .before .separator .result) (c .before .before .before .before .before .before .before .before .before .before .before .before .before .before .before .args .part .now)) (front _ (sym (c .before .before .before .before .before .before .before .tables-of .ensures .judged) ∙ granted (c .before .before .before .before .before .if1 .left))) _ (ap (λ (x : Shape). x .at) (c .before .before .before .shape-in .ensures)) _ refl (omega (arith, c .before .before .before .before .before .before .before .before .before .before .before .before .separator .ensures .1))))
+variant·variant-value-requires t c κs =
+    let at-shape-in = c .before .before .before in
+    let at-if1 = at-shape-in .before .before in
+    let at-tables-of = at-if1 .before .before in
+    let at-inc-variant = at-tables-of .before .before .before .before in
+    let at-separator = at-inc-variant .before in
+    let start = at-separator .before .before .before in (
+      omega (
+        arith,
+        variant-deeper (start .args .d) (start .args .place) (start .args .part .now) (start .pre .1) (at-separator .separator .result)
+            (at-separator .separator .ensures .0) (at-inc-variant .inc-variant .result) (at-inc-variant .inc-variant .ensures) .falls,
+        start .pre .0,
+      ),
+      (
+        front-placed _ _
+            (at-tables-of .tables-of .ensures .filled (granted (at-if1 .if1 .left))) (front _ (sym (at-tables-of .tables-of .ensures .judged) ∙ granted (at-if1 .if1 .left))) _
+            (at-shape-in .shape-in .ensures),
+        typed-ready (start .args .d) (start .args .place) (start .args .part .now) (start .pre .1) (at-separator .separator .result)
+            (at-separator .separator .ensures .0) (at-inc-variant .inc-variant .result) (at-inc-variant .inc-variant .ensures) _ (tail (at-separator .separator .result)
+            (start .args .part .now)) (front _ (sym (at-tables-of .tables-of .ensures .judged) ∙ granted (at-if1 .if1 .left))) _ (ap (λ (x : Shape). x .at)
+            (at-shape-in .shape-in .ensures)) _ refl (omega (arith, at-separator .separator .ensures .1)),
+      ),
+    )
 
 variant·variant-close-variant-requires : (t : ℕ) → variant·variant-lts.Need-close-variant-requires (variant·variant-callees t) (variant·variant-at t) variant·variant.Post
-variant·variant-close-variant-requires t c κs = (variant-fits (c .before .before .before .before .before .before .before .before .before .before .before .before .before .before .before .before .before .before .before .args .d) (c .before .before .before .before .before .before .before .before .before .before .before .before .before .before .before .before .before .before .before .args .place) (c .before .before .before .before .before .before .before .before .before .before .before .before .before .before .before .before .before .before .before .args .part .now) (c .before .before .before .before .before .before .before .before .before .before .before .before .before .before .before .before .before .before .before .pre .1) (c .before .before .before .before .before .before .before .before .before .before .before .before .before .before .before .before .separator .result) (c .before .before .before .before .before .before .before .before .before .before .before .before .before .before .before .before .separator .ensures .0) (c .before .before .before .before .before .before .before .before .before .before .before .before .before .before .before .inc-variant .result) (c .before .before .before .before .before .before .before .before .before .before .before .before .before .before .before .inc-variant .ensures) _ (tail (c .before .before .before .before .before .before .before .before .before .before .before .before .before .before .before .before .separator .result) (c .before .before .before .before .before .before .before .before .before .before .before .before .before .before .before .before .before .before .before .args .part .now)) (front _ (sym (c .before .before .before .before .before .before .before .before .before .before .before .tables-of .ensures .judged) ∙ granted (c .before .before .before .before .before .before .before .before .before .if1 .left))) _ (ap (λ (x : Shape). x .at) (c .before .before .before .before .before .before .before .shape-in .ensures)) _ refl (c .before .before .before .before .before .before .before .before .before .before .before .before .before .before .before .before .before .before .before .args .aim .big) _ _ _ _ _ (c .before .before .before .value .ensures), signature-short (c .before .before .before .before .before .before .before .before .before .before .before .before .before .before .before .before .separator .result) (c .before .before .before .before .before .before .before .before .before .before .before .before .before .before .before .before .before .before .before .args .part .now) (c .before .before .before .before .before .before .before .before .before .before .before .before .before .before .before .before .before .before .before .pre .1))
+variant·variant-close-variant-requires t c κs =
+    let at-value = c .before .before .before in
+    let at-shape-in = at-value .before .before .before .before in
+    let at-if1 = at-shape-in .before .before in
+    let at-tables-of = at-if1 .before .before in
+    let at-inc-variant = at-tables-of .before .before .before .before in
+    let at-separator = at-inc-variant .before in
+    let start = at-separator .before .before .before in (
+      variant-fits (start .args .d) (start .args .place) (start .args .part .now) (start .pre .1) (at-separator .separator .result) (at-separator .separator .ensures .0)
+          (at-inc-variant .inc-variant .result) (at-inc-variant .inc-variant .ensures) _ (tail (at-separator .separator .result) (start .args .part .now)) (front _ (sym
+          (at-tables-of .tables-of .ensures .judged) ∙ granted (at-if1 .if1 .left))) _ (ap (λ (x : Shape). x .at) (at-shape-in .shape-in .ensures)) _ refl
+          (start .args .aim .big) _ _ _ _ _ (at-value .value .ensures),
+      signature-short (at-separator .separator .result) (start .args .part .now) (start .pre .1),
+    )
 
 variant·variant-same-length : (t : ℕ) → variant·variant-lts.Need-same-length (variant·variant-callees t) (variant·variant-at t) variant·variant.Post
 variant·variant-same-length t c = search needs
 
 variant·variant-returns-2 : (t : ℕ) → variant·variant-lts.Need-returns-2 (variant·variant-callees t) (variant·variant-at t) variant·variant.Post
-variant·variant-returns-2 t c = variant-closed (c .before .before .before .before .before .before .before .before .before .before .before .before .before .before .before .before .before .before .before .before .before .before .args .d) (c .before .before .before .before .before .before .before .before .before .before .before .before .before .before .before .before .before .before .before .before .before .before .args .place) (c .before .before .before .before .before .before .before .before .before .before .before .before .before .before .before .before .before .before .before .before .before .before .args .part .now) (c .before .before .before .before .before .before .before .before .before .before .before .before .before .before .before .before .before .before .before .before .before .before .pre .1) (c .before .before .before .before .before .before .before .before .before .before .before .before .before .before .before .before .before .before .before .separator .result) (c .before .before .before .before .before .before .before .before .before .before .before .before .before .before .before .before .before .before .before .separator .ensures .0) (c .before .before .before .before .before .before .before .before .before .before .before .before .before .before .before .before .before .before .inc-variant .result) (c .before .before .before .before .before .before .before .before .before .before .before .before .before .before .before .before .before .before .inc-variant .ensures) _ (tail (c .before .before .before .before .before .before .before .before .before .before .before .before .before .before .before .before .before .before .before .separator .result) (c .before .before .before .before .before .before .before .before .before .before .before .before .before .before .before .before .before .before .before .before .before .before .args .part .now)) (front _ (sym (c .before .before .before .before .before .before .before .before .before .before .before .before .before .before .tables-of .ensures .judged) ∙ granted (c .before .before .before .before .before .before .before .before .before .before .before .before .if1 .left))) _ (ap (λ (x : Shape). x .at) (c .before .before .before .before .before .before .before .before .before .before .shape-in .ensures)) _ refl (c .before .before .before .before .before .before .before .before .before .before .before .before .before .before .before .before .before .before .before .before .before .before .args .aim .big) _ _ _ _ _ (c .before .before .before .before .before .before .value .ensures) _ _ (c .before .before .close-variant .ensures)
+variant·variant-returns-2 t c =
+    let at-close-variant = c .before .before in
+    let at-value = at-close-variant .before .before .before .before in
+    let at-shape-in = at-value .before .before .before .before in
+    let at-if1 = at-shape-in .before .before in
+    let at-tables-of = at-if1 .before .before in
+    let at-inc-variant = at-tables-of .before .before .before .before in
+    let at-separator = at-inc-variant .before in
+    let start = at-separator .before .before .before in
+    variant-closed (start .args .d) (start .args .place) (start .args .part .now) (start .pre .1) (at-separator .separator .result) (at-separator .separator .ensures .0)
+    (at-inc-variant .inc-variant .result) (at-inc-variant .inc-variant .ensures) _ (tail (at-separator .separator .result) (start .args .part .now)) (front _ (sym
+    (at-tables-of .tables-of .ensures .judged) ∙ granted (at-if1 .if1 .left))) _ (ap (λ (x : Shape). x .at) (at-shape-in .shape-in .ensures)) _ refl
+    (start .args .aim .big) _ _ _ _ _ (at-value .value .ensures) _ _ (at-close-variant .close-variant .ensures)
 
 pub variant·variant-spec : {M : Type 1} (t : ℕ) → variant·variant-lts.Closed (variant·variant-callees t) (variant·variant-at t) variant·variant.Post M
 variant·variant-spec t =

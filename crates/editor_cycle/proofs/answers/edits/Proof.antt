@@ -1,3 +1,4 @@
+-- `edits` meets its contract. Assumes nothing.
 use Rattle.editor_cycle.proofs.ClosingLaws.{edits-by}
 use borrow.Author.Needs.{needs}
 use Rattle.editor_cycle.proofs.answers.edits.Statement.{statement}

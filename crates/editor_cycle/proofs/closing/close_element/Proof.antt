@@ -1,3 +1,4 @@
+-- `close_element` meets its contract. Assumes nothing.
 use mathlib.Core.Path.{_≡_, refl, sym, ap, _∙_}
 use native.Mathlib.Omega.{arith}
 use Rattle.reader_basic.proofs.Answers.{denied, granted}
@@ -48,7 +49,15 @@ behind-requires c κs = search needs
 
 -- src/closing.rt:97:9
 finish-array-requires : tie.Need-finish-array-requires
-finish-array-requires c κs = let fits-of = c .before .before .before .before .before .before .before .before .before .before .before .pre .0 (sym (c .before .before .before .before .before .before .before .before .edits .ensures) ∙ granted (c .before .before .before .before .before .before .before .if1 .left)) in (front-is (c .before .before .before .before .before .before .before .before .before .before .before .args .all) (c .before .before .before .before .before .before .before .before .before .before .before .args .part .now) _ _ (c .before .before .first-of .ensures) (omega arith) (c .before .before .before .before .before .before .before .before .before .before .before .pre .1 .whole), rest-is _ _ (c .before .behind .ensures) (c .before .before .before .before .before .before .before .before .before .before .before .pre .1 .behind), omega (arith, fits-of .after, fits-of .inside, fits-of .short))
+finish-array-requires c κs = let fits-of = c .before .before .before .before .before .before .before .before .before .before .before .pre .0 (sym
+    (c .before .before .before .before .before .before .before .before .edits .ensures) ∙ granted (c .before .before .before .before .before .before .before .if1 .left)) in (
+      front-is (c .before .before .before .before .before .before .before .before .before .before .before .args .all)
+          (c .before .before .before .before .before .before .before .before .before .before .before .args .part .now) _ _ (c .before .before .first-of .ensures) (omega arith)
+          (c .before .before .before .before .before .before .before .before .before .before .before .pre .1 .whole),
+      rest-is _ _ (c .before .behind .ensures)
+          (c .before .before .before .before .before .before .before .before .before .before .before .pre .1 .behind),
+      omega (arith, fits-of .after, fits-of .inside, fits-of .short),
+    )
 
 -- src/closing.rt:98:5
 edited-requires : tie.Need-edited-requires
@@ -60,7 +69,18 @@ same-length c = search needs
 
 -- src/closing.rt:78:1
 returns-2 : tie.Need-returns-2
-returns-2 c = let fits-of = c .before .before .before .before .before .before .before .before .before .before .before .before .before .before .before .pre .0 (sym (c .before .before .before .before .before .before .before .before .before .before .before .before .edits .ensures) ∙ granted (c .before .before .before .before .before .before .before .before .before .before .before .if1 .left)) in element-closed (c .before .before .before .before .before .before .before .before .before .before .before .before .before .before .before .args .all) (c .before .before .before .before .before .before .before .before .before .before .before .before .before .before .before .args .rest) (c .before .before .before .before .before .before .before .before .before .before .before .before .before .before .before .args .end) (c .before .before .before .before .before .before .before .before .before .before .before .before .before .before .before .args .part .now) _ _ (c .before .before .before .before .before .before .before .before .before .before .before .before .before .before .before .args .walked) _ _ _ _ _ _ _ (sym (c .before .before .before .before .before .before .before .before .before .before .before .before .edits .ensures) ∙ granted (c .before .before .before .before .before .before .before .before .before .before .before .if1 .left)) (c .edited .ensures) (c .before .before .before .before .before .before .first-of .ensures) (c .before .before .before .before .before .behind .ensures) (c .before .before .before .finish-array .ensures .1 .0) (c .before .before .before .finish-array .ensures .1 .1) refl (c .before .before .before .finish-array .ensures .0)
+returns-2 c = let fits-of = c .before .before .before .before .before .before .before .before .before .before .before .before .before .before .before .pre .0 (sym
+    (c .before .before .before .before .before .before .before .before .before .before .before .before .edits .ensures) ∙ granted
+    (c .before .before .before .before .before .before .before .before .before .before .before .if1 .left)) in element-closed
+    (c .before .before .before .before .before .before .before .before .before .before .before .before .before .before .before .args .all)
+    (c .before .before .before .before .before .before .before .before .before .before .before .before .before .before .before .args .rest)
+    (c .before .before .before .before .before .before .before .before .before .before .before .before .before .before .before .args .end)
+    (c .before .before .before .before .before .before .before .before .before .before .before .before .before .before .before .args .part .now) _ _
+    (c .before .before .before .before .before .before .before .before .before .before .before .before .before .before .before .args .walked) _ _ _ _ _ _ _ (sym
+    (c .before .before .before .before .before .before .before .before .before .before .before .before .edits .ensures) ∙ granted
+    (c .before .before .before .before .before .before .before .before .before .before .before .if1 .left)) (c .edited .ensures)
+    (c .before .before .before .before .before .before .first-of .ensures) (c .before .before .before .before .before .behind .ensures)
+    (c .before .before .before .finish-array .ensures .1 .0) (c .before .before .before .finish-array .ensures .1 .1) refl (c .before .before .before .finish-array .ensures .0)
 
 pub close-element-spec : {M : Type 1} → statement M
 close-element-spec =

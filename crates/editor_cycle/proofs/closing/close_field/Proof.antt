@@ -1,3 +1,4 @@
+-- `close_field` meets its contract. Assumes nothing.
 use mathlib.Core.Path.{_≡_, refl, sym, ap, _∙_}
 use native.Mathlib.Omega.{arith}
 use Rattle.reader_basic.proofs.Answers.{denied, granted}
@@ -23,7 +24,11 @@ same-length c = search needs
 
 -- src/closing.rt:139:9
 returns : tie.Need-returns
-returns c = closes-as (sym (rest-last (c .before .before .before .before .before .before .before .before .before .args .text .now) (c .before .before .before .before .before .before .before .before .before .args .row) (c .before .before .before .before .before .before .before .before .before .args .field) (c .before .before .before .before .before .before .before .before .before .args .part .now) _ (c .before .before .before .before .if1 .taken))) (omega arith) (c .before .before .close-last .ensures)
+returns c = closes-as (sym (rest-last (c .before .before .before .before .before .before .before .before .before .args .text .now)
+    (c .before .before .before .before .before .before .before .before .before .args .row)
+    (c .before .before .before .before .before .before .before .before .before .args .field)
+    (c .before .before .before .before .before .before .before .before .before .args .part .now) _ (c .before .before .before .before .if1 .taken))) (omega arith)
+    (c .before .before .close-last .ensures)
 
 -- src/closing.rt:141:9
 edits-requires : tie.Need-edits-requires
@@ -51,7 +56,12 @@ behind-field-requires c κs = search needs
 
 -- src/closing.rt:147:9
 finish-structure-requires : tie.Need-finish-structure-requires
-finish-structure-requires c κs = let fits-of = c .before .before .before .before .before .before .before .before .before .before .before .pre .0 (sym (c .before .before .before .before .before .edits .ensures) ∙ granted (c .before .before .before .before .if2 .left)) in row-asked (c .before .before .before .before .before .before .before .before .before .before .before .args .row) (c .before .before .before .before .before .before .before .before .before .before .before .args .field) _ _ (c .before .behind-field .ensures) (c .before .before .before .before .before .before .before .before .before .before .before .pre .1) (c .before .before .before .before .before .before .if1 .left) (omega (arith, fits-of .after, fits-of .inside, fits-of .short))
+finish-structure-requires c κs = let fits-of = c .before .before .before .before .before .before .before .before .before .before .before .pre .0 (sym
+    (c .before .before .before .before .before .edits .ensures) ∙ granted (c .before .before .before .before .if2 .left)) in row-asked
+    (c .before .before .before .before .before .before .before .before .before .before .before .args .row)
+    (c .before .before .before .before .before .before .before .before .before .before .before .args .field) _ _ (c .before .behind-field .ensures)
+    (c .before .before .before .before .before .before .before .before .before .before .before .pre .1) (c .before .before .before .before .before .before .if1 .left) (omega
+    (arith, fits-of .after, fits-of .inside, fits-of .short))
 
 -- src/closing.rt:148:5
 edited-requires : tie.Need-edited-requires
@@ -63,7 +73,19 @@ same-length-2 c = search needs
 
 -- src/closing.rt:123:1
 returns-3 : tie.Need-returns-3
-returns-3 c = let fits-of = c .before .before .before .before .before .before .before .before .before .before .before .before .before .before .before .pre .0 (sym (c .before .before .before .before .before .before .before .before .before .edits .ensures) ∙ granted (c .before .before .before .before .before .before .before .before .if2 .left)) in field-closed (c .before .before .before .before .before .before .before .before .before .before .before .before .before .before .before .args .text .now) (c .before .before .before .before .before .before .before .before .before .before .before .before .before .before .before .args .row) (c .before .before .before .before .before .before .before .before .before .before .before .before .before .before .before .args .field) (c .before .before .before .before .before .before .before .before .before .before .before .before .before .before .before .args .part .now) _ (c .before .before .before .before .before .before .before .before .before .before .before .before .before .before .before .args .walked) _ _ _ _ _ _ (sym (c .before .before .before .before .before .before .before .before .before .edits .ensures) ∙ granted (c .before .before .before .before .before .before .before .before .if2 .left)) (c .before .before .before .before .before .before .before .before .before .before .if1 .left) (c .edited .ensures) (c .before .before .before .before .before .behind-field .ensures) (c .before .before .before .finish-structure .ensures .1 .0) (c .before .before .before .finish-structure .ensures .1 .1) refl (c .before .before .before .finish-structure .ensures .0)
+returns-3 c = let fits-of = c .before .before .before .before .before .before .before .before .before .before .before .before .before .before .before .pre .0 (sym
+    (c .before .before .before .before .before .before .before .before .before .edits .ensures) ∙ granted
+    (c .before .before .before .before .before .before .before .before .if2 .left)) in field-closed
+    (c .before .before .before .before .before .before .before .before .before .before .before .before .before .before .before .args .text .now)
+    (c .before .before .before .before .before .before .before .before .before .before .before .before .before .before .before .args .row)
+    (c .before .before .before .before .before .before .before .before .before .before .before .before .before .before .before .args .field)
+    (c .before .before .before .before .before .before .before .before .before .before .before .before .before .before .before .args .part .now) _
+    (c .before .before .before .before .before .before .before .before .before .before .before .before .before .before .before .args .walked) _ _ _ _ _ _ (sym
+    (c .before .before .before .before .before .before .before .before .before .edits .ensures) ∙ granted
+    (c .before .before .before .before .before .before .before .before .if2 .left))
+    (c .before .before .before .before .before .before .before .before .before .before .if1 .left) (c .edited .ensures)
+    (c .before .before .before .before .before .behind-field .ensures) (c .before .before .before .finish-structure .ensures .1 .0)
+    (c .before .before .before .finish-structure .ensures .1 .1) refl (c .before .before .before .finish-structure .ensures .0)
 
 pub close-field-spec : {M : Type 1} → statement M
 close-field-spec =

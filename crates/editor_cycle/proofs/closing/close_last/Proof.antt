@@ -1,3 +1,4 @@
+-- `close_last` meets its contract. Assumes nothing.
 use mathlib.Core.Path.{_≡_, refl, sym, ap, _∙_}
 use native.Mathlib.Omega.{arith}
 use Rattle.reader_basic.proofs.Answers.{denied, granted}
@@ -34,7 +35,14 @@ sub-at-2 c = let fits-of = c .before .before .before .before .before .before .pr
 
 -- src/closing.rt:118:9
 finish-last-requires : tie.Need-finish-last-requires
-finish-last-requires c κs = let fits-of = c .before .before .before .before .before .before .before .pre .0 (sym (c .before .before .before .before .edits .ensures) ∙ granted (c .before .before .before .if1 .left)) in (c .before .before .before .before .before .before .before .pre .1, c .before .before .before .before .before .before .before .pre .2, c .before .before .before .before .before .before .before .pre .3, omega (arith, fits-of .after, fits-of .inside, fits-of .short))
+finish-last-requires c κs = let fits-of = c .before .before .before .before .before .before .before .pre .0 (sym (c .before .before .before .before .edits .ensures) ∙ granted
+    (c .before .before .before .if1 .left)) in (
+      c .before .before .before .before .before .before .before .pre .1,
+      c .before .before .before .before .before .before .before .pre .2,
+      c .before .before .before .before .before .before .before .pre .3,
+      omega
+          (arith, fits-of .after, fits-of .inside, fits-of .short),
+    )
 
 -- src/closing.rt:119:5
 edited-requires : tie.Need-edited-requires
@@ -46,7 +54,16 @@ same-length c = search needs
 
 -- src/closing.rt:101:1
 returns-2 : tie.Need-returns-2
-returns-2 c = let fits-of = c .before .before .before .before .before .before .before .before .before .before .before .pre .0 (sym (c .before .before .before .before .before .before .before .before .edits .ensures) ∙ granted (c .before .before .before .before .before .before .before .if1 .left)) in closes-joined _ _ _ _ (c .before .before .before .before .before .before .before .before .before .before .before .args .walked) _ _ _ _ _ (sym (c .before .before .before .before .before .before .before .before .edits .ensures) ∙ granted (c .before .before .before .before .before .before .before .if1 .left)) (c .edited .ensures) (last-rest-length (c .before .before .before .before .before .before .before .before .before .before .before .args .end) (c .before .before .before .before .before .before .before .before .before .before .before .args .width) (c .before .before .before .before .before .before .before .before .before .before .before .args .part .now) _ ∙ sym (c .before .before .before .finish-last .ensures .1 .0)) refl (c .before .before .before .finish-last .ensures .0) (omega (arith, c .before .before .before .finish-last .ensures .1 .1))
+returns-2 c = let fits-of = c .before .before .before .before .before .before .before .before .before .before .before .pre .0 (sym
+    (c .before .before .before .before .before .before .before .before .edits .ensures) ∙ granted
+    (c .before .before .before .before .before .before .before .if1 .left)) in closes-joined _ _ _ _
+    (c .before .before .before .before .before .before .before .before .before .before .before .args .walked) _ _ _ _ _ (sym
+    (c .before .before .before .before .before .before .before .before .edits .ensures) ∙ granted (c .before .before .before .before .before .before .before .if1 .left))
+    (c .edited .ensures) (last-rest-length (c .before .before .before .before .before .before .before .before .before .before .before .args .end)
+    (c .before .before .before .before .before .before .before .before .before .before .before .args .width)
+    (c .before .before .before .before .before .before .before .before .before .before .before .args .part .now) _ ∙ sym
+    (c .before .before .before .finish-last .ensures .1 .0)) refl (c .before .before .before .finish-last .ensures .0) (omega
+    (arith, c .before .before .before .finish-last .ensures .1 .1))
 
 pub close-last-spec : {M : Type 1} → statement M
 close-last-spec =

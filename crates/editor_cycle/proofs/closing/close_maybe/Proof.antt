@@ -1,3 +1,4 @@
+-- `close_maybe` meets its contract. Assumes nothing.
 use mathlib.Core.Path.{_≡_, refl, sym, ap, _∙_}
 use native.Mathlib.Omega.{arith}
 use Rattle.reader_basic.proofs.Answers.{denied, granted}
@@ -34,7 +35,9 @@ put-zeros-requires c κs = search needs
 
 -- src/closing.rt:41:26
 add-edited : tie.Need-add-edited
-add-edited c = let fits-of = c .before .before .before .before .before .before .before .before .pre (sym (c .before .before .before .before .before .before .edits .ensures) ∙ granted (c .before .before .before .before .before .if1 .left)) in omega (arith, fits-of .after, fits-of .inside, fits-of .short)
+add-edited c = let fits-of = c .before .before .before .before .before .before .before .before .pre (sym
+    (c .before .before .before .before .before .before .edits .ensures) ∙ granted (c .before .before .before .before .before .if1 .left)) in omega
+    (arith, fits-of .after, fits-of .inside, fits-of .short)
 
 -- src/closing.rt:41:5
 edited-requires : tie.Need-edited-requires
@@ -46,7 +49,12 @@ same-length c = search needs
 
 -- src/closing.rt:31:1
 returns-2 : tie.Need-returns-2
-returns-2 c = let fits-of = c .before .before .before .before .before .before .before .before .before .pre (sym (c .before .before .before .before .before .before .before .edits .ensures) ∙ granted (c .before .before .before .before .before .before .if1 .left)) in closes-joined _ _ _ _ (c .before .before .before .before .before .before .before .before .before .args .walked) _ _ _ _ _ (sym (c .before .before .before .before .before .before .before .edits .ensures) ∙ granted (c .before .before .before .before .before .before .if1 .left)) (c .edited .ensures) (omega arith) (omega arith) (c .before .before .before .put-zeros .ensures) (omega arith)
+returns-2 c = let fits-of = c .before .before .before .before .before .before .before .before .before .pre (sym
+    (c .before .before .before .before .before .before .before .edits .ensures) ∙ granted
+    (c .before .before .before .before .before .before .if1 .left)) in closes-joined _ _ _ _
+    (c .before .before .before .before .before .before .before .before .before .args .walked) _ _ _ _ _ (sym
+    (c .before .before .before .before .before .before .before .edits .ensures) ∙ granted (c .before .before .before .before .before .before .if1 .left)) (c .edited .ensures)
+    (omega arith) (omega arith) (c .before .before .before .put-zeros .ensures) (omega arith)
 
 pub close-maybe-spec : {M : Type 1} → statement M
 close-maybe-spec =

@@ -1,3 +1,4 @@
+-- `close_variant` meets its contract. Assumes nothing.
 use mathlib.Core.Path.{_≡_, refl, sym, ap, _∙_}
 use native.Mathlib.Omega.{arith}
 use Rattle.reader_basic.proofs.Answers.{denied, granted}
@@ -30,15 +31,20 @@ sub-at-2 c = let fits-of = c .before .before .before .before .before .pre .0 (sy
 
 -- src/closing.rt:59:5
 move-part-requires : tie.Need-move-part-requires
-move-part-requires c κs = let fits-of = c .before .before .before .before .before .before .pre .0 (sym (c .before .before .before .edits .ensures) ∙ granted (c .before .before .if1 .left)) in omega (arith, fits-of .after, fits-of .inside, fits-of .short, c .before .before .before .before .before .before .pre .1)
+move-part-requires c κs = let fits-of = c .before .before .before .before .before .before .pre .0 (sym (c .before .before .before .edits .ensures) ∙ granted
+    (c .before .before .if1 .left)) in omega (arith, fits-of .after, fits-of .inside, fits-of .short, c .before .before .before .before .before .before .pre .1)
 
 -- src/closing.rt:60:26
 add-edited : tie.Need-add-edited
-add-edited c = let fits-of = c .before .before .before .before .before .before .before .before .before .pre .0 (sym (c .before .before .before .before .before .before .edits .ensures) ∙ granted (c .before .before .before .before .before .if1 .left)) in omega (arith, fits-of .after, fits-of .inside, fits-of .short, c .before .before .before .before .before .before .before .before .before .pre .1)
+add-edited c = let fits-of = c .before .before .before .before .before .before .before .before .before .pre .0 (sym
+    (c .before .before .before .before .before .before .edits .ensures) ∙ granted (c .before .before .before .before .before .if1 .left)) in omega
+    (arith, fits-of .after, fits-of .inside, fits-of .short, c .before .before .before .before .before .before .before .before .before .pre .1)
 
 -- src/closing.rt:60:26
 add-edited-2 : tie.Need-add-edited-2
-add-edited-2 c = let fits-of = c .before .before .before .before .before .before .before .before .before .pre .0 (sym (c .before .before .before .before .before .before .edits .ensures) ∙ granted (c .before .before .before .before .before .if1 .left)) in omega (arith, fits-of .after, fits-of .inside, fits-of .short, c .before .before .before .before .before .before .before .before .before .pre .1)
+add-edited-2 c = let fits-of = c .before .before .before .before .before .before .before .before .before .pre .0 (sym
+    (c .before .before .before .before .before .before .edits .ensures) ∙ granted (c .before .before .before .before .before .if1 .left)) in omega
+    (arith, fits-of .after, fits-of .inside, fits-of .short, c .before .before .before .before .before .before .before .before .before .pre .1)
 
 -- src/closing.rt:60:5
 edited-requires : tie.Need-edited-requires
@@ -50,7 +56,13 @@ same-length c = search needs
 
 -- src/closing.rt:45:1
 returns-2 : tie.Need-returns-2
-returns-2 c = let fits-of = c .before .before .before .before .before .before .before .before .before .before .pre .0 (sym (c .before .before .before .before .before .before .before .edits .ensures) ∙ granted (c .before .before .before .before .before .before .if1 .left)) in closes-joined _ _ _ _ (c .before .before .before .before .before .before .before .before .before .before .args .walked) _ _ _ _ _ (sym (c .before .before .before .before .before .before .before .edits .ensures) ∙ granted (c .before .before .before .before .before .before .if1 .left)) (c .edited .ensures) (omega arith) (omega arith) (c .before .before .before .move-part .ensures) (omega (arith, c .before .before .before .before .before .before .before .before .before .before .pre .1))
+returns-2 c = let fits-of = c .before .before .before .before .before .before .before .before .before .before .pre .0 (sym
+    (c .before .before .before .before .before .before .before .edits .ensures) ∙ granted
+    (c .before .before .before .before .before .before .if1 .left)) in closes-joined _ _ _ _
+    (c .before .before .before .before .before .before .before .before .before .before .args .walked) _ _ _ _ _ (sym
+    (c .before .before .before .before .before .before .before .edits .ensures) ∙ granted (c .before .before .before .before .before .before .if1 .left)) (c .edited .ensures)
+    (omega arith) (omega arith) (c .before .before .before .move-part .ensures) (omega
+    (arith, c .before .before .before .before .before .before .before .before .before .before .pre .1))
 
 pub close-variant-spec : {M : Type 1} → statement M
 close-variant-spec =

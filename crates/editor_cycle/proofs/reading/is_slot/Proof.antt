@@ -1,3 +1,4 @@
+-- `is_slot` meets its contract. Assumes nothing.
 use Rattle.editor_cycle.proofs.ReadingLaws.{slot-not}
 use borrow.Author.Needs.{needs}
 use Rattle.editor_cycle.proofs.reading.is_slot.Statement.{statement}

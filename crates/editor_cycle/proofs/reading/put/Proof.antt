@@ -1,3 +1,4 @@
+-- `put` meets its contract. Assumes nothing.
 use mathlib.Core.Path.{_≡_, refl, sym, ap, _∙_}
 use native.Mathlib.Omega.{arith}
 use Rattle.reader_basic.proofs.Answers.{denied, granted}
@@ -24,7 +25,11 @@ refused-requires c κs = search needs
 
 -- src/reading.rt:69:9
 returns : tie.Need-returns
-returns c = record { is = λ u s q l a fx t. slot-refused (c .before .before .before .before .args .big) s a fx t _ _ l _ _ _ _ _ 17 (omega arith) (c .refused .ensures) (λ z. absurd (omega arith)) (bars-value s _ _ (c .before .before .before .before .args .kind) (c .before .before .before .before .args .bits) q (sym (c .before .before .spells .ensures) ∙ denied (c .before .if1 .taken))) }
+returns c = record {
+  is = λ u s q l a fx t. slot-refused (c .before .before .before .before .args .big) s a fx t _ _ l _ _ _ _ _ 17 (omega arith) (c .refused .ensures) (λ z. absurd
+      (omega arith)) (bars-value s _ _ (c .before .before .before .before .args .kind) (c .before .before .before .before .args .bits) q (sym
+      (c .before .before .spells .ensures) ∙ denied (c .before .if1 .taken)));
+}
 
 -- src/reading.rt:71:9
 inc-maybe-requires : tie.Need-inc-maybe-requires
@@ -36,7 +41,12 @@ refused-requires-2 c κs = search needs
 
 -- src/reading.rt:74:9
 returns-2 : tie.Need-returns-2
-returns-2 c = record { is = λ u s q l a fx t. slot-refused (c .before .before .before .before .before .before .args .big) s a fx t _ _ l _ _ _ _ _ 12 (omega arith) (c .refused2 .ensures) (λ z. absurd (omega arith)) (bars-depth s _ _ (c .before .before .before .before .before .before .args .kind) (c .before .before .before .before .before .before .args .bits) q (sym (c .before .before .before .before .spells .ensures) ∙ granted (c .before .before .before .if1 .left)) (λ z. c .before .if2 .taken (c .before .before .inc-maybe .ensures .refusal ∙ z))) }
+returns-2 c = record {
+  is = λ u s q l a fx t. slot-refused (c .before .before .before .before .before .before .args .big) s a fx t _ _ l _ _ _ _ _ 12 (omega arith)
+      (c .refused2 .ensures) (λ z. absurd (omega arith)) (bars-depth s _ _ (c .before .before .before .before .before .before .args .kind)
+      (c .before .before .before .before .before .before .args .bits) q (sym (c .before .before .before .before .spells .ensures) ∙ granted
+      (c .before .before .before .if1 .left)) (λ z. c .before .if2 .taken (c .before .before .inc-maybe .ensures .refusal ∙ z)));
+}
 
 -- src/reading.rt:76:9
 extent-of-requires : tie.Need-extent-of-requires
@@ -56,7 +66,19 @@ same-length c = search needs
 
 -- src/reading.rt:57:1
 returns-3 : tie.Need-returns-3
-returns-3 c = record { is = λ u s q l a fx t. put-made (c .before .before .before .before .before .before .before .before .before .before .before .args .big) s a fx t _ _ l _ _ _ _ (c .before .before .before .before .before .before .before .before .before .before .before .args .kind) (c .before .before .before .before .before .before .before .before .before .before .before .args .bits) _ q (sym (c .before .before .before .before .before .before .before .before .before .spells .ensures) ∙ granted (c .before .before .before .before .before .before .before .before .if1 .left)) (sym (c .before .before .before .before .before .before .before .inc-maybe .ensures .refusal) ∙ c .before .before .before .before .before .before .if2 .left) (c .before .before .before .before .before .extent-of .ensures) (width-fits (c .before .before .before .before .before .before .before .before .before .before .before .args .kind) (c .before .before .before .before .before .before .before .before .before .before .before .pre) _ (c .before .before .before .before .before .extent-of .ensures) (c .before .before .before .before .before .before .before .before .before .before .before .args .d)) (c .edited .ensures) (c .before .before .before .put-number .ensures) }
+returns-3 c = record {
+  is = λ u s q l a fx t. put-made (c .before .before .before .before .before .before .before .before .before .before .before .args .big) s a fx t _ _ l _ _ _ _
+      (c .before .before .before .before .before .before .before .before .before .before .before .args .kind)
+      (c .before .before .before .before .before .before .before .before .before .before .before .args .bits) _ q (sym
+      (c .before .before .before .before .before .before .before .before .before .spells .ensures) ∙ granted
+      (c .before .before .before .before .before .before .before .before .if1 .left)) (sym
+      (c .before .before .before .before .before .before .before .inc-maybe .ensures .refusal) ∙ c .before .before .before .before .before .before .if2 .left)
+      (c .before .before .before .before .before .extent-of .ensures) (width-fits
+      (c .before .before .before .before .before .before .before .before .before .before .before .args .kind)
+      (c .before .before .before .before .before .before .before .before .before .before .before .pre) _ (c .before .before .before .before .before .extent-of .ensures)
+      (c .before .before .before .before .before .before .before .before .before .before .before .args .d)) (c .edited .ensures)
+      (c .before .before .before .put-number .ensures);
+}
 
 pub put-spec : {M : Type 1} → statement M
 put-spec =

@@ -1,3 +1,4 @@
+-- `reading` meets its contract. Assumes nothing.
 use mathlib.Core.Path.{_≡_, refl, sym, ap, _∙_}
 use Rattle.editor_cycle.proofs.ReadingLaws.{slot-past, nothing-put, number-put}
 use borrow.Author.Needs.{needs}
@@ -43,7 +44,11 @@ same-length c = search needs
 
 -- src/reading.rt:83:1
 returns-3 : tie.Need-returns-3
-returns-3 c = record { is = λ u s q l a fx t. number-put (c .before .before .before .before .before .before .before .before .before .args .aim) s a fx t _ _ l _ _ _ _ _ _ (c .before .before .before .before .before .before .before .if1 .left) (c .before .before .before .before .before .new .given .1) (c .before .before .put .ensures .is u s q l a fx t) }
+returns-3 c = record {
+  is = λ u s q l a fx t. number-put (c .before .before .before .before .before .before .before .before .before .args .aim) s a fx t _ _ l _ _ _ _ _ _
+      (c .before .before .before .before .before .before .before .if1 .left) (c .before .before .before .before .before .new .given .1)
+      (c .before .before .put .ensures .is u s q l a fx t);
+}
 
 pub reading-spec : {M : Type 1} → statement M
 reading-spec =

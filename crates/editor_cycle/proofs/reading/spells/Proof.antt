@@ -1,3 +1,4 @@
+-- `spells` meets its contract. Assumes nothing.
 use mathlib.Core.Path.{_≡_, refl, sym, ap, _∙_, subst}
 use Rattle.meaning.specs.Padding.{Aligns}
 use Rattle.signature.specs.declared.Letter.{Letter}

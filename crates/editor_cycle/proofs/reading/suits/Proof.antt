@@ -1,3 +1,4 @@
+-- `suits` meets its contract. Assumes nothing.
 use native.Mathlib.Omega.{arith}
 use Rattle.editor_cycle.proofs.ReadingLaws.{eight-fits, eight-left}
 use Rattle.editor_cycle.proofs.reading.suits.Statement.{statement}

@@ -1,3 +1,4 @@
+-- `elements_of` meets its contract. Assumes nothing.
 use mathlib.Core.Path.{_≡_, refl, sym, ap, _∙_}
 use native.Mathlib.Omega.{arith}
 use Rattle.strict_basic.proofs.EndLaws.{last-offset-is}
@@ -34,7 +35,9 @@ elements-as-requires c κs = search needs
 
 -- src/starts.rt:44:1
 returns : tie.Need-returns
-returns c = all-of _ (c .before .before .before .before .before .args .part .now) _ _ _ _ (c .elements-as .ensures) (c .before .before .before .for-encoded-container .ensures) (last-offset-is (c .before .before .before .before .before .args .part .now) _ _ (c .before .before .before .for-encoded-container .ensures) (c .before .before .read-last-offset-from-buffer .ensures)) (c .before .count-in .ensures)
+returns c = all-of _ (c .before .before .before .before .before .args .part .now) _ _ _ _ (c .elements-as .ensures) (c .before .before .before .for-encoded-container .ensures)
+    (last-offset-is (c .before .before .before .before .before .args .part .now) _ _ (c .before .before .before .for-encoded-container .ensures)
+    (c .before .before .read-last-offset-from-buffer .ensures)) (c .before .count-in .ensures)
 
 pub elements-of-spec : {M : Type 1} → statement M
 elements-of-spec =

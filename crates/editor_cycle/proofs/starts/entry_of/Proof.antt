@@ -1,3 +1,4 @@
+-- `entry_of` meets its contract. Assumes nothing.
 use mathlib.Core.Path.{_≡_, refl, sym, ap, _∙_}
 use Rattle.editor_cycle.proofs.StartLaws.{entry-room, entry-asks, entry-stop, entry-is}
 use borrow.Author.Needs.{needs}
@@ -25,15 +26,24 @@ table-of-requires c κs = entry-room (c .before .before .before .args .key) (c .
 
 -- src/starts.rt:85:9
 field-end-requires : tie.Need-field-end-requires
-field-end-requires c κs = entry-asks (c .before .before .before .before .args .key) (c .before .before .before .before .args .part .now) (c .before .before .before .before .pre .0) (c .before .before .before .before .pre .1) _ (c .before .before .extent-of .ensures) _ (c .before .one-more .ensures) _ (c .table-of .ensures)
+field-end-requires c κs = entry-asks (c .before .before .before .before .args .key) (c .before .before .before .before .args .part .now) (c .before .before .before .before .pre .0)
+    (c .before .before .before .before .pre .1) _ (c .before .before .extent-of .ensures) _ (c .before .one-more .ensures) _ (c .table-of .ensures)
 
 -- src/starts.rt:86:9
 aligned-requires : tie.Need-aligned-requires
-aligned-requires c κs = (entry-stop (c .before .before .before .before .before .args .key) (c .before .before .before .before .before .args .part .now) (c .before .before .before .before .before .pre .0) (c .before .before .before .before .before .pre .1) _ (c .before .before .before .extent-of .ensures) _ (c .before .before .one-more .ensures) _ (c .before .table-of .ensures) _ (c .field-end .ensures), c .before .before .before .before .before .pre .2)
+aligned-requires c κs = (
+  entry-stop (c .before .before .before .before .before .args .key) (c .before .before .before .before .before .args .part .now)
+      (c .before .before .before .before .before .pre .0) (c .before .before .before .before .before .pre .1) _ (c .before .before .before .extent-of .ensures) _
+      (c .before .before .one-more .ensures) _ (c .before .table-of .ensures) _ (c .field-end .ensures),
+  c .before .before .before .before .before .pre .2,
+)
 
 -- src/starts.rt:78:1
 returns : tie.Need-returns
-returns c = entry-is (c .before .before .before .before .before .before .args .key) (c .before .before .before .before .before .before .args .part .now) (c .before .before .before .before .before .before .pre .0) (c .before .before .before .before .before .before .pre .1) _ (c .before .before .before .before .extent-of .ensures) _ (c .before .before .before .one-more .ensures) _ (c .before .before .table-of .ensures) _ (c .before .field-end .ensures) _ _ (c .aligned .ensures)
+returns c = entry-is (c .before .before .before .before .before .before .args .key) (c .before .before .before .before .before .before .args .part .now)
+    (c .before .before .before .before .before .before .pre .0) (c .before .before .before .before .before .before .pre .1) _
+    (c .before .before .before .before .extent-of .ensures) _ (c .before .before .before .one-more .ensures) _ (c .before .before .table-of .ensures) _
+    (c .before .field-end .ensures) _ _ (c .aligned .ensures)
 
 pub entry-of-spec : {M : Type 1} → statement M
 entry-of-spec =

@@ -1,3 +1,4 @@
+-- `row_of` meets its contract. Assumes nothing.
 use mathlib.Core.Path.{_≡_, refl, sym, ap, _∙_}
 use borrow.Author.Needs.{needs}
 use Rattle.editor_cycle.proofs.starts.row_of.Statement.{statement}

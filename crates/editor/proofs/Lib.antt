@@ -1,0 +1,5 @@
+pub mod Tails
+pub mod Wholes
+pub mod Edits
+pub mod Changes
+pub mod Unique

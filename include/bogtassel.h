@@ -1,6 +1,6 @@
 /*
- * bogtassel.h: reads and writes GVariant frames, and tells which frames are as writing makes them. Link with libbogtassel.a,
- * which `rt staticlib bogtassel` writes to target/staticlib.
+ * bogtassel.h: reads and writes GVariant frames, tells which frames are as writing makes them, and edits a reading in such a
+ * frame. Link with libbogtassel.a, which `rt staticlib bogtassel` writes to target/staticlib.
  *
  * The archive is for x86-64 Linux. It allocates nothing and keeps nothing between calls, so calls may run in several threads
  * at once, each with memory of its own.
@@ -18,18 +18,19 @@
  * PROMISES, proved for all arguments:
  *   - Every call returns, with BOGTASSEL_DONE or with the number of a refusal: any bytes, any type text, any length and any
  *     position have an answer.
- *   - A refusal leaves `out` as it was and sets *used and *event_count, or *length, to 0.
+ *   - A refusal leaves `out` or `buffer` as it was and sets *used and *event_count, or *length, to 0.
  *   - What is given depends on the arguments alone.
  *
  * WHAT THE CALLER OWES:
  *   - Each pointer is valid for its length: `type`, `frame` and `texts` for so many readable bytes, `events` for so many
  *     readable 64-bit numbers, `out` for so many writable 64-bit numbers where it takes events and writable bytes where it
- *     takes a frame, `used`, `event_count` and `length` for one size_t each. Numbers stand at addresses that are multiples of
- *     8, as C's own do.
+ *     takes a frame, `buffer` for so many bytes that are readable and writable, all of them, whatever is used; `used`,
+ *     `event_count` and `length` for one size_t each where they are pointers. Numbers stand at addresses that are multiples
+ *     of 8, as C's own do.
  *   - No pointer is NULL. For an empty slice (length 0) pass any pointer that is not NULL; nothing is read or written
  *     through it.
- *   - `out`, *used, *event_count and *length overlap neither one another nor the type, the frame, the events and the texts.
- *     These four are only read, and may overlap one another. Nothing else writes to any of them during the call.
+ *   - `out`, `buffer`, *used, *event_count and *length overlap neither one another nor the type, the frame, the events and
+ *     the texts. These four are only read, and may overlap one another. Nothing else writes to any of them during the call.
  *   - There is room on the stack: see docs/STACK.md for the most that a call uses.
  */
 #ifndef BOGTASSEL_H
@@ -63,12 +64,15 @@ extern "C" {
  *   bogtassel_write        TYPE, then the first fault in the order of the events (VALUE, NUL, UTF8, VARIANT_TYPE, a depth), then
  *                          LIMITS, then ROOM
  *   bogtassel_is_written   TYPE, LIMITS, then whatever of 3 to 12 reading meets first, then NOT_WRITTEN
- * No call gives a number that is not named for it here; 14, 16 and 18 are given by none of them.
+ *   bogtassel_edit         TYPE, LIMITS (of `used`), then whatever of 3 to 12 reading meets first, then NOT_WRITTEN, NO_READING,
+ *                          VALUE, DEPTH (of the reading), LIMITS (of the new frame), ROOM
+ * No call gives a number that is not named for it here; 14 and 18 are given by none of them.
  */
 enum bogtassel_refusal {
-    BOGTASSEL_DONE = 0,             /* no refusal: the frame was read, or written, or is a written form */
+    BOGTASSEL_DONE = 0,             /* no refusal: the frame was read, or written, or edited, or is a written form */
     BOGTASSEL_TYPE = 1,             /* the type text is no single complete type, or is over 255 characters */
-    BOGTASSEL_LIMITS = 2,           /* the frame, read or written, has more than 65,536 bytes, or the position is past 65,536 */
+    BOGTASSEL_LIMITS = 2,           /* the frame, old or new, has more than 65,536 bytes, or the position is past 65,536; editing: or
+                                       `used` is over the buffer's length */
     BOGTASSEL_BOUNDS = 3,           /* a value, an offset or padding runs past the bytes that it has */
     BOGTASSEL_PADDING = 4,          /* a padding byte is not 0 */
     BOGTASSEL_NUL = 5,              /* a nul inside a text; in a text that is to be written, also at its end */
@@ -78,12 +82,12 @@ enum bogtassel_refusal {
     BOGTASSEL_VARIANT_TYPE = 9,     /* the type of a variant is refused */
     BOGTASSEL_STRUCTURE_DEPTH = 10, /* more than 32 structures in one another */
     BOGTASSEL_ARRAY_DEPTH = 11,     /* more than 32 arrays or dictionaries in one another */
-    BOGTASSEL_DEPTH = 12,           /* more than 64 containers in one another */
-    BOGTASSEL_ROOM = 13,            /* `out` is too short: for all events, 3 numbers each, or for the frame */
+    BOGTASSEL_DEPTH = 12,           /* more than 64 containers in one another; editing: there would be, with the reading present */
+    BOGTASSEL_ROOM = 13,            /* `out` is too short: for all events, 3 numbers each, or for the frame; or `buffer`, for the new frame */
     BOGTASSEL_OFFSET = 14,          /* a table of offsets has no further offset */
     BOGTASSEL_NOT_WRITTEN = 15,     /* the frame reads, but is not the form that writing gives its value */
-    BOGTASSEL_NO_READING = 16,      /* editing: there is no such reading */
-    BOGTASSEL_VALUE = 17,           /* the events spell no value of the type */
+    BOGTASSEL_NO_READING = 16,      /* editing: the frame has no reading of that number */
+    BOGTASSEL_VALUE = 17,           /* the events spell no value of the type; editing: the bits spell none of the reading's type */
     BOGTASSEL_HEXADECIMAL = 18      /* the frame lister: a line is not pairs of hexadecimal digits */
 };
 
@@ -173,6 +177,30 @@ uint8_t bogtassel_write(const uint8_t *type, size_t type_length, bool big_endian
  * whatever else reading takes and writing does not make.
  */
 uint8_t bogtassel_is_written(const uint8_t *type, size_t type_length, bool big_endian, const uint8_t *frame, size_t frame_length);
+
+/*
+ * Edits one reading of a frame where it stands: withdraws it, replaces it, or puts a number where nothing was.
+ *
+ * The frame is the first `used` bytes of `buffer`, which has `buffer_length`, at position 0, and a written form. A reading is a
+ * maybe of b y n q i u x t d, present or nothing, wherever it stands: in arrays, structures, variants, as a dictionary's value,
+ * inside present maybes. `number` counts them from 0, in the order of bogtassel_read's events. The reading becomes the number
+ * whose bits are `bits`, in its own width, the bits above them 0, if `present` is true; else it becomes nothing, and `bits` is
+ * passed over.
+ *
+ * Returns BOGTASSEL_DONE, and sets *length to the new frame's length, which may be less than `used`, or more. The new frame
+ * stands at the front of `buffer`: it is what bogtassel_write makes of the same value with that reading changed, so it can be
+ * edited again, with *length as `used`. No byte before the reading's place, which is that of its event, is another. From the new
+ * length to a larger old one `buffer` holds zeros; beyond both it is as it was. A nothing that is withdrawn, and a number that
+ * is replaced by itself, leave all bytes as they were.
+ *
+ * Returns BOGTASSEL_LIMITS where `used` is over 65,536 or over `buffer_length`, and, when all else is well, where the new frame
+ * would have more than 65,536 bytes, whatever room there is; BOGTASSEL_ROOM where it has no room in `buffer`. Returns what
+ * bogtassel_is_written refuses the frame with. Returns BOGTASSEL_VALUE where the bits are too wide for the reading's type, as
+ * those of a negative number that is not cut to its width, or a bool above 1; BOGTASSEL_DEPTH where a nothing with 64 open
+ * containers round it would become present.
+ */
+uint8_t bogtassel_edit(const uint8_t *type, size_t type_length, bool big_endian, uint8_t *buffer, size_t buffer_length,
+                       size_t used, size_t number, bool present, uint64_t bits, size_t *length);
 
 #ifdef __cplusplus
 }

@@ -9,6 +9,8 @@ use Rattle.bogtassel.proofs.bogtassel_write.Kinds as write-kinds
 use Rattle.bogtassel.proofs.bogtassel_write.Reads as write
 use Rattle.bogtassel.proofs.bogtassel_is_written.Kinds as strict-kinds
 use Rattle.bogtassel.proofs.bogtassel_is_written.Reads as strict
+use Rattle.bogtassel.proofs.bogtassel_edit.Kinds as edit-kinds
+use Rattle.bogtassel.proofs.bogtassel_edit.Reads as edit
 
 -- signature, big, position, frame, used, count
 pub size-unique : OneAnswer size-kinds.ps size-kinds.r size.Learnt
@@ -33,3 +35,10 @@ write-unique κs a z z′ w w′ p q =
 -- signature, big, frame
 pub strict-unique : OneAnswer strict-kinds.ps strict-kinds.r strict.Learnt
 strict-unique κs a z z′ w w′ p q = (p ∙ sym q, λ i. (tt, (tt, (tt, tt))))
+
+-- signature, big, buffer, used, number, present, bits, length
+pub edit-unique : OneAnswer edit-kinds.ps edit-kinds.r edit.Learnt
+edit-unique κs a z z′ w w′ p q =
+    let e = p .0 ∙ sym (q .0) in
+    let memory = p .1 ∙ sym (q .1) in
+    (λ i. e i .refusal, λ i. (tt, (tt, (memory i, (tt, (tt, (tt, (tt, (e i .used, tt)))))))))

@@ -2,7 +2,10 @@
 ghost use mathlib.Core.Path.{_≡_};
 ghost use Rattle.meaning.specs.Calls.{counts, size as sizeOf, read as readOf, readSlice};
 ghost use Rattle.meaning_writing.specs.Writing.{writeAnswer, write as writeOf, writeSlice};
+ghost use Rattle.meaning_writing.specs.Editing.{editAnswer, edit as editOf, editBuffer};
 ghost use Rattle.strict.specs.Answers.{writtenRefusal};
+ghost use Rattle.editor_cycle.specs.Walks.{newOf};
+ghost use Rattle.editor.specs.Answers.{newBy};
 
 // Sizes a reading: the refusal, and through the lent numbers the bytes used and the number of events.
 #[no_mangle]
@@ -66,4 +69,26 @@ pub extern "C" fn bogtassel_is_written(signature: &[u8], big: bool, frame: &[u8]
     ensures { λ r. ⌜ r ≡ writtenRefusal (now (signature .entry)) big (now (frame .entry)) ⌝ }
 {
     strict::is_written(signature, big, frame)
+}
+
+// Edits a reading of the frame that is the used part of a lent buffer: it becomes the number whose bits are given, or nothing. The
+// refusal, and through the lent number the new frame's length.
+#[no_mangle]
+pub extern "C" fn bogtassel_edit(
+    signature: &[u8],
+    big: bool,
+    buffer: &mut [u8],
+    used: usize,
+    number: usize,
+    present: bool,
+    bits: usize,
+    length: &mut usize,
+) -> u8
+    ensures answer { λ r. ⌜ editAnswer r (now (length .exit)) ≡ editOf (now (signature .entry)) big (now (buffer .entry)) used number (newOf (newBy present bits)) ⌝ }
+    ensures memory { λ r. ⌜ now (buffer .exit) ≡ editBuffer (now (signature .entry)) big (now (buffer .entry)) used number (newOf (newBy present bits)) ⌝ }
+{
+    let new = editor::new_of(present, bits);
+    let answer = editor::edit(signature, big, buffer, used, number, new);
+    *length = answer.length;
+    answer.refusal
 }

@@ -1,6 +1,7 @@
-// Answers lines of standard input: frames as the oracle does (`frame`), and questions of writing (`write`). A line's words are parted by single
-// blanks; the last line may have no line end. A line that is not understood, or is longer than 2,097,152 bytes, ends the program with a
-// message.
+// Answers lines of standard input: frames as the oracle does (`frame`), questions of writing (`write`) and of editing (`edit`). A line's
+// words are parted by single blanks; the last line may have no line end. A line that is not understood, or is longer than 2,097,152 bytes,
+// ends the program with a message.
+mod edit;
 mod frame;
 mod print;
 mod words;
@@ -21,7 +22,7 @@ pub struct Progress {
     going: bool,
 }
 
-// The answer to a line. A line of writing has its name in front.
+// The answer to a line. A line of writing or of editing has its name in front.
 fn answer(
     line: &[u8],
     frame: &mut [u8],
@@ -32,9 +33,13 @@ fn answer(
     requires { ⌜ (length (now frame) ≡ 131072) × (at ≤ 65536) ⌝ }
     ensures { λ r. ⌜ r .at ≤ 65536 ⌝ }
 {
-    let named = words::named(line, b"write: ");
-    if 0 < named {
-        return write::answer(&line[named..], frame, room, out, at);
+    let written = words::named(line, b"write: ");
+    if 0 < written {
+        return write::answer(&line[written..], frame, room, out, at);
+    }
+    let edited = words::named(line, b"edit: ");
+    if 0 < edited {
+        return edit::answer(&line[edited..], frame, room, out, at);
     }
     frame::answer(line, frame, room, out, at)
 }
@@ -104,7 +109,7 @@ fn complain(number: u64) {
     io::print_decimal(2, number);
     io::write_all(
         2,
-        b": a line is TYPE l|b POSITION HEX, or write: TYPE l|b TEXTS ROOM NUMBER ..\n",
+        b": a line is TYPE l|b POSITION HEX, or write: TYPE l|b TEXTS ROOM NUMBER .., or edit: TYPE l|b BUFFER USED READING NEW\n",
     );
 }
 

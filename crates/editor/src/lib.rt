@@ -9,6 +9,7 @@ use editor_cycle::answers::New;
 use editor_cycle::answers::Walked;
 use editor_cycle::value;
 use meaning::limits::LARGEST_FRAME;
+use meaning::refusals::NO_SUCH_READING;
 use meaning::refusals::OVER_LIMIT;
 use meaning::refusals::ROOM_TOO_SMALL;
 use meaning::refusals::TYPE_REFUSED;
@@ -22,9 +23,6 @@ ghost use lib.ListN.{length as lengthOf};
 ghost use Rattle.meaning_writing.specs.Editing.{lengthRefusal, edit as editOf, editBuffer};
 ghost use Rattle.editor_cycle.specs.Walks.{newOf};
 ghost use Rattle.editor.specs.Answers.{answerOf, newBy, Edits, WrittenFrame, Held, WalksFrame, Changing, Storing};
-
-// The refusal of a reading that is not there.
-const NO_SUCH_READING: u8 = 16;
 
 // The most bytes of a frame that is kept in a small array.
 const SMALL: usize = 1024;

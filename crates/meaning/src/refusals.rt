@@ -27,6 +27,10 @@ pub const ROOM_TOO_SMALL: u8 = 13;
 
 pub const MISSING_FRAMING_OFFSET: u8 = 14;
 
+pub const NOT_WRITTEN: u8 = 15;
+
+pub const NO_SUCH_READING: u8 = 16;
+
 pub const NO_VALUE: u8 = 17;
 
 pub const NOT_HEXADECIMAL: u8 = 18;

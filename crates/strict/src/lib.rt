@@ -2,6 +2,7 @@
 // reading refuses from what reads and is no written form.
 use container_depths::ContainerDepths;
 use meaning::limits::LARGEST_FRAME;
+use meaning::refusals::NOT_WRITTEN;
 use meaning::refusals::OVER_LIMIT;
 use meaning::refusals::TYPE_REFUSED;
 use reader::size;
@@ -11,9 +12,6 @@ use strict_basic::sizes::tables_of;
 use strict_cycle::value;
 ghost use mathlib.Core.Path.{_≡_};
 ghost use Rattle.strict.specs.Answers.{walkedRefusal, writtenRefusal};
-
-// The refusal of a frame that reads and is no written form.
-pub const NOT_WRITTEN: u8 = 15;
 
 // 0 for a written form; 1 for what is no type, 2 for a frame over 65,536 bytes; else what reading it at position 0 refuses, or 15.
 pub fn is_written(signature: &[u8], big: bool, frame: &[u8]) -> u8

@@ -41,7 +41,9 @@ returns : tie.Need-returns Inv-loop μ-loop
 returns c = search needs
 
 add-from : tie.Need-add-from Inv-loop μ-loop
-add-from c = let b = part-passed (c .before .before .before .before .before .before .before .before .before .before .before .before .args .block .now) _ _ _ _ _ (c .before .before .before .before .before .gather .ensures) (c .before .before .before .before .before .before .before .before .loop-test .taken) in let g = c .before .before .before .before .before .before .before .before .before .before .before .before .good in omega arith
+add-from c =
+    let b = part-passed (c .before .before .before .before .before .before .before .before .before .before .before .before .args .block .now) _ _ _ _ _ (c .before .before .before .before .before .gather .ensures)
+    (c .before .before .before .before .before .before .before .before .loop-test .taken) in let g = c .before .before .before .before .before .before .before .before .before .before .before .before .good in omega arith
 
 front-requires : tie.Need-front-requires Inv-loop μ-loop
 front-requires c κs = tt
@@ -50,10 +52,14 @@ answer-requires : tie.Need-answer-requires Inv-loop μ-loop
 answer-requires c κs = tt
 
 loop-less : tie.Need-loop-less Inv-loop μ-loop
-loop-less c = let b = part-passed (c .before .before .before .before .before .before .before .before .before .before .before .before .before .before .before .args .block .now) _ _ _ _ _ (c .before .before .before .before .before .before .before .before .gather .ensures) (c .before .before .before .before .before .before .before .before .before .before .before .loop-test .taken) in omega arith
+loop-less c =
+    let b = part-passed (c .before .before .before .before .before .before .before .before .before .before .before .before .before .before .before .args .block .now) _ _ _ _ _
+    (c .before .before .before .before .before .before .before .before .gather .ensures) (c .before .before .before .before .before .before .before .before .before .before .before .loop-test .taken) in omega arith
 
 loop-again : tie.Need-loop-again Inv-loop μ-loop
-loop-again c = let b = part-passed (c .before .before .before .before .before .before .before .before .before .before .before .before .before .before .before .args .block .now) _ _ _ _ _ (c .before .before .before .before .before .before .before .before .gather .ensures) (c .before .before .before .before .before .before .before .before .before .before .before .loop-test .taken) in (b .1, search needs)
+loop-again c =
+    let b = part-passed (c .before .before .before .before .before .before .before .before .before .before .before .before .before .before .before .args .block .now) _ _ _ _ _
+    (c .before .before .before .before .before .before .before .before .gather .ensures) (c .before .before .before .before .before .before .before .before .before .before .before .loop-test .taken) in (b .1, search needs)
 
 same-length-2 : tie.Need-same-length-2 Inv-loop μ-loop
 same-length-2 c = c .before .loop .inv .1

@@ -40,7 +40,9 @@ sub-if3 c = search needs
 
 -- src/lib.rt:223:9
 returns-3 : tie.Need-returns-3
-returns-3 c = plain-on _ _ _ _ (bytes-run (c .before .before .before .before .before .before .args .text .now) (c .before .before .before .before .before .before .args .start) 8 (omega arith) (c .before .before .before .plain-eight .ensures) (not-false _ (c .before .before .if2 .left))) (c .before .plain-sixteens .ensures)
+returns-3 c =
+    plain-on _ _ _ _ (bytes-run (c .before .before .before .before .before .before .args .text .now) (c .before .before .before .before .before .before .args .start) 8 (omega arith)
+    (c .before .before .before .plain-eight .ensures) (not-false _ (c .before .before .if2 .left))) (c .before .plain-sixteens .ensures)
 
 -- src/lib.rt:225:8
 plain-eight-requires-2 : tie.Need-plain-eight-requires-2
@@ -52,11 +54,17 @@ add-result c = search needs
 
 -- src/lib.rt:226:9
 returns-4 : tie.Need-returns-4
-returns-4 c = plain-on _ _ _ _ (plain-on _ _ _ _ (bytes-run (c .before .before .before .before .before .before .before .before .args .text .now) (c .before .before .before .before .before .before .before .before .args .start) 8 (omega arith) (c .before .before .before .before .before .plain-eight .ensures) (not-false _ (c .before .before .before .before .if2 .left))) (c .before .before .before .plain-sixteens .ensures)) (bytes-run (c .before .before .before .before .before .before .before .before .args .text .now) (c .before .before .before .plain-sixteens .result) 8 (omega arith) (c .before .plain-eight2 .ensures) (c .if4 .taken))
+returns-4 c =
+    plain-on _ _ _ _ (plain-on _ _ _ _ (bytes-run (c .before .before .before .before .before .before .before .before .args .text .now)
+    (c .before .before .before .before .before .before .before .before .args .start) 8 (omega arith) (c .before .before .before .before .before .plain-eight .ensures) (not-false _
+    (c .before .before .before .before .if2 .left))) (c .before .before .before .plain-sixteens .ensures)) (bytes-run (c .before .before .before .before .before .before .before .before .args .text .now)
+    (c .before .before .before .plain-sixteens .result) 8 (omega arith) (c .before .plain-eight2 .ensures) (c .if4 .taken))
 
 -- src/lib.rt:211:1
 returns-5 : tie.Need-returns-5
-returns-5 c = plain-on _ _ _ _ (bytes-run (c .before .before .before .before .before .before .before .before .args .text .now) (c .before .before .before .before .before .before .before .before .args .start) 8 (omega arith) (c .before .before .before .before .before .plain-eight .ensures) (not-false _ (c .before .before .before .before .if2 .left))) (c .before .before .before .plain-sixteens .ensures)
+returns-5 c =
+    plain-on _ _ _ _ (bytes-run (c .before .before .before .before .before .before .before .before .args .text .now) (c .before .before .before .before .before .before .before .before .args .start) 8 (omega arith)
+    (c .before .before .before .before .before .plain-eight .ensures) (not-false _ (c .before .before .before .before .if2 .left))) (c .before .before .before .plain-sixteens .ensures)
 
 pub plain-steps-spec : {M : Type 1} → statement M
 plain-steps-spec =

@@ -23,7 +23,8 @@ plain-requires-2 c κs = search needs
 
 returns : tie.Need-returns
 returns c =
-    bytes-halves (c .before .before .before .before .before .before .args .text .now) (c .before .before .before .before .before .before .args .i) 1 (bytes-one (c .before .before .before .before .before .before .args .text .now) (c .before .before .before .before .before .before .args .i) (c .before .before .before .plain .ensures))
+    bytes-halves (c .before .before .before .before .before .before .args .text .now) (c .before .before .before .before .before .before .args .i) 1 (bytes-one
+    (c .before .before .before .before .before .before .args .text .now) (c .before .before .before .before .before .before .args .i) (c .before .before .before .plain .ensures))
     (bytes-one (c .before .before .before .before .before .before .args .text .now) (c .before .before .before .before .before .before .args .i + 1) (c .before .plain2 .ensures)) (c .if1 .taken)
 
 returns-2 : tie.Need-returns-2

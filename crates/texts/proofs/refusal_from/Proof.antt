@@ -55,7 +55,11 @@ loop-less c = omega (arith, c .letters-end .ensures .from, c .letters-end .ensur
 
 -- src/lib.rt:395:5
 loop-again : tie.Need-loop-again Inv-loop μ-loop
-loop-again c = judged-plain _ _ _ _ (c .before .if2 .taken) (judged-next (c .before .before .before .before .before .before .before .before .before .before .args .text .now) (wantedOf (c .before .before .before .before .before .before .before .loop .wanted)) (c .before .before .before .before .before .before .before .loop .i) (c .before .before .before .before .before .before .before .loop .inv) (c .before .before .before .before .before .before .loop-test .taken) (c .before .before .before .before .if1 .left) (c .before .before .before .after-byte .ensures)) (c .letters-end .ensures)
+loop-again c =
+    judged-plain _ _ _ _ (c .before .if2 .taken) (judged-next (c .before .before .before .before .before .before .before .before .before .before .args .text .now) (wantedOf
+    (c .before .before .before .before .before .before .before .loop .wanted)) (c .before .before .before .before .before .before .before .loop .i)
+    (c .before .before .before .before .before .before .before .loop .inv) (c .before .before .before .before .before .before .loop-test .taken) (c .before .before .before .before .if1 .left)
+    (c .before .before .before .after-byte .ensures)) (c .letters-end .ensures)
 
 -- src/lib.rt:395:5
 loop-less-2 : tie.Need-loop-less-2 Inv-loop μ-loop
@@ -63,7 +67,10 @@ loop-less-2 c = omega arith
 
 -- src/lib.rt:395:5
 loop-again-2 : tie.Need-loop-again-2 Inv-loop μ-loop
-loop-again-2 c = judged-next (c .before .before .before .before .before .before .before .before .before .args .text .now) (wantedOf (c .before .before .before .before .before .before .loop .wanted)) (c .before .before .before .before .before .before .loop .i) (c .before .before .before .before .before .before .loop .inv) (c .before .before .before .before .before .loop-test .taken) (c .before .before .before .if1 .left) (c .before .before .after-byte .ensures)
+loop-again-2 c =
+    judged-next (c .before .before .before .before .before .before .before .before .before .args .text .now) (wantedOf (c .before .before .before .before .before .before .loop .wanted))
+    (c .before .before .before .before .before .before .loop .i) (c .before .before .before .before .before .before .loop .inv) (c .before .before .before .before .before .loop-test .taken)
+    (c .before .before .before .if1 .left) (c .before .before .after-byte .ensures)
 
 -- src/lib.rt:407:9
 returns-2 : tie.Need-returns-2 Inv-loop μ-loop

@@ -73,7 +73,17 @@ add-result c = search needs
 
 -- src/lib.rt:335:9
 returns-7 : tie.Need-returns-7
-returns-7 c = wanted-three _ _ (wantedOf (c .before .before .before .before .before .before .before .before .before .first-byte .result)) (omega (arith, c .before .before .before .before .before .before .before .before .before .before .before .before .before .before .if1 .left)) (record { wants = c .before .before .before .before .before .before .before .before .before .first-byte .ensures; first = c .before .before .before .before .before .before .before .before .before .before .before .if2 .left; second = c .before .before .before .before .before .before .before .before .before .before .if3 .left; from = c .before .before .before .before .before .before .before .if4 .left; to = c .before .before .before .before .before .if5 .left }) (c .if7 .taken) (c .before .before .before .inside .ensures (not-false _ (c .before .before .if6 .left)))
+returns-7 c =
+    wanted-three _ _ (wantedOf (c .before .before .before .before .before .before .before .before .before .first-byte .result)) (omega
+    (arith, c .before .before .before .before .before .before .before .before .before .before .before .before .before .before .if1 .left))
+    (record {
+      wants = c .before .before .before .before .before .before .before .before .before .first-byte .ensures;
+      first = c .before .before .before .before .before .before .before .before .before .before .before .if2 .left;
+      second = c .before .before .before .before .before .before .before .before .before .before .if3 .left;
+      from = c .before .before .before .before .before .before .before .if4 .left;
+      to = c .before .before .before .before .before .if5 .left;
+    })
+    (c .if7 .taken) (c .before .before .before .inside .ensures (not-false _ (c .before .before .if6 .left)))
 
 -- src/lib.rt:338:9
 returns-8 : tie.Need-returns-8
@@ -101,7 +111,17 @@ add-result-2 c = search needs
 
 -- src/lib.rt:309:1
 returns-10 : tie.Need-returns-10
-returns-10 c = wanted-four _ _ (wantedOf (c .before .before .before .before .before .before .before .before .before .before .before .before .before .before .first-byte .result)) (omega (arith, c .before .before .before .before .before .before .before .before .before .before .before .before .before .before .before .before .before .before .before .if1 .left)) (record { wants = c .before .before .before .before .before .before .before .before .before .before .before .before .before .before .first-byte .ensures; first = c .before .before .before .before .before .before .before .before .before .before .before .before .before .before .before .before .if2 .left; second = c .before .before .before .before .before .before .before .before .before .before .before .before .before .before .before .if3 .left; from = c .before .before .before .before .before .before .before .before .before .before .before .before .if4 .left; to = c .before .before .before .before .before .before .before .before .before .before .if5 .left }) (c .before .before .before .if8 .left) (c .before .before .before .before .before .before .before .before .inside .ensures (not-false _ (c .before .before .before .before .before .before .before .if6 .left))) (c .before .inside2 .ensures (not-false _ (c .if9 .left)))
+returns-10 c =
+    wanted-four _ _ (wantedOf (c .before .before .before .before .before .before .before .before .before .before .before .before .before .before .first-byte .result)) (omega
+    (arith, c .before .before .before .before .before .before .before .before .before .before .before .before .before .before .before .before .before .before .before .if1 .left))
+    (record {
+      wants = c .before .before .before .before .before .before .before .before .before .before .before .before .before .before .first-byte .ensures;
+      first = c .before .before .before .before .before .before .before .before .before .before .before .before .before .before .before .before .if2 .left;
+      second = c .before .before .before .before .before .before .before .before .before .before .before .before .before .before .before .if3 .left;
+      from = c .before .before .before .before .before .before .before .before .before .before .before .before .if4 .left;
+      to = c .before .before .before .before .before .before .before .before .before .before .if5 .left;
+    })
+    (c .before .before .before .if8 .left) (c .before .before .before .before .before .before .before .before .inside .ensures (not-false _ (c .before .before .before .before .before .before .before .if6 .left))) (c .before .inside2 .ensures (not-false _ (c .if9 .left)))
 
 pub wanted-end-spec : {M : Type 1} → statement M
 wanted-end-spec =

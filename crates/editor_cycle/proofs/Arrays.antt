@@ -14,18 +14,18 @@ use Rattle.meaning.specs.Padding.{Aligns, padding, zeros}
 use Rattle.meaning.specs.Depths.{Depths, depthRefusal}
 use Rattle.meaning.specs.Written.{Piece, layout, arrayBytes}
 use Rattle.meaning.proofs.Tests.{both-true}
-use Rattle.meaning_writing.specs.Shapes.{part, behindPadding, fixedEnd}
+use Rattle.meaning_writing.specs.Shapes.{part}
 use Rattle.meaning_writing.specs.Strict.{Test, childWritten, elementEnd, elementsWritten, tableWritten, arrayWritten}
 use Rattle.meaning_writing.specs.Readings.{MaybeNumber}
 use Rattle.meaning_writing.specs.Edited.{Editor, foundPiece, elementsFrom, elementsBefore, elementsOf, countIn, spotIn, piecesOf, editedIn, alike, containerEditor}
 use Rattle.meaning_writing.proofs.Parts.{length-part}
-use Rattle.meaning_writing.proofs.StrictLaws.{ChildAt, child-sound}
-use Rattle.meaning_writing.proofs.EditedSteps.{endOf, upTo, upToEnd}
+use Rattle.meaning_writing.proofs.StrictLaws.{child-sound}
+use Rattle.meaning_writing.proofs.EditedSteps.{endOf, upToEnd}
 use Rattle.container_depths.specs.Opening.{depthsOf}
 use Rattle.container_depths.specs.declared.ContainerDepths.{ContainerDepths}
 use Rattle.framing_offset_size.specs.Widths.{widthOf}
 use Rattle.editor_basic.specs.Elements as its
-use Rattle.editor_basic.specs.Elements.{elementsIn, startOf, behindOf, Standing, FirstOf, restNow}
+use Rattle.editor_basic.specs.Elements.{elementsIn, behindOf, Standing, FirstOf, restNow}
 use Rattle.editor_basic.specs.declared.elements.Elements.{Elements}
 use Rattle.editor_basic.specs.declared.elements.Child as element
 use Rattle.editor_basic.proofs.ElementLaws.{elements-none, firstPiece, elements-first, stop-is, first-length}

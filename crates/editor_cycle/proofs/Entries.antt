@@ -7,31 +7,28 @@ use native.Mathlib.Omega.{arith}
 use lib.Dec.{leb, eqb}
 use lib.ListN.{length, take, drop, length-append, length-replicate}
 use borrow.Author.Tests.{leb-true}
-use Rattle.meaning.specs.Limits.{largestFrame}
 use Rattle.meaning.specs.Numbers.{value}
 use Rattle.meaning.specs.Offsets.{encodedWidth, writtenWidth}
 use Rattle.meaning.specs.Padding.{Aligns, padding, zeros}
-use Rattle.meaning.specs.Depths.{Depths}
 use Rattle.meaning.specs.Written.{Piece, stop, layout, structureBytes}
 use Rattle.meaning.specs.Types.{alignment, fixed}
 use Rattle.meaning.proofs.Tests.{both-true}
 use Rattle.meaning.proofs.PaddingLaws.{aligns-positive}
-use Rattle.meaning_writing.specs.Shapes.{part, behindPadding, fixedEnd, oneMore, offsetCount, lastEnd, fieldEnd, offsetsLeft}
-use Rattle.meaning_writing.specs.Strict.{Test, testShapes, childWritten, fieldsFinished, fieldsWritten, offsetsWritten, structureWritten, entryTest}
+use Rattle.meaning_writing.specs.Shapes.{part, behindPadding, fixedEnd, oneMore, offsetCount, lastEnd, fieldEnd}
+use Rattle.meaning_writing.specs.Strict.{Test, childWritten, fieldsWritten, offsetsWritten, structureWritten, entryTest}
 use Rattle.meaning_writing.specs.Readings.{MaybeNumber}
 use Rattle.meaning_writing.specs.Edited.{Editor, Child, childCount, foundPiece, fieldsFrom, fieldsOf, countIn, spotIn, piecesOf, editedIn, each, containerEditor, structureEditor}
 use Rattle.meaning_writing.proofs.Parts.{length-part}
 use Rattle.meaning_writing.proofs.StrictLaws.{ChildAt, child-sound}
 use Rattle.meaning_writing.proofs.StrictSteps.{test-alignment, test-fixed}
-use Rattle.meaning_writing.proofs.EditedSteps.{endOf, endOf-cons, endsBefore, upTo, upToEnd}
+use Rattle.meaning_writing.proofs.EditedSteps.{endOf, endOf-cons, endsBefore, upToEnd}
 use Rattle.container_depths.specs.Opening.{depthsOf}
 use Rattle.container_depths.specs.declared.ContainerDepths.{ContainerDepths}
 use Rattle.signature.specs.Trees.{treeAt}
-use Rattle.signature.specs.declared.Letter.{Letter}
 use Rattle.signature.specs.declared.items.Item.{Item}
-use Rattle.signature.proofs.TreeLaws.{described-alignment, described-fixed, described-aligned}
+use Rattle.signature.proofs.TreeLaws.{described-alignment, described-fixed}
 use Rattle.strict_basic.specs.Ends.{letterExtent, shaped, letterTest}
-use Rattle.strict_basic.specs.Items.{Placed, treeTest}
+use Rattle.strict_basic.specs.Items.{treeTest}
 use Rattle.strict_basic.proofs.EndLaws.{encoded-aligns}
 use Rattle.editor_basic.specs.Rows.{keptEnds, lastNow}
 use Rattle.editor_basic.proofs.ShapeLaws.{editor-alignment, editor-fixed}
@@ -39,11 +36,11 @@ use Rattle.editor_basic.proofs.PassedLaws.{last-now, key-fixed, key-loose}
 use Rattle.editor_basic.proofs.FoundLaws.{up-to-end}
 use Rattle.editor_cycle.specs.declared.answers.Walked.{Walked}
 use Rattle.editor_cycle.specs.declared.starts.Entry.{Entry}
-use Rattle.editor_cycle.specs.Walks.{treeEditor, Walks, entryMost, most, Ready, letterEditor, entryEditors, entryTests, itemEditor, itemTest, Repeats}
+use Rattle.editor_cycle.specs.Walks.{treeEditor, Walks, entryMost, most, Ready, letterEditor, entryEditors, itemEditor, itemTest, Repeats}
 use Rattle.editor_cycle.specs.Starts.{keyOffsets, keyEnd, entryAs, KeyFits}
 use Rattle.editor_cycle.specs.Closing.{edits, Fits, endNow, Closes}
 use Rattle.editor_cycle.proofs.WalkLaws.{walks-by, fits-here, through-closed}
-use Rattle.editor_cycle.proofs.Children.{childOf, count-cons, count-none, Gone, gone-end, gone-within, gone-edited, gone-spot, pieces-cons}
+use Rattle.editor_cycle.proofs.Children.{childOf, count-cons, count-none, Gone, gone-edited, gone-spot}
 use Rattle.editor_cycle.proofs.Values.{ready-as, most-small, fixed-none}
 use Rattle.editor_cycle.proofs.Items.{plain-test, entry-test, plain-editor, entry-editor}
 

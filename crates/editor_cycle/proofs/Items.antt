@@ -1,14 +1,14 @@
 -- What an array or a dictionary repeats, by the definition; and the ways out of an array. Assumes nothing.
 use mathlib.Core.Path.{_≡_, refl, sym, ap, _∙_, subst}
 use mathlib.Core.List.{List, [], _∷_}
-use mathlib.Core.Bool.{Bool, true, false, _&&_}
-use Prim.Native.Nat.{ℕ, _+_, _-_, _*_, _≤_}
+use mathlib.Core.Bool.{Bool, true, false}
+use Prim.Native.Nat.{ℕ, _+_, _-_}
 use native.Mathlib.Omega.{arith}
 use Rattle.meaning.specs.Choice.{pick}
 use Rattle.meaning.specs.Padding.{Aligns}
 use Rattle.meaning.specs.Depths as Depth
 use Rattle.meaning.specs.Depths.{Depths, opened}
-use Rattle.meaning.specs.Types.{Basic, bool, number, text, Tree, array, dictionary, basicFixed, alignment, fixed, entryAlignment, entryFixed}
+use Rattle.meaning.specs.Types.{Basic, bool, number, text, Tree, array, dictionary, alignment, fixed, entryAlignment, entryFixed}
 use Rattle.meaning.specs.Written.{deeper}
 use Rattle.meaning.proofs.TypeLaws.{aligned}
 use Rattle.meaning_writing.specs.Shapes.{basicShape}
@@ -24,10 +24,10 @@ use Rattle.signature.specs.Places.{basicKind, letterAt}
 use Rattle.signature.specs.Items.{itemIn, EntryOf, ElementOf}
 use Rattle.signature.specs.Trees.{treeAt}
 use Rattle.signature.specs.declared.Letter.{Letter}
-use Rattle.signature.specs.declared.Letter.the-variants.{End, Array}
+use Rattle.signature.specs.declared.Letter.the-variants.{Array}
 use Rattle.signature.specs.declared.items.Item.{Item}
 use Rattle.signature.specs.declared.shapes.Shape.{Shape}
-use Rattle.strict_basic.specs.Ends.{letterExtent, shaped, letterTest, Laid}
+use Rattle.strict_basic.specs.Ends.{letterExtent, letterTest, Laid}
 use Rattle.strict_basic.specs.Items.{Placed, treeTest}
 use Rattle.strict_basic.proofs.ItemLaws.{letter-test, found-placed, found-entry, found-element}
 use Rattle.editor_basic.proofs.ShapeLaws.{editor-alignment, editor-fixed}

@@ -3,19 +3,18 @@ use types.Run.{OneOf, miss}
 use denote.Enum.Declared.{tagOf}
 use mathlib.Core.Path.{_≡_, refl, sym, ap, _∙_, subst}
 use mathlib.Core.List.{List, [], _∷_}
-use mathlib.Core.Option.{Option, none, some}
-use mathlib.Core.Bool.{Bool, true, false, false≢true}
-use Prim.Native.Nat.{ℕ, zero, suc, _+_, _-_, _%_, _/_, _^_, _≤_, _<_}
+use mathlib.Core.Option.{none, some}
+use mathlib.Core.Bool.{Bool, true, false}
+use Prim.Native.Nat.{ℕ, _+_, _-_, _%_, _^_, _≤_, _<_}
 use native.Mathlib.Omega.{arith}
-use lib.Dec.{leb, ltb, eqb}
+use lib.Dec.{leb, ltb}
 use lib.ListN.{length, drop, length-reverse}
 use borrow.Author.Tests.{lt-ltb, eq-eqb, ne-eqb, leb-true}
-use Rattle.meaning.specs.Choice.{pick}
 use Rattle.meaning.specs.Numbers.{bytes, ordered}
 use Rattle.meaning.specs.Padding.{Aligns}
 use Rattle.meaning.specs.Depths as Depth
 use Rattle.meaning.specs.Depths.{Depths, depthRefusal, opened}
-use Rattle.meaning.specs.Types.{Tree, bool, number, numberWidth}
+use Rattle.meaning.specs.Types.{Tree, numberWidth}
 use Rattle.meaning.proofs.PaddingLaws.{by-alignment}
 use Rattle.meaning.proofs.NumberLaws.{length-bytes}
 use Rattle.meaning_writing.specs.Readings.{MaybeNumber, spotAt, spells, mayStand, Slot, ofBool, ofNumber, slotType}

@@ -1,7 +1,7 @@
 -- What is found of the beginning of a container is what the definition says of its bytes. Assumes nothing.
 use mathlib.Core.Path.{_≡_, refl, sym, ap, _∙_, subst}
 use mathlib.Core.List.{List}
-use mathlib.Core.Bool.{Bool, true, false}
+use mathlib.Core.Bool.{Bool, false}
 use Prim.Native.Nat.{ℕ, _+_, _-_, _*_, _/_, _≤_}
 use native.Mathlib.Omega.{arith}
 use lib.ListN.{length}
@@ -16,7 +16,6 @@ use Rattle.strict_basic.specs.declared.ends.Extent.{Extent}
 use Rattle.strict_basic.proofs.EndLaws.{encoded-aligns}
 use Rattle.editor_basic.specs.declared.elements.Elements.{Elements}
 use Rattle.editor_cycle.specs.declared.starts.Table.{Table}
-use Rattle.editor_cycle.specs.declared.starts.Entry.{Entry}
 use Rattle.editor_cycle.specs.Starts.{elementsAs, bodyOf, AllOf, tableAs, keyOffsets, keyEnd, entry, entryAs, KeyFits}
 
 pub all-of : (a : ℕ) (l : List ℕ) (size : FramingOffsetSize) (count from : ℕ) (r : Elements) → r ≡ elementsAs a size count from → widthOf size ≡ encodedWidth (length l)

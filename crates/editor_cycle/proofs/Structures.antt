@@ -1,21 +1,20 @@
 -- A law for each way out of the walk over a structure and its fields, and what the loop over them keeps. Assumes nothing.
 use mathlib.Core.Path.{_≡_, refl, sym, ap, _∙_, subst}
-use mathlib.Core.List.{List, [], _∷_, _++_, append-assoc, append-nil}
-use mathlib.Core.Bool.{Bool, true, false, _&&_, false≢true}
+use mathlib.Core.List.{List, [], _∷_, _++_, append-assoc}
+use mathlib.Core.Bool.{Bool, true, false, _&&_}
 use Prim.Native.Nat.{ℕ, _+_, _-_, _*_, _≤_, _<_}
 use native.Mathlib.Omega.{arith}
 use lib.Dec.{leb, eqb}
 use lib.ListN.{length, take, drop, length-append, length-replicate}
 use lib.Seq.{take-at}
 use borrow.Author.Tests.{leb-true}
-use Rattle.meaning.specs.Choice.{pick}
 use Rattle.meaning.specs.Limits.{largestFrame}
 use Rattle.meaning.specs.Offsets.{encodedWidth, writtenWidth}
-use Rattle.meaning.specs.Padding.{Aligns, padding, zeros}
+use Rattle.meaning.specs.Padding.{padding, zeros}
 use Rattle.meaning.specs.Depths as Depth
 use Rattle.meaning.specs.Depths.{Depths, depthRefusal, opened}
 use Rattle.meaning.specs.Written.{Piece, layout, structureBytes, deeper}
-use Rattle.meaning.specs.Types.{Tree, Fields, structure, last, next, alignment, largestAlignment, fixed, allFixed}
+use Rattle.meaning.specs.Types.{Fields, structure, last, next, alignment, largestAlignment, fixed, allFixed}
 use Rattle.meaning.proofs.Tests.{both-true}
 use Rattle.meaning.proofs.PaddingLaws.{aligns-positive}
 use Rattle.meaning_writing.specs.Shapes.{part, fixedEnd, oneMore, offsetCount, fieldEnd, offsetsLeft}
@@ -30,20 +29,20 @@ use Rattle.container_depths.specs.declared.ContainerDepths.{ContainerDepths}
 use Rattle.container_depths.specs.declared.Raised.{Raised}
 use Rattle.signature.specs.Places.{letterAt}
 use Rattle.signature.specs.Shapes.{shapeIn}
-use Rattle.signature.specs.Trees.{treeAt, fieldsAt, Rowed}
+use Rattle.signature.specs.Trees.{treeAt, fieldsAt}
 use Rattle.signature.specs.declared.Letter.the-variants.{OpenStructure}
 use Rattle.signature.specs.declared.shapes.Shape.{Shape}
 use Rattle.signature.proofs.TreeLaws.{described-fixed, structure-rowed, structure-tree, structure-fixed}
-use Rattle.strict_basic.specs.Sizes.{offsetsIn, Tabled, offsetsBy}
+use Rattle.strict_basic.specs.Sizes.{offsetsIn, offsetsBy}
 use Rattle.strict_basic.specs.Items.{Placed, treeTest}
 use Rattle.strict_basic.proofs.EndLaws.{encoded-aligns}
 use Rattle.strict_basic.proofs.SizeLaws.{offsets-count}
 use Rattle.strict_basic.proofs.TableLaws.{placed-offsets, field-described}
 use Rattle.editor_basic.specs.declared.fields.Row.{Row}
 use Rattle.editor_basic.specs.declared.fields.Field.{Field}
-use Rattle.editor_basic.specs.Rows.{fieldPiece, nextStop, rowPieces, fieldsIn, StandingRow, behindField, foundField, FirstField, lastNow, rowNow}
+use Rattle.editor_basic.specs.Rows.{fieldPiece, nextStop, rowPieces, fieldsIn, StandingRow, behindField, foundField, FirstField}
 use Rattle.editor_basic.proofs.ShapeLaws.{editor-fixed, pieces-are}
-use Rattle.editor_basic.proofs.WrittenLaws.{wholeRow, row-stands, field-accepted, fields-accepted}
+use Rattle.editor_basic.proofs.WrittenLaws.{row-stands, field-accepted, fields-accepted}
 use Rattle.editor_basic.proofs.PassedLaws.{Passed, passed-begin, passed-next, passed-behind, last-rewritten, row-rewritten}
 use Rattle.editor_basic.proofs.FoundLaws.{up-to-end}
 use Rattle.editor_cycle.specs.declared.answers.Walked.{Walked}
@@ -52,8 +51,8 @@ use Rattle.editor_cycle.specs.Starts.{rowAs, rowTests, rowEditors, AllRo
 use Rattle.editor_cycle.specs.Closing.{countedAs, edits, Fits, endNow, FieldBehind, fieldRest, Closes}
 use Rattle.editor_cycle.proofs.WalkLaws.{counts, walks-by, fits-here, found-closed}
 use Rattle.editor_cycle.proofs.ClosingLaws.{rest-last, rest-row}
-use Rattle.editor_cycle.proofs.Children.{childOf, Gone, gone-begin, gone-less, gone-end, gone-next, gone-within, gone-edited, gone-spot, pieces-append, pieces-cons}
-use Rattle.editor_cycle.proofs.Values.{Deeper, deeper-true, deepens, most-small, fixed-none}
+use Rattle.editor_cycle.proofs.Children.{childOf, Gone, gone-begin, gone-less, gone-end, gone-next, gone-within, gone-edited, gone-spot, pieces-append}
+use Rattle.editor_cycle.proofs.Values.{Deeper, deeper-true, deepens, fixed-none}
 
 -- ---- fields with their editors
 

@@ -3,7 +3,7 @@ use mathlib.Core.Path.{_≡_, refl, sym, ap, _∙_, subst}
 use mathlib.Core.List.{List, [], _∷_, _++_}
 use mathlib.Core.Option.{Option, none, some}
 use mathlib.Core.Bool.{Bool, true, false, false≢true}
-use Prim.Native.Nat.{ℕ, zero, suc, _+_, _-_, _*_, _≤_, _<_}
+use Prim.Native.Nat.{ℕ, zero, suc, _+_, _-_, _≤_, _<_}
 use native.Mathlib.Omega.{arith}
 use lib.Dec.{eqb}
 use lib.ListN.{length, take, drop, length-take, length-drop}
@@ -32,7 +32,7 @@ use Rattle.signature.specs.Shapes.{shapeIn}
 use Rattle.signature.specs.Trees.{treeAt}
 use Rattle.signature.specs.declared.shapes.Shape.{Shape}
 use Rattle.signature.proofs.Answers.{judged-none}
-use Rattle.signature.proofs.TreeLaws.{Front, front, front-described, described-as}
+use Rattle.signature.proofs.TreeLaws.{Front, front-described, described-as}
 use Rattle.strict_basic.specs.Sizes.{Tabled}
 use Rattle.strict_basic.specs.Items.{Placed, treeTest}
 use Rattle.editor_cycle.specs.declared.answers.Walked.{Walked}

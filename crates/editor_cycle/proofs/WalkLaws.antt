@@ -13,8 +13,8 @@ use Rattle.meaning_writing.specs.Edited.{Editor}
 use Rattle.editor_basic.specs.Puts.{over}
 use Rattle.editor_basic.proofs.FoundLaws.{found-composed}
 use Rattle.editor_cycle.specs.declared.answers.Walked.{Walked}
-use Rattle.editor_cycle.specs.Walks.{barred, Past, Made, Here, Walks}
-use Rattle.editor_cycle.specs.Closing.{countedAs, editedAs, edits, Fits, endNow, endIn, Closes}
+use Rattle.editor_cycle.specs.Walks.{barred, Walks}
+use Rattle.editor_cycle.specs.Closing.{countedAs, edits, Fits, endIn, Closes}
 
 -- ---- an answer that counts
 

@@ -10,7 +10,7 @@ use Rattle.meaning.specs.Limits.{largestFrame, mostVariants}
 use Rattle.meaning.specs.Refusals.{containersTooDeep, noValue}
 use Rattle.meaning.specs.Padding.{Aligns}
 use Rattle.meaning.specs.Depths.{Depths, depthRefusal}
-use Rattle.meaning.specs.Types.{Tree, variant}
+use Rattle.meaning.specs.Types.{variant}
 use Rattle.meaning.specs.Written.{arrayBytes}
 use Rattle.meaning_writing.specs.Strict.{Test, arrayWritten, entryTest, testOf}
 use Rattle.meaning_writing.specs.Readings.{MaybeNumber, Spot, spells, mayStand}

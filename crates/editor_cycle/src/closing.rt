@@ -13,17 +13,14 @@ use editor_basic::mover::move_part;
 use editor_basic::mover::put_zeros;
 use editor_basic::rewriter::finish_array;
 ghost use mathlib.Core.Path.{_≡_};
-ghost use mathlib.Core.Bool.{true, false};
+ghost use mathlib.Core.Bool.{true};
 ghost use mathlib.Core.List.{_++_};
-ghost use Prim.Native.Nat.{_+_, _-_, _*_, _≤_, _<_};
+ghost use Prim.Native.Nat.{_+_, _-_, _≤_};
 ghost use lib.ListN.{length};
 ghost use Rattle.meaning.specs.Limits.{largestFrame};
 ghost use Rattle.meaning.specs.Padding.{Aligns, zeros};
-ghost use Rattle.signature.specs.Trees.{fieldsAt};
-ghost use Rattle.strict_basic.specs.Sizes.{offsetsIn};
-ghost use Rattle.framing_offset_size.specs.Widths.{widthOf};
-ghost use Rattle.editor_basic.specs.Elements.{behindOf, Standing, restNow};
-ghost use Rattle.editor_basic.specs.Rows.{behindField, StandingRow, lastNow, rowNow};
+ghost use Rattle.editor_basic.specs.Elements.{behindOf, restNow};
+ghost use Rattle.editor_basic.specs.Rows.{lastNow};
 ghost use Rattle.editor_cycle.specs.Closing.{edits as editsAs, Fits, endNow, frontOf, Closes, Behind, FieldBehind, fieldRest};
 
 // A maybe of what is not fixed: one 0.

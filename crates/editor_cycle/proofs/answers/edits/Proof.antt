@@ -3,12 +3,11 @@ use Rattle.editor_cycle.proofs.ClosingLaws.{edits-by}
 use borrow.Author.Needs.{needs}
 use Rattle.editor_cycle.proofs.answers.edits.Statement.{statement}
 use Rattle.editor_cycle.proofs.answers.edits.Tie as tie
-use Rattle.editor_cycle.proofs.answers.edits.Reads as reads
-use Rattle.editor_cycle.proofs.answers.edits.Lts as lts
 
 -- src/answers.rt:64:9
 returns : tie.Need-returns
-returns c = edits-by (c .before .before .args .walked) (c .before .if1 .taken)
+returns c =
+    edits-by (c .before .before .args .walked) (c .before .if1 .taken)
 
 -- src/answers.rt:59:1
 returns-2 : tie.Need-returns-2

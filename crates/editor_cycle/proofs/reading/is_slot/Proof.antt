@@ -3,8 +3,6 @@ use Rattle.editor_cycle.proofs.ReadingLaws.{slot-not}
 use borrow.Author.Needs.{needs}
 use Rattle.editor_cycle.proofs.reading.is_slot.Statement.{statement}
 use Rattle.editor_cycle.proofs.reading.is_slot.Tie as tie
-use Rattle.editor_cycle.proofs.reading.is_slot.Reads as reads
-use Rattle.editor_cycle.proofs.reading.is_slot.Lts as lts
 
 -- src/reading.rt:27:28
 enum-told : tie.Need-enum-told
@@ -24,7 +22,8 @@ returns-2 c = search needs
 
 -- src/reading.rt:23:1
 returns-3 : tie.Need-returns-3
-returns-3 c = slot-not (c .before .args .kind) (c .match .keys3)
+returns-3 c =
+    slot-not (c .before .args .kind) (c .match .keys3)
 
 pub is-slot-spec : {M : Type 1} → statement M
 is-slot-spec = tie.close (tie.spec enum-told enum-told-2 returns returns-2 returns-3)

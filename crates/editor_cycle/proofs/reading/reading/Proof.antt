@@ -1,14 +1,9 @@
 -- `reading` meets its contract. Assumes nothing.
-use mathlib.Core.Path.{_≡_, refl, sym, ap, _∙_}
+use mathlib.Core.Path.{refl}
 use Rattle.editor_cycle.proofs.ReadingLaws.{slot-past, nothing-put, number-put}
 use borrow.Author.Needs.{needs}
 use Rattle.editor_cycle.proofs.reading.reading.Statement.{statement}
 use Rattle.editor_cycle.proofs.reading.reading.Tie as tie
-use Rattle.editor_cycle.proofs.reading.reading.Reads as reads
-use Rattle.editor_cycle.proofs.reading.reading.Lts as lts
-use Rattle.editor_cycle.proofs.answers.counted.Reads as counted-reads
-use Rattle.editor_cycle.proofs.answers.edited.Reads as edited-reads
-use Rattle.editor_cycle.proofs.reading.put.Reads as put-reads
 
 -- src/reading.rt:95:9
 counted-requires : tie.Need-counted-requires
@@ -16,7 +11,9 @@ counted-requires c κs = search needs
 
 -- src/reading.rt:95:9
 returns : tie.Need-returns
-returns c = record { is = λ u s q l a fx t. slot-past (c .before .before .before .args .aim .big) s a fx t _ _ l _ _ _ _ _ (c .counted .ensures) (c .before .if1 .taken) }
+returns c =
+    let start = c .before .before .before in
+    record { is = λ u s q l a fx t. slot-past (start .args .aim .big) s a fx t _ _ l _ _ _ _ _ (c .counted .ensures) (c .before .if1 .taken) }
 
 -- src/reading.rt:99:25
 enum-told : tie.Need-enum-told
@@ -36,7 +33,10 @@ put-requires c κs = search needs
 
 -- src/reading.rt:83:1
 returns-2 : tie.Need-returns-2
-returns-2 c = record { is = λ u s q l a fx t. nothing-put (c .before .before .before .before .before .args .aim) s a fx t _ _ l _ _ _ _ _ (c .before .before .before .if1 .left) (c .edited .ensures) (c .before .enum-told .given .1) refl }
+returns-2 c =
+    let at-if1 = c .before .before .before in
+    let start = c .before .before .before .before .before in
+    record { is = λ u s q l a fx t. nothing-put (start .args .aim) s a fx t _ _ l _ _ _ _ _ (at-if1 .if1 .left) (c .edited .ensures) (c .before .enum-told .given .1) refl }
 
 -- src/reading.rt:83:1
 same-length : tie.Need-same-length
@@ -44,11 +44,11 @@ same-length c = search needs
 
 -- src/reading.rt:83:1
 returns-3 : tie.Need-returns-3
-returns-3 c = record {
-  is = λ u s q l a fx t. number-put (c .before .before .before .before .before .before .before .before .before .args .aim) s a fx t _ _ l _ _ _ _ _ _
-      (c .before .before .before .before .before .before .before .if1 .left) (c .before .before .before .before .before .new .given .1)
-      (c .before .before .put .ensures .is u s q l a fx t);
-}
+returns-3 c =
+    let at-new = c .before .before .before .before .before in
+    let at-if1 = c .before .before .before .before .before .before .before in
+    let start = c .before .before .before .before .before .before .before .before .before in
+    record { is = λ u s q l a fx t. number-put (start .args .aim) s a fx t _ _ l _ _ _ _ _ _ (at-if1 .if1 .left) (at-new .new .given .1) (c .before .before .put .ensures .is u s q l a fx t) }
 
 pub reading-spec : {M : Type 1} → statement M
 reading-spec =

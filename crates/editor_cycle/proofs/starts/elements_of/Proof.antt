@@ -1,17 +1,10 @@
 -- `elements_of` meets its contract. Assumes nothing.
-use mathlib.Core.Path.{_≡_, refl, sym, ap, _∙_}
 use native.Mathlib.Omega.{arith}
 use Rattle.strict_basic.proofs.EndLaws.{last-offset-is}
 use Rattle.editor_cycle.proofs.StartLaws.{all-of}
 use borrow.Author.Needs.{needs}
 use Rattle.editor_cycle.proofs.starts.elements_of.Statement.{statement}
 use Rattle.editor_cycle.proofs.starts.elements_of.Tie as tie
-use Rattle.editor_cycle.proofs.starts.elements_of.Reads as reads
-use Rattle.editor_cycle.proofs.starts.elements_of.Lts as lts
-use Rattle.editor_cycle.proofs.starts.elements_as.Reads as elements-as-reads
-use Rattle.framing_offset_size.proofs.FramingOffsetSize.count_in.Reads as count-in-reads
-use Rattle.framing_offset_size.proofs.FramingOffsetSize.for_encoded_container.Reads as for-encoded-container-reads
-use Rattle.framing_offset_size.proofs.FramingOffsetSize.read_last_offset_from_buffer.Reads as read-last-offset-from-buffer-reads
 
 -- src/starts.rt:49:9
 for-encoded-container-requires : tie.Need-for-encoded-container-requires
@@ -23,7 +16,9 @@ read-last-offset-from-buffer-requires c κs = search needs
 
 -- src/starts.rt:52:31
 sub-count-in : tie.Need-sub-count-in
-sub-count-in c = omega (arith, (last-offset-is (c .before .before .before .args .part .now) _ _ (c .before .for-encoded-container .ensures) (c .read-last-offset-from-buffer .ensures)), c .before .before .before .pre)
+sub-count-in c =
+    let start = c .before .before .before in
+    omega (arith, (last-offset-is (start .args .part .now) _ _ (c .before .for-encoded-container .ensures) (c .read-last-offset-from-buffer .ensures)), start .pre)
 
 -- src/starts.rt:52:9
 count-in-requires : tie.Need-count-in-requires
@@ -35,9 +30,11 @@ elements-as-requires c κs = search needs
 
 -- src/starts.rt:44:1
 returns : tie.Need-returns
-returns c = all-of _ (c .before .before .before .before .before .args .part .now) _ _ _ _ (c .elements-as .ensures) (c .before .before .before .for-encoded-container .ensures)
-    (last-offset-is (c .before .before .before .before .before .args .part .now) _ _ (c .before .before .before .for-encoded-container .ensures)
-    (c .before .before .read-last-offset-from-buffer .ensures)) (c .before .count-in .ensures)
+returns c =
+    let at-for-encoded-container = c .before .before .before in
+    let start = c .before .before .before .before .before in
+    all-of _ (start .args .part .now) _ _ _ _ (c .elements-as .ensures) (at-for-encoded-container .for-encoded-container .ensures) (last-offset-is (start .args .part .now) _ _
+    (at-for-encoded-container .for-encoded-container .ensures) (c .before .before .read-last-offset-from-buffer .ensures)) (c .before .count-in .ensures)
 
 pub elements-of-spec : {M : Type 1} → statement M
 elements-of-spec =

@@ -1,11 +1,7 @@
 -- `row_of` meets its contract. Assumes nothing.
-use mathlib.Core.Path.{_≡_, refl, sym, ap, _∙_}
 use borrow.Author.Needs.{needs}
 use Rattle.editor_cycle.proofs.starts.row_of.Statement.{statement}
 use Rattle.editor_cycle.proofs.starts.row_of.Tie as tie
-use Rattle.editor_cycle.proofs.starts.row_of.Reads as reads
-use Rattle.editor_cycle.proofs.starts.row_of.Lts as lts
-use Rattle.editor_cycle.proofs.starts.table_of.Reads as table-of-reads
 
 -- src/starts.rt:67:9
 table-of-requires : tie.Need-table-of-requires

@@ -37,6 +37,18 @@ mod c {
             out_length: usize,
             length: *mut usize,
         ) -> u8;
+        pub fn bogtassel_edit(
+            type_text: *const u8,
+            type_length: usize,
+            big_endian: bool,
+            buffer: *mut u8,
+            buffer_length: usize,
+            used: usize,
+            number: usize,
+            present: bool,
+            bits: u64,
+            length: *mut usize,
+        ) -> u8;
         pub fn bogtassel_is_written(
             type_text: *const u8,
             type_length: usize,
@@ -126,6 +138,33 @@ pub(crate) fn write(
         )
     };
     answer(number, length)
+}
+
+pub(crate) fn edit(
+    signature: &[u8],
+    order: Order,
+    buffer: &mut [u8],
+    used: usize,
+    number: usize,
+    new: Option<u64>,
+) -> Result<usize, Refusal> {
+    let mut length = 0;
+    // SAFETY: see above.
+    let refusal = unsafe {
+        c::bogtassel_edit(
+            signature.as_ptr(),
+            signature.len(),
+            order.is_big(),
+            buffer.as_mut_ptr(),
+            buffer.len(),
+            used,
+            number,
+            new.is_some(),
+            new.unwrap_or(0),
+            &mut length,
+        )
+    };
+    answer(refusal, length)
 }
 
 pub(crate) fn is_written(signature: &[u8], order: Order, frame: &[u8]) -> Result<(), Refusal> {

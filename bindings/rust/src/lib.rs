@@ -1,4 +1,4 @@
-//! GVariant frames, read and written by a codec whose every function is proved.
+//! GVariant frames, read, written and edited by a codec whose every function is proved.
 //!
 //! The calls are those of `include/bogtassel.h`. Lengths and overlaps are the types' business here, so nothing can be called wrongly:
 //! every call returns, with a result or with a numbered [`Refusal`], for all types, frames and buffers. What is proved is the archive; this
@@ -29,6 +29,7 @@
 #![warn(missing_docs)]
 
 mod archive;
+mod bits;
 mod event;
 mod refusal;
 
@@ -36,6 +37,7 @@ mod refusal;
 #[doc = include_str!("../../../docs/FROM-ZVARIANT.md")]
 struct FromZvariant;
 
+pub use bits::Bits;
 pub use event::{Event, EventList, Events, EVENT_NUMBERS};
 pub use refusal::Refusal;
 
@@ -176,6 +178,49 @@ pub fn write(signature: &str, order: Order, events: &EventList) -> Result<Vec<u8
 /// As [`write`]; 13 where the slice is too small for the frame.
 pub fn write_into(signature: &str, order: Order, events: &EventList, out: &mut [u8]) -> Result<usize, Refusal> {
     archive::write(signature.as_bytes(), order, &events.numbers, &events.texts, out)
+}
+
+/// Puts one reading of a frame anew, in its buffer: as nothing, or as a number.
+///
+/// The frame, at position 0, is the first `used` bytes of the buffer, and must be in the form that writing gives it. A reading is a maybe of
+/// `b y n q i u x t d`, wherever it stands; `number` counts them from 0 in the order of reading. Afterwards `used` is the new frame's length. Nothing in
+/// front of the reading is written. Where the frame became shorter, zeros stand between the new length and the old one; beyond both the
+/// buffer is as it was.
+///
+/// ```
+/// use bogtassel::{edit, Order, Refusal};
+///
+/// let mut buffer = [0xd7, 0x00, 0x00, 0x00, 0x02, 0x02, 0x04];
+/// let mut used = buffer.len();
+/// edit("amn", Order::Little, &mut buffer, &mut used, 0, None)?;
+/// assert_eq!(buffer[..used], [0x00, 0x00, 0x00, 0x00, 0x02]);
+/// edit("amn", Order::Little, &mut buffer, &mut used, 2, Some((-5_i16).into()))?;
+/// assert_eq!(buffer[..used], [0xfb, 0xff, 0x00, 0x00, 0x02]);
+/// assert_eq!(edit("amn", Order::Little, &mut buffer, &mut used, 3, None), Err(Refusal::NoReading));
+/// # Ok::<(), Refusal>(())
+/// ```
+///
+/// # Errors
+/// 1; 2 where `used` is over the buffer or over 65,536; 3 to 12 where the frame does not read; 15 where it reads and is not in that form; 16 where there is
+/// no such reading; 17 where the bits are no value of its type; 12 where a nothing inside 64 containers would become present; 2 where the new frame
+/// is over 65,536 bytes; 13 where it is over the buffer. Buffer and `used` are then as they were.
+pub fn edit(
+    signature: &str,
+    order: Order,
+    buffer: &mut [u8],
+    used: &mut usize,
+    number: usize,
+    new: Option<Bits>,
+) -> Result<(), Refusal> {
+    *used = archive::edit(
+        signature.as_bytes(),
+        order,
+        buffer,
+        *used,
+        number,
+        new.map(|bits| bits.0),
+    )?;
+    Ok(())
 }
 
 /// Whether a frame, at position 0, is in the form that writing gives it.

@@ -7,13 +7,13 @@
  * and little-endian, of the events the number of their 64-bit numbers; then each of them, in this order.
  *
  * For each question paint prints the number of events that reading finds, and then for bogtassel_size, bogtassel_read and
- * bogtassel_is_written on the frame, and bogtassel_write on the events, `REFUSAL BYTES`: what it returned, and the bytes of stack. Each call
- * runs on a stack of its own, of which every byte was painted. The deepest byte that is no longer paint is as deep as the call wrote. This is
+ * bogtassel_is_written on the frame, bogtassel_write on the events, and bogtassel_edit on the frame, whose first reading is put as 1, `REFUSAL BYTES`:
+ * what it returned, and the bytes of stack. Each call runs on a stack of its own, of which every byte was painted. The deepest byte that is no longer paint is as deep as the call wrote. This is
  * done with two colours, since a call may write the one that stands there. From it goes what a call of an empty function with the same
  * parameters takes: so what the caller lays down, the parameters and the return address, is not counted.
  *
- * thread runs all calls of each question in a thread whose stack has 128 KiB, and prints the number of events. A stack that does not do
- * kills the program.
+ * thread runs all calls of each question in a thread whose stack has 128 KiB, that of bogtassel_edit 192, and prints the number of events. A stack
+ * that does not do kills the program.
  */
 #define _GNU_SOURCE
 #include "bogtassel.h"
@@ -23,7 +23,7 @@
 #include <sys/mman.h>
 #include <ucontext.h>
 
-enum { STACK = 512 << 10, PAGE = 4096, THREAD_STACK = 128 << 10 };
+enum { STACK = 512 << 10, PAGE = 4096, THREAD_STACK = 128 << 10, EDIT_STACK = 192 << 10, SPARE = 16 };
 
 struct asked {
     unsigned char *type;
@@ -41,10 +41,15 @@ struct asked {
 
 static unsigned char written[BOGTASSEL_LIMIT];
 
+/* The buffer that is edited: the frame, which is put there before each call, and some spare bytes. */
+static unsigned char buffer[BOGTASSEL_LIMIT + SPARE];
+
 typedef uint8_t size_function(const uint8_t *, size_t, bool, size_t, const uint8_t *, size_t, size_t *, size_t *);
 typedef uint8_t read_function(const uint8_t *, size_t, bool, size_t, const uint8_t *, size_t, uint64_t *, size_t, size_t *, size_t *);
 typedef uint8_t strict_function(const uint8_t *, size_t, bool, const uint8_t *, size_t);
 typedef uint8_t write_function(const uint8_t *, size_t, bool, const uint64_t *, size_t, const uint8_t *, size_t, uint8_t *, size_t, size_t *);
+
+typedef uint8_t edit_function(const uint8_t *, size_t, bool, uint8_t *, size_t, size_t, size_t, bool, uint64_t, size_t *);
 
 static uint8_t empty_size(const uint8_t *type, size_t type_length, bool big_endian, size_t position, const uint8_t *frame,
                           size_t length, size_t *used, size_t *count) {
@@ -71,11 +76,18 @@ static uint8_t empty_write(const uint8_t *type, size_t type_length, bool big_end
     return 0;
 }
 
+static uint8_t empty_edit(const uint8_t *type, size_t type_length, bool big_endian, uint8_t *frame, size_t room, size_t used, size_t number,
+                          bool present, uint64_t bits, size_t *length) {
+    (void)type, (void)type_length, (void)big_endian, (void)frame, (void)room, (void)used, (void)number, (void)present, (void)bits, (void)length;
+    return 0;
+}
+
 /* What the calls below call; volatile, so that the compiler does not look into it. */
 static size_function *volatile size_target;
 static read_function *volatile read_target;
 static strict_function *volatile strict_target;
 static write_function *volatile write_target;
+static edit_function *volatile edit_target;
 
 static uint8_t call_size(struct asked *q) {
     static size_t used;
@@ -99,20 +111,36 @@ static uint8_t call_write(struct asked *q) {
     return write_target(q->type, q->type_length, false, q->events, q->numbers, q->texts, q->texts_length, written, sizeof written, &length);
 }
 
+static uint8_t call_edit(struct asked *q) {
+    static size_t length;
+
+    return edit_target(q->type, q->type_length, false, buffer, q->length + SPARE, q->length, 0, true, 1, &length);
+}
+
+static void put_frame(const struct asked *q) {
+    memcpy(buffer, q->frame, q->length < BOGTASSEL_LIMIT ? q->length : BOGTASSEL_LIMIT);
+}
+
 static void aim(bool empty) {
     size_target = empty ? empty_size : bogtassel_size;
     read_target = empty ? empty_read : bogtassel_read;
     strict_target = empty ? empty_strict : bogtassel_is_written;
     write_target = empty ? empty_write : bogtassel_write;
+    edit_target = empty ? empty_edit : bogtassel_edit;
 }
 
-/* One call, its answer, and what its empty function takes. */
+/* One call, the stack of its thread, its answer, and what its empty function takes. */
 static struct call {
     uint8_t (*function)(struct asked *q);
+    size_t thread_stack;
     struct asked *asked;
     uint8_t refusal;
     size_t bare;
-} calls[] = {{call_size, NULL, 0, 0}, {call_read, NULL, 0, 0}, {call_strict, NULL, 0, 0}, {call_write, NULL, 0, 0}};
+} calls[] = {{call_size, THREAD_STACK, NULL, 0, 0},
+             {call_read, THREAD_STACK, NULL, 0, 0},
+             {call_strict, THREAD_STACK, NULL, 0, 0},
+             {call_write, THREAD_STACK, NULL, 0, 0},
+             {call_edit, EDIT_STACK, NULL, 0, 0}};
 
 enum { SIZE, READ, CALLS = sizeof calls / sizeof *calls };
 
@@ -147,6 +175,7 @@ static size_t depth_in(struct call *call, unsigned char *stack, unsigned char co
     static ucontext_t here, there;
 
     memset(stack, colour, STACK);
+    put_frame(call->asked);
     if (getcontext(&there) != 0) {
         give_up("getcontext");
     }
@@ -186,9 +215,10 @@ static void run_small(struct call *call) {
     pthread_attr_t attributes;
     pthread_t thread;
 
-    if (pthread_attr_init(&attributes) != 0 || pthread_attr_setstacksize(&attributes, THREAD_STACK) != 0 ||
+    put_frame(call->asked);
+    if (pthread_attr_init(&attributes) != 0 || pthread_attr_setstacksize(&attributes, call->thread_stack) != 0 ||
         pthread_create(&thread, &attributes, make_in_thread, call) != 0 || pthread_join(thread, NULL) != 0) {
-        give_up("a thread of 128 KiB");
+        give_up("a thread of a small stack");
     }
     pthread_attr_destroy(&attributes);
 }

@@ -3,14 +3,14 @@
 
 Usage: bench/stack.py WORD..      (they run the program of bench/stack.c)
 
-A case is a frame, for size, read and is_written, and the events of the same value, for write. They are made by the oracle's writer and by its
-maker of events. The hunt is random, and the same in each run. For each call it tries
+A case is a frame, for size, read, is_written and edit, which puts its first reading as 1, and the events of the same value, for write. They are
+made by the oracle's writer and by its maker of events. The hunt is random, and the same in each run. For each call it tries
 
 - every sequence of one, two or three kinds of containers, again and again until the limits are reached;
 - in the deepest of those a variant, within the limits or one beyond them, whose type has 255 characters: each shape;
 - the deepest of those with containers changed, for some rounds.
 
-Ends with 0 exactly if every case, of the table and of the hunts, runs in a thread whose stack has 128 KiB.
+Ends with 0 exactly if every case, of the table and of the hunts, runs in a thread whose stack has 128 KiB, and edit in one of 192 KiB.
 """
 import itertools
 import random
@@ -22,13 +22,15 @@ from collections import namedtuple
 
 sys.dont_write_bytecode = True
 from frames import counted, gen, tree_of  # noqa: E402
+import model  # noqa: E402
 import values  # noqa: E402
 
 Case = namedtuple("Case", "name type data refusal events numbers texts")
 Seen = namedtuple("Seen", "case events refusals bytes")
 
-CALLS = ("size", "read", "is_written", "write")
-HUNTED = ("read", "is_written", "write")        # size takes what read does
+CALLS = ("size", "read", "is_written", "write", "edit")
+HUNTED = ("read", "is_written", "write", "edit")        # size takes what read does
+SPARE = 16              # bytes behind the frame that edit is lent
 KINDS = {"a": "array", "m": "maybe", "(": "structure", "v": "variant", "{": "dictionary by texts", "[": "dictionary by numbers"}
 LONGEST = 255           # characters of a type
 KEPT, TRIED, ROUNDS, SHOWN = 12, 60, 12, 8
@@ -106,6 +108,10 @@ def many(count, what, text, value):
 DEEP_ARRAY = (tree_of("a" * 254 + "y"), [])
 
 
+# What edit changes.
+READING, MISSING = (("m", "n"), (5,)), (("m", "n"), None)
+
+
 def least(tree):
     """A value of a type with as little in it as can be."""
     if isinstance(tree, str):
@@ -141,6 +147,7 @@ def table():
         case("a text of 65,536 bytes, 3 a character", "s", "\u20ac".encode() * 21845),
         case("250 fields of y", tree_of("(" + "y" * 250 + ")"), (7,) * 250),
         case("250 fields of s", tree_of("(" + "s" * 250 + ")"), (b"text",) * 250),
+        many(16000, "readings in an array", "amn", [(5,)]),
         nested("64 maybes", "m" * 64),
         nested("64 variants", "v" * 64),
         nested("32 structures, each in an array", "a(" * 32),
@@ -155,6 +162,10 @@ def table():
         nested("31 structures, each around a dictionary; a variant; 126 brackets in an array of none", "({" * 31 + "v", deep_brackets),
         nested("31 structures and 32 dictionaries; a variant; 254 maybes of nothing", "({" * 31 + "{v", deep_maybe),
         typed("31 structures and 32 dictionaries; a variant's type of 255 brackets that open", "({" * 31 + "{", "(" * LONGEST, 9),
+        nested("63 variants around a reading", "v" * 63, READING),
+        nested("64 variants around a missing reading", "v" * 64, MISSING),
+        nested("32 dictionaries, each in a structure, and in them a missing reading", "({" * 32, MISSING),
+        nested("31 dictionaries, each in a variant, and a reading", "v{" * 31, READING),
         nested("65 maybes", "m" * 65, refusal=12),
         nested("65 variants", "v" * 65, refusal=12),
         nested("127 brackets, a byte", "(" * 127, refusal=10),
@@ -212,7 +223,8 @@ def hunted(kinds, inside):
     return typed("`%s`, then a variant of the type `%s`" % (short(kinds), short(inside)), kinds, inside)
 
 
-LEAVES = {"a byte": ("y", 5), "a number": ("t", 5), "a text": ("s", b"text"), "a nothing": (tree_of("ms"), None)}
+LEAVES = {"a byte": ("y", 5), "a number": ("t", 5), "a text": ("s", b"text"), "a nothing": (tree_of("ms"), None), "a reading": READING,
+          "a missing reading": MISSING}
 
 
 def changed(rng, kinds, inside, insides):
@@ -239,7 +251,8 @@ def hunt(words, call):
         tried.update(zip(new, painted(words, [hunted(*pair) for pair in new]), strict=True))
         return sorted(tried, key=lambda pair: -tried[pair].bytes[call])[:KEPT]
 
-    best = try_all((again(word, 64), leaf) for word in words_of(KINDS, 3) for leaf in ("a byte", "a text"))
+    leaves = ("a reading", "a missing reading") if call == "edit" else ("a byte", "a text")
+    best = try_all((again(word, 64), leaf) for word in words_of(KINDS, 3) for leaf in leaves)
     best = try_all((kinds[:count], inside) for kinds, _ in best for count in (62, 63, 64) for inside in [*LEAVES, *insides])
     for _ in range(ROUNDS):
         best = try_all([changed(rng, *rng.choice(best), insides) for _ in range(TRIED)])
@@ -254,9 +267,12 @@ def bare(words):
 
 
 def one_more(words, kind):
-    """What the twentieth container of a kind in one another adds to each call."""
-    fewer, more = painted(words, [hunted(kind * count, "a text") for count in (19, 20)])
-    return [more.bytes[call] - fewer.bytes[call] for call in CALLS]
+    """What the twentieth container of a kind in one another adds to each call: around a text, for edit around a reading."""
+    added = []
+    for leaf in ("a text", "a reading"):
+        fewer, more = painted(words, [hunted(kind * count, leaf) for count in (19, 20)])
+        added.append([more.bytes[call] - fewer.bytes[call] for call in CALLS])
+    return [added[call == "edit"][place] for place, call in enumerate(CALLS)]
 
 
 # What is printed.
@@ -276,7 +292,7 @@ def print_one_more(words):
 
 def print_table(title, seen, deep):
     print("## %s\n" % title)
-    print("| Case | bytes | events | refusal | " + " | ".join(CALLS) + " | in 128 KiB |")
+    print("| Case | bytes | events | refusal | " + " | ".join(CALLS) + " | in its thread |")
     print("|---|---:|---:|---:|" + "---:|" * len(CALLS) + "---|")
     for place, one in enumerate(seen):
         refusals = "/".join(map(str, dict.fromkeys(one.refusals)))
@@ -292,9 +308,15 @@ def one_of_each_depth(found, call):
     return list(first.values())
 
 
+def edit_refusal(case):
+    """What edit answers, by the model; it knows no refusal of a frame that does not read, and there it is the case's."""
+    refusal = model.edit(case.type, "little", case.data + bytes(SPARE), len(case.data), 0, (1,))[0]
+    return case.refusal if refusal == "other" else refusal
+
+
 def check_known(known):
     for one in known:
-        if set(one.refusals) != {one.case.refusal} or one.events != one.case.events:
+        if set(one.refusals[:-1]) != {one.case.refusal} or one.refusals[-1] != edit_refusal(one.case) or one.events != one.case.events:
             sys.exit("bench/stack.py: %s: refusals %s, %d events" % (one.case.name, one.refusals, one.events))
 
 
@@ -315,7 +337,8 @@ def main():
         seen += found
     every = every and not deep
     print("The most: " + ", ".join("%s %s" % (call, format(max(one.bytes[call] for one in seen), ",")) for call in CALLS) + " bytes.")
-    print("Every case, those of the hunts that are not shown too, runs in 128 KiB." if every else "Not every case runs in 128 KiB.")
+    print("Every case, those of the hunts that are not shown too, runs in 128 KiB, and edit in 192 KiB." if every else
+          "Not every case runs in 128 KiB, and edit in 192 KiB.")
     return 0 if every else 1
 
 

@@ -6,6 +6,7 @@ pub mod StartLaws
 pub mod Values
 pub mod Arrays
 pub mod Items
+pub mod ReadingsLaws
 pub mod Entries
 pub mod Structures
 pub mod Variants

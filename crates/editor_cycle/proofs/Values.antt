@@ -117,13 +117,13 @@ module _ (signature : List ℕ) (at : ℕ) (d : ContainerDepths) (t : Typed sign
 -- ---- a maybe
 
 -- what a reading's maybe holds, by its letter
-record SlotAt (u : Tree) (k : Letter) : Type 0 where
-  slot : Slot u
-  is : slotOf u ≡ some slot
-  kind : k ≡ basicKind (slotType slot)
+pub record SlotAt (u : Tree) (k : Letter) : Type 0 where
+  pub slot : Slot u
+  pub is : slotOf u ≡ some slot
+  pub kind : k ≡ basicKind (slotType slot)
 
 module _ (sig : List ℕ) (at : ℕ) (k : Letter) (t : Typed sig at) (e : k ≡ letterAt sig at) where
-  slot-there : isSlot k ≡ true → SlotAt (treeAt sig at) k
+  pub slot-there : isSlot k ≡ true → SlotAt (treeAt sig at) k
   slot-there h = go (treeAt sig at) (shown sig at _ _ (t .found))
     where
       no : {A : Type 0} (x : Letter) → letterAt sig at ≡ x → isSlot x ≡ false → A
@@ -170,11 +170,11 @@ module _ {text tables : List ℕ} {s : Shape} (p : Placed text tables s) (e : le
   abbrev inner : Tree
   inner = treeAt text (c .at)
 
-  tree-is : treeAt text (s .at) ≡ maybe inner
+  pub tree-is : treeAt text (s .at) ≡ maybe inner
   tree-is = maybe-tree text (s .at) (p .shape .typed) e ∙ ap (λ (i : ℕ). maybe (treeAt text i)) (sym held-at)
 
   module _ (big : Bool) (n : ℕ) where
-    maybe-editor : (o : Option (Slot inner)) → slotOf inner ≡ o → editorOf big n (treeAt text (s .at)) ≡ maybeEditor big o (alignment inner) (fixed inner) (editorOf big n inner)
+    pub maybe-editor : (o : Option (Slot inner)) → slotOf inner ≡ o → editorOf big n (treeAt text (s .at)) ≡ maybeEditor big o (alignment inner) (fixed inner) (editorOf big n inner)
     maybe-editor o h = ap (editorOf big n) tree-is ∙ editor-maybe big n inner ∙ ap (λ (z : Option (Slot inner)). maybeEditor big z (alignment inner) (fixed inner) (editorOf big n inner)) h
 
   kind-is : c .kind ≡ letterAt text (c .at)

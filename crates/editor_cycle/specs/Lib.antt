@@ -2,3 +2,4 @@ pub mod Walks
 pub mod Slots
 pub mod Closing
 pub mod Starts
+pub mod ReadingArrays

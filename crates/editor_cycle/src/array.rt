@@ -4,6 +4,8 @@ use crate::answers::Walked;
 use crate::answers::counted;
 use crate::closing::close_element;
 use crate::dictionary::step;
+use crate::reading::is_slot;
+use crate::readings::readings;
 use crate::starts::elements_of;
 use container_depths::ContainerDepths;
 use editor_basic::elements::behind;
@@ -40,6 +42,10 @@ pub(crate) fn array(
     }
     let raised = d.inc_array();
     let deeper = raised.depths;
+    let kind = item.number;
+    if is_slot(kind) {
+        return readings(kind, item.alignment, part, place, number, aim, deeper, out);
+    }
     elements(text, tables, item, part, place, number, aim, deeper, out)
 }
 

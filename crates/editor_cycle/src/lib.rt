@@ -7,6 +7,7 @@ mod closing;
 mod dictionary;
 mod maybe;
 mod reading;
+mod readings;
 mod starts;
 mod structure;
 mod variant;

@@ -6,6 +6,7 @@ use crate::closing::close_variant;
 use crate::value;
 use container_depths::ContainerDepths;
 use reader_basic::basic::separator;
+use signature::Letter;
 use signature::shapes::shape_in;
 use strict_basic::sizes::TABLE;
 use strict_basic::sizes::tables_of;
@@ -34,16 +35,26 @@ pub(crate) fn variant(
         return counted(0);
     }
     let shape = shape_in(signature, &tables, 0);
-    let walked = value(
-        signature,
-        &tables,
-        shape,
-        &part[..end],
-        place,
-        number,
-        aim,
-        deeper,
-        out,
-    );
-    close_variant(walked, place, signature, out)
+    let held = &part[..end];
+    let kind = shape.kind;
+    match kind {
+        Letter::Variant => {
+            let walked = variant(held, place, number, aim, deeper, out);
+            close_variant(walked, place, signature, out)
+        }
+        _ => {
+            let walked = value(
+                signature,
+                &tables,
+                shape,
+                held,
+                place,
+                number,
+                aim,
+                deeper,
+                out,
+            );
+            close_variant(walked, place, signature, out)
+        }
+    }
 }

@@ -1,10 +1,11 @@
 -- The needs of `variant·variant`, and what answers each.
 use Prim.Native.Nat.{ℕ}
+use Rattle.editor_cycle.proofs.Values.{value-variant, variant-ready}
 use Rattle.editor_cycle.proofs.Variants.{front-placed, separator-positive, signature-short, typed-ready, variant-closed, variant-deeper, variant-fits, variant-untyped}
 use Rattle.editor_cycle.proofs.WalkLaws.{counts}
 use Rattle.reader_basic.proofs.Answers.{denied, granted}
 use Rattle.reader_basic.proofs.Loops.{tail}
-use Rattle.signature.proofs.TreeLaws.{front}
+use Rattle.signature.proofs.TreeLaws.{described-kind, front}
 use Rattle.signature.specs.declared.shapes.Shape.{Shape}
 use borrow.Author.Needs.{needs}
 use lib.ListN.{length-take}
@@ -12,7 +13,7 @@ use mathlib.Core.Path.{_∙_, ap, refl, sym}
 use native.Mathlib.Omega.{arith}
 use Rattle.editor_cycle.proofs as of
 use Rattle.editor_cycle.proofs.+array-array+array-elements+dictionary-step+maybe-maybe+structure-fields+structure-structure+value+variant-variant as cycle
-use cycle.Proof.Measures.{value-below, variant·variant-at}
+use cycle.Proof.Measures.{value-below, variant·variant-at, variant·variant-below}
 use Rattle.container_depths.proofs.ContainerDepths.inc_variant.Reads as inc-variant-reads
 use cycle.Lts-variant-variant as variant·variant-lts
 use of.answers.counted.Reads as counted-reads
@@ -35,10 +36,12 @@ variant·variant-callees t = (
   counted-reads.Learnt,
   shape-in-reads.Asked,
   shape-in-reads.Learnt,
-  value-below t,
-  value.Post,
+  variant·variant-below t,
+  variant·variant.Post,
   close-variant-reads.Asked,
   close-variant-reads.Learnt,
+  value-below t,
+  value.Post,
 )
 
 variant·variant-separator-requires : (t : ℕ) → variant·variant-lts.Need-separator-requires (variant·variant-callees t) (variant·variant-at t) variant·variant.Post
@@ -87,17 +90,60 @@ variant·variant-slice-aggregate-shape-in t c = search needs
 variant·variant-shape-in-requires : (t : ℕ) → variant·variant-lts.Need-shape-in-requires (variant·variant-callees t) (variant·variant-at t) variant·variant.Post
 variant·variant-shape-in-requires t c κs = search needs
 
+variant·variant-slice-aggregate-held : (t : ℕ) → variant·variant-lts.Need-slice-aggregate-held (variant·variant-callees t) (variant·variant-at t) variant·variant.Post
+variant·variant-slice-aggregate-held t c =
+    simp length-take (omega (arith, c .before .before .before .before .before .before .before .before .before .before .separator .ensures .1))
+
+variant·variant-enum-told : (t : ℕ) → variant·variant-lts.Need-enum-told (variant·variant-callees t) (variant·variant-at t) variant·variant.Post
+variant·variant-enum-told t c = search needs
+
+variant·variant-variant-requires : (t : ℕ) → variant·variant-lts.Need-variant-requires (variant·variant-callees t) (variant·variant-at t) variant·variant.Post
+variant·variant-variant-requires t c κs =
+    let at-enum-told = c .before in
+    let at-shape-in = c .before .before .before .before in
+    let at-if1 = c .before .before .before .before .before .before in
+    let at-tables-of = c .before .before .before .before .before .before .before .before in
+    let at-inc-variant = c .before .before .before .before .before .before .before .before .before .before .before .before in
+    let at-separator = c .before .before .before .before .before .before .before .before .before .before .before .before .before in
+    let start = c .before .before .before .before .before .before .before .before .before .before .before .before .before .before .before .before in
+    let placed = front-placed _ _ (at-tables-of .tables-of .ensures .filled (granted (at-if1 .if1 .left))) (front _ (sym (at-tables-of .tables-of .ensures .judged) ∙ granted (at-if1 .if1 .left))) _ (at-shape-in .shape-in .ensures) in
+    let letter = sym (described-kind (placed .shape)) ∙ at-enum-told .enum-told .given .1 in (
+      omega (
+        arith,
+        variant-deeper (start .args .d) (start .args .place) (start .args .part .now) (start .pre .1) (at-separator .separator .result) (at-separator .separator .ensures .0)
+            (at-inc-variant .inc-variant .result) (at-inc-variant .inc-variant .ensures) .falls,
+        start .pre .0,
+      ),
+      variant-ready _ _ _ (placed .shape .typed) letter (typed-ready (start .args .d) (start .args .place) (start .args .part .now) (start .pre .1) (at-separator .separator .result) (at-separator .separator .ensures .0)
+          (at-inc-variant .inc-variant .result) (at-inc-variant .inc-variant .ensures) _ (tail (at-separator .separator .result) (start .args .part .now)) (front _ (sym (at-tables-of .tables-of .ensures .judged) ∙ granted (at-if1 .if1 .left))) _
+          (ap (λ (x : Shape). x .at) (at-shape-in .shape-in .ensures)) _ refl (omega (arith, at-separator .separator .ensures .1))),
+    )
+
+variant·variant-close-variant-requires : (t : ℕ) → variant·variant-lts.Need-close-variant-requires (variant·variant-callees t) (variant·variant-at t) variant·variant.Post
+variant·variant-close-variant-requires t c κs =
+    let at-variant = c .before .before .before in
+    let at-enum-told = c .before .before .before .before .before in
+    let at-shape-in = c .before .before .before .before .before .before .before .before in
+    let at-if1 = c .before .before .before .before .before .before .before .before .before .before in
+    let at-tables-of = c .before .before .before .before .before .before .before .before .before .before .before .before in
+    let at-inc-variant = c .before .before .before .before .before .before .before .before .before .before .before .before .before .before .before .before in
+    let at-separator = c .before .before .before .before .before .before .before .before .before .before .before .before .before .before .before .before .before in
+    let start = c .before .before .before .before .before .before .before .before .before .before .before .before .before .before .before .before .before .before .before .before in
+    let placed = front-placed _ _ (at-tables-of .tables-of .ensures .filled (granted (at-if1 .if1 .left))) (front _ (sym (at-tables-of .tables-of .ensures .judged) ∙ granted (at-if1 .if1 .left))) _ (at-shape-in .shape-in .ensures) in
+    let letter = sym (described-kind (placed .shape)) ∙ at-enum-told .enum-told .given .1 in (
+      variant-fits (start .args .d) (start .args .place) (start .args .part .now) (start .pre .1) (at-separator .separator .result) (at-separator .separator .ensures .0)
+          (at-inc-variant .inc-variant .result) (at-inc-variant .inc-variant .ensures) _ (tail (at-separator .separator .result) (start .args .part .now)) (front _ (sym (at-tables-of .tables-of .ensures .judged) ∙ granted (at-if1 .if1 .left))) _
+          (ap (λ (x : Shape). x .at) (at-shape-in .shape-in .ensures)) _ refl
+          (start .args .aim .big) _ _ _ _ _ (value-variant _ _ _ (placed .shape .typed) letter _ _ _ _ _ _ _ _ _ (at-variant .variant .ensures)),
+      signature-short (at-separator .separator .result) (start .args .part .now) (start .pre .1),
+    )
+
 variant·variant-slice-aggregate-value : (t : ℕ) → variant·variant-lts.Need-slice-aggregate-value (variant·variant-callees t) (variant·variant-at t) variant·variant.Post
 variant·variant-slice-aggregate-value t c = search needs
 
-variant·variant-slice-aggregate-value-2 : (t : ℕ) → variant·variant-lts.Need-slice-aggregate-value-2 (variant·variant-callees t) (variant·variant-at t) variant·variant.Post
-variant·variant-slice-aggregate-value-2 t c =
-    let at-separator = c .before .before .before .before .before .before .before .before .before .before .before in
-    simp length-take (omega (arith, at-separator .separator .ensures .1))
-
 variant·variant-value-requires : (t : ℕ) → variant·variant-lts.Need-value-requires (variant·variant-callees t) (variant·variant-at t) variant·variant.Post
 variant·variant-value-requires t c κs =
-    let at-shape-in = c .before .before .before in
+    let at-shape-in = c .before .before .before .before in
     let at-if1 = at-shape-in .before .before in
     let at-tables-of = at-if1 .before .before in
     let at-inc-variant = at-tables-of .before .before .before .before in
@@ -120,10 +166,10 @@ variant·variant-value-requires t c κs =
       ),
     )
 
-variant·variant-close-variant-requires : (t : ℕ) → variant·variant-lts.Need-close-variant-requires (variant·variant-callees t) (variant·variant-at t) variant·variant.Post
-variant·variant-close-variant-requires t c κs =
+variant·variant-close-variant-requires-2 : (t : ℕ) → variant·variant-lts.Need-close-variant-requires-2 (variant·variant-callees t) (variant·variant-at t) variant·variant.Post
+variant·variant-close-variant-requires-2 t c κs =
     let at-value = c .before .before .before in
-    let at-shape-in = at-value .before .before .before .before in
+    let at-shape-in = at-value .before .before .before .before .before in
     let at-if1 = at-shape-in .before .before in
     let at-tables-of = at-if1 .before .before in
     let at-inc-variant = at-tables-of .before .before .before .before in
@@ -142,17 +188,38 @@ variant·variant-same-length t c = search needs
 variant·variant-returns-2 : (t : ℕ) → variant·variant-lts.Need-returns-2 (variant·variant-callees t) (variant·variant-at t) variant·variant.Post
 variant·variant-returns-2 t c =
     let at-close-variant = c .before .before in
-    let at-value = at-close-variant .before .before .before .before in
-    let at-shape-in = at-value .before .before .before .before in
-    let at-if1 = at-shape-in .before .before in
-    let at-tables-of = at-if1 .before .before in
-    let at-inc-variant = at-tables-of .before .before .before .before in
-    let at-separator = at-inc-variant .before in
-    let start = at-separator .before .before .before in
+    let at-variant = c .before .before .before .before .before .before in
+    let at-enum-told = c .before .before .before .before .before .before .before .before in
+    let at-shape-in = c .before .before .before .before .before .before .before .before .before .before .before in
+    let at-if1 = c .before .before .before .before .before .before .before .before .before .before .before .before .before in
+    let at-tables-of = c .before .before .before .before .before .before .before .before .before .before .before .before .before .before .before in
+    let at-inc-variant = c .before .before .before .before .before .before .before .before .before .before .before .before .before .before .before .before .before .before .before in
+    let at-separator = c .before .before .before .before .before .before .before .before .before .before .before .before .before .before .before .before .before .before .before .before in
+    let start = c .before .before .before .before .before .before .before .before .before .before .before .before .before .before .before .before .before .before .before .before .before .before .before in
+    let placed = front-placed _ _ (at-tables-of .tables-of .ensures .filled (granted (at-if1 .if1 .left))) (front _ (sym (at-tables-of .tables-of .ensures .judged) ∙ granted (at-if1 .if1 .left))) _ (at-shape-in .shape-in .ensures) in
+    let letter = sym (described-kind (placed .shape)) ∙ at-enum-told .enum-told .given .1 in
     variant-closed (start .args .d) (start .args .place) (start .args .part .now) (start .pre .1) (at-separator .separator .result) (at-separator .separator .ensures .0)
-    (at-inc-variant .inc-variant .result) (at-inc-variant .inc-variant .ensures) _ (tail (at-separator .separator .result) (start .args .part .now)) (front _ (sym
-    (at-tables-of .tables-of .ensures .judged) ∙ granted (at-if1 .if1 .left))) _ (ap (λ (x : Shape). x .at) (at-shape-in .shape-in .ensures)) _ refl
-    (start .args .aim .big) _ _ _ _ _ (at-value .value .ensures) _ _ (at-close-variant .close-variant .ensures)
+    (at-inc-variant .inc-variant .result) (at-inc-variant .inc-variant .ensures) _ (tail (at-separator .separator .result) (start .args .part .now)) (front _ (sym (at-tables-of .tables-of .ensures .judged) ∙ granted (at-if1 .if1 .left))) _
+    (ap (λ (x : Shape). x .at) (at-shape-in .shape-in .ensures)) _ refl
+    (start .args .aim .big) _ _ _ _ _ (value-variant _ _ _ (placed .shape .typed) letter _ _ _ _ _ _ _ _ _ (at-variant .variant .ensures)) _ _ (at-close-variant .close-variant .ensures)
+
+variant·variant-same-length-2 : (t : ℕ) → variant·variant-lts.Need-same-length-2 (variant·variant-callees t) (variant·variant-at t) variant·variant.Post
+variant·variant-same-length-2 t c = search needs
+
+variant·variant-returns-3 : (t : ℕ) → variant·variant-lts.Need-returns-3 (variant·variant-callees t) (variant·variant-at t) variant·variant.Post
+variant·variant-returns-3 t c =
+    let at-close-variant = c .before .before in
+    let at-value = c .before .before .before .before .before .before in
+    let at-shape-in = c .before .before .before .before .before .before .before .before .before .before .before in
+    let at-if1 = c .before .before .before .before .before .before .before .before .before .before .before .before .before in
+    let at-tables-of = c .before .before .before .before .before .before .before .before .before .before .before .before .before .before .before in
+    let at-inc-variant = c .before .before .before .before .before .before .before .before .before .before .before .before .before .before .before .before .before .before .before in
+    let at-separator = c .before .before .before .before .before .before .before .before .before .before .before .before .before .before .before .before .before .before .before .before in
+    let start = c .before .before .before .before .before .before .before .before .before .before .before .before .before .before .before .before .before .before .before .before .before .before .before in
+    variant-closed (start .args .d) (start .args .place) (start .args .part .now) (start .pre .1) (at-separator .separator .result) (at-separator .separator .ensures .0)
+    (at-inc-variant .inc-variant .result) (at-inc-variant .inc-variant .ensures) _ (tail (at-separator .separator .result) (start .args .part .now)) (front _ (sym (at-tables-of .tables-of .ensures .judged) ∙ granted (at-if1 .if1 .left))) _
+    (ap (λ (x : Shape). x .at) (at-shape-in .shape-in .ensures)) _ refl
+    (start .args .aim .big) _ _ _ _ _ (at-value .value .ensures) _ _ (at-close-variant .close-variant2 .ensures)
 
 pub variant·variant-spec : {M : Type 1} (t : ℕ) → variant·variant-lts.Closed (variant·variant-callees t) (variant·variant-at t) variant·variant.Post M
 variant·variant-spec t =
@@ -169,9 +236,14 @@ variant·variant-spec t =
     (variant·variant-returns t)
     (variant·variant-slice-aggregate-shape-in t)
     (variant·variant-shape-in-requires t)
-    (variant·variant-slice-aggregate-value t)
-    (variant·variant-slice-aggregate-value-2 t)
-    (variant·variant-value-requires t)
+    (variant·variant-slice-aggregate-held t)
+    (variant·variant-enum-told t)
+    (variant·variant-variant-requires t)
     (variant·variant-close-variant-requires t)
+    (variant·variant-slice-aggregate-value t)
+    (variant·variant-value-requires t)
+    (variant·variant-close-variant-requires-2 t)
     (variant·variant-same-length t)
     (variant·variant-returns-2 t)
+    (variant·variant-same-length-2 t)
+    (variant·variant-returns-3 t)

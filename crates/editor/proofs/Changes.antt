@@ -13,8 +13,6 @@ use Rattle.meaning.specs.Refusals.{overLimit, roomTooSmall, noValue}
 use Rattle.meaning.specs.Padding.{zeros}
 use Rattle.meaning.specs.Depths.{noneOpen}
 use Rattle.meaning.specs.Types.{Tree}
-use Rattle.meaning.specs.Reading.{reading}
-use Rattle.meaning.specs.Calls as Call
 use Rattle.meaning.specs.Values.{Value}
 use Rattle.meaning.specs.Written.{fits, piece, written}
 use Rattle.meaning.proofs.Tests.{to-test}
@@ -29,7 +27,6 @@ use Rattle.meaning_writing.proofs.EditedVariants.{count-is, spot-is, edited-is}
 use Rattle.meaning_writing.proofs.ChangedLaws.{change}
 use Rattle.meaning_writing.proofs.EditingLaws.{passed, edit-refusal}
 use Rattle.signature.specs.Trees.{treeAt}
-use Rattle.signature.proofs.TreeLaws.{front}
 use Rattle.editor_basic.specs.Puts.{over}
 use Rattle.editor_cycle.specs.Walks.{newOf, barred}
 use Rattle.editor_cycle.specs.declared.answers.Walked.{Walked}
@@ -37,6 +34,8 @@ use Rattle.editor.specs.Answers.{WrittenFrame, WalksFrame, Found, Changi
 use Rattle.editor.specs.declared.Target.{Target}
 use Rattle.editor.proofs.Edits.{Answers, changedFrame, refused-is, type-is, change-barred, changing-is}
 use Rattle.editor.proofs.Tails.{tail-put, new-put, not-shorter, shorter}
+
+-- ---- what is not barred spells a value
 
 not-barred : (s : Spot) (x : MaybeNumber) → barred s x ≡ 0 → T (spells (s .type) x)
 unfolding barred

@@ -3,7 +3,7 @@ use mathlib.Core.Path.{_≡_, refl, ap, sym, _∙_}
 use mathlib.Core.List.{List}
 use mathlib.Core.Option.{some}
 use mathlib.Core.Bool.{Bool, true, false}
-use Prim.Native.Nat.{ℕ, _-_, _≤_, _<_}
+use Prim.Native.Nat.{ℕ, _≤_, _<_}
 use native.Mathlib.Omega.{arith}
 use lib.Dec.{eqb}
 use lib.ListN.{length, take, getD, length-take}
@@ -16,15 +16,12 @@ use Rattle.meaning.specs.Types.{Tree}
 use Rattle.meaning.specs.TypeText.{typeOf}
 use Rattle.meaning.specs.Reading.{reading}
 use Rattle.meaning.specs.Calls as Call
-use Rattle.meaning.specs.Written.{written}
 use Rattle.meaning.proofs.NumberLaws.{Bytes}
 use Rattle.meaning_writing.specs.Strict.{isWritten}
-use Rattle.meaning_writing.specs.Readings.{MaybeNumber, Spot, spells, mayStand, changed}
+use Rattle.meaning_writing.specs.Readings.{MaybeNumber, Spot, spells, mayStand}
 use Rattle.meaning_writing.specs.Edited.{readingCount, readingSpot, editedFrame}
 use Rattle.meaning_writing.specs.Editing.{lengthRefusal, changeRefusal, refusalOf, editAnswer, edit, editBuffer}
 use Rattle.meaning_writing.proofs.Parts.{take-bytes, bytes-from}
-use Rattle.meaning_writing.proofs.EditedVariants.{count-is}
-use Rattle.meaning_writing.proofs.ChangedLaws.{change}
 use Rattle.meaning_writing.proofs.EditingLaws.{edit-refusal}
 use Rattle.meaning_writing.proofs.EditRefusals.{edit-refused, edit-untyped, edit-too-long, strict-first}
 use Rattle.signature.specs.Places.{isType}

@@ -10,6 +10,8 @@ use Rattle.meaning_writing.specs.Editing.{bufferWith}
 use Rattle.editor_basic.specs.Puts.{over}
 use Rattle.editor_basic.proofs.PutLaws.{over-fits}
 
+-- ---- a part of a buffer within a limit, and so its length
+
 pub part-short : (used : ℕ) (buffer : List ℕ) {most : ℕ} → used ≤ most → length (take used buffer) ≤ most
 part-short used buffer h = let n = length-take used buffer in omega arith
 

@@ -8,7 +8,7 @@ use Rattle.meaning.specs.Depths.{noneOpen}
 use Rattle.meaning.specs.Limits.{largestFrame, mostVariants}
 use Rattle.meaning_writing.specs.Strict.{isWritten}
 use Rattle.meaning_writing.specs.Readings.{MaybeNumber}
-use Rattle.meaning_writing.specs.Edited.{Editor, editorOf, readingCount, readingSpot, editedFrame}
+use Rattle.meaning_writing.specs.Edited.{editorOf, readingCount, readingSpot, editedFrame}
 use Rattle.meaning_writing.specs.Editing.{lengthRefusal, EditAnswer, editAnswer, edit, editBuffer}
 use Rattle.container_depths.specs.declared.ContainerDepths.{ContainerDepths}
 use Rattle.signature.specs.Places.{isType}

@@ -71,8 +71,8 @@ extern "C" {
 enum bogtassel_refusal {
     BOGTASSEL_DONE = 0,             /* no refusal: the frame was read, or written, or edited, or is a written form */
     BOGTASSEL_TYPE = 1,             /* the type text is no single complete type, or is over 255 characters */
-    BOGTASSEL_LIMITS = 2,           /* the frame, old or new, has more than 65,536 bytes, or the position is past 65,536; editing: or
-                                       `used` is over the buffer's length */
+    BOGTASSEL_LIMITS = 2,           /* the frame, old or new, has more than 65,536 bytes, or the position is past 65,536;
+                                       editing: or `used` is over the buffer's length */
     BOGTASSEL_BOUNDS = 3,           /* a value, an offset or padding runs past the bytes that it has */
     BOGTASSEL_PADDING = 4,          /* a padding byte is not 0 */
     BOGTASSEL_NUL = 5,              /* a nul inside a text; in a text that is to be written, also at its end */
@@ -83,7 +83,8 @@ enum bogtassel_refusal {
     BOGTASSEL_STRUCTURE_DEPTH = 10, /* more than 32 structures in one another */
     BOGTASSEL_ARRAY_DEPTH = 11,     /* more than 32 arrays or dictionaries in one another */
     BOGTASSEL_DEPTH = 12,           /* more than 64 containers in one another; editing: there would be, with the reading present */
-    BOGTASSEL_ROOM = 13,            /* `out` is too short: for all events, 3 numbers each, or for the frame; or `buffer`, for the new frame */
+    BOGTASSEL_ROOM = 13,            /* `out` is too short: for all events, 3 numbers each, or for the frame; editing: `buffer`
+                                       is, for the new frame */
     BOGTASSEL_OFFSET = 14,          /* a table of offsets has no further offset */
     BOGTASSEL_NOT_WRITTEN = 15,     /* the frame reads, but is not the form that writing gives its value */
     BOGTASSEL_NO_READING = 16,      /* editing: the frame has no reading of that number */

@@ -6,7 +6,17 @@
 #include "bogtassel.h"
 
 #include <stdio.h>
+#include <stdlib.h>
 #include <string.h>
+
+/* A copy in a block of its own, of just this length, so that valgrind sees a byte read or written beside it. */
+static void *heap(const void *from, size_t length) {
+    void *const copy = malloc(length);
+
+    if (copy == NULL) exit(3);
+    if (length) memcpy(copy, from, length);
+    return copy;
+}
 
 enum { ROOM = 64, SPARE = 0x5A };
 
@@ -71,9 +81,13 @@ static bool spare(const uint64_t *numbers, size_t count) {
 
 static void ask_size(const struct question *question) {
     size_t used = 99, count = 99;
+    uint8_t *const type = heap(question->type, strlen(question->type));
+    uint8_t *const bytes = heap(question->bytes, question->length);
     const uint8_t refusal =
-        bogtassel_size((const uint8_t *)question->type, strlen(question->type), false, question->position,
-                       (const uint8_t *)question->bytes, question->length, &used, &count);
+        bogtassel_size(type, strlen(question->type), false, question->position, bytes, question->length, &used, &count);
+
+    free(type);
+    free(bytes);
 
     expect(refusal == question->refusal, question, 0, "the refusal of size");
     expect(used == question->used && count == question->count, question, 0, "the counts of size");
@@ -86,10 +100,19 @@ static void ask_read(const struct question *question, size_t length) {
     const bool done = question->refusal == BOGTASSEL_DONE && fits;
     const uint8_t expected = question->refusal == BOGTASSEL_DONE && !fits ? BOGTASSEL_ROOM : question->refusal;
     uint8_t refusal;
+    uint8_t *type, *bytes;
+    uint64_t *lent;
 
     memset(out, SPARE, sizeof out);
-    refusal = bogtassel_read((const uint8_t *)question->type, strlen(question->type), false, question->position,
-                             (const uint8_t *)question->bytes, question->length, out, length, &used, &count);
+    type = heap(question->type, strlen(question->type));
+    bytes = heap(question->bytes, question->length);
+    lent = heap(out, length * sizeof *out);
+    refusal = bogtassel_read(type, strlen(question->type), false, question->position, bytes, question->length, lent,
+                             length, &used, &count);
+    memcpy(out, lent, length * sizeof *out);
+    free(type);
+    free(bytes);
+    free(lent);
     expect(refusal == expected, question, length, "the refusal of read");
     expect(used == (done ? question->used : 0), question, length, "the bytes used of read");
     expect(count == (done ? question->count : 0), question, length, "the number of events of read");

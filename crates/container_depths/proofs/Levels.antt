@@ -1,10 +1,14 @@
 -- How many containers may still be opened: the number that falls as containers nest. Assumes nothing.
 use mathlib.Core.Path.{_≡_, refl, sym, ap, _∙_}
 use mathlib.Core.Bool.{Bool, true, false}
-use Prim.Native.Nat.{ℕ, _+_, _-_, _≤_}
+use mathlib.Core.List.{List}
+use Prim.Native.Nat.{ℕ, _+_, _-_, _≤_, _<_}
 use native.Mathlib.Omega.{arith}
 use lib.Dec.{ltb, eqb}
 use borrow.Author.Tests.{eq-eqb, ltb-false}
+use borrow.Fn.Kind.{PK}
+use borrow.Fn.Kinds.{In}
+use borrow.Fn.PlainCycle.{Measures, and, falls, is}
 use Rattle.meaning.specs.Choice.{pick}
 use Rattle.meaning.specs.Depths as Depth
 use Rattle.meaning.specs.Depths.{Depths, Opened, total, depthRefusal, opened}
@@ -31,6 +35,13 @@ total-opened Depth.maybe d = omega arith
 -- what is left of the depth
 abbrev pub level : ContainerDepths → ℕ
 level d = 64 - total (depthsOf d)
+
+-- of a function in a cycle of calls: what it is given at a measure, and what a call of it asks below one
+abbrev pub given : (n : ℕ) (ps : List (PK n)) → Measures n ps ℕ → In n ps → ℕ → In n ps
+given n ps μ P t = and n ps (is n ps μ t) P
+
+abbrev pub asked : (n : ℕ) (ps : List (PK n)) → Measures n ps ℕ → In n ps → ℕ → In n ps
+asked n ps μ P t = and n ps (falls n ps _<_ μ t) P
 
 -- of a container that may be opened
 module _ (x : Opened) (d : ContainerDepths) (r : Raised) (h : Raises (depthsOf d) (opened x (depthsOf d)) r) (z : r .refusal ≡ 0) where

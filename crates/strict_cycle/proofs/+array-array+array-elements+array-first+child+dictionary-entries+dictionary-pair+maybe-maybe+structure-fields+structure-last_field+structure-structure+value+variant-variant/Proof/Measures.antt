@@ -1,8 +1,8 @@
 -- What falls, for each member; what each is given at a measure t, and what a call of it asks below t.
-use Prim.Native.Nat.{_*_, _+_, _<_, ℕ}
-use Rattle.container_depths.proofs.Levels.{level}
+use Prim.Native.Nat.{_*_, _+_, ℕ}
+use Rattle.container_depths.proofs.Levels.{asked, given, level}
 use borrow.Fn.Kinds.{In}
-use borrow.Fn.PlainCycle.{Measures, and, falls, is}
+use borrow.Fn.PlainCycle.{Measures}
 use Rattle.strict_cycle.proofs as of
 use of.array.array.Kinds as array·array-kinds
 use of.array.array.Reads as array·array
@@ -78,78 +78,73 @@ abbrev pub μ-variant·variant : Measures 1 variant·variant-kinds.ps ℕ
     level (a .1 .0) * 16 + 2
 
 abbrev pub array·array-at : ℕ → In 3 array·array-kinds.ps
-array·array-at t = and 3 array·array-kinds.ps (is 3 array·array-kinds.ps μ-array·array t) array·array.Pre
+array·array-at = given 3 array·array-kinds.ps μ-array·array array·array.Pre
 
 abbrev pub array·array-below : ℕ → In 3 array·array-kinds.ps
-array·array-below t = and 3 array·array-kinds.ps (falls 3 array·array-kinds.ps _<_ μ-array·array t) array·array.Pre
+array·array-below = asked 3 array·array-kinds.ps μ-array·array array·array.Pre
 
 abbrev pub array·elements-at : ℕ → In 3 array·elements-kinds.ps
-array·elements-at t = and 3 array·elements-kinds.ps (is 3 array·elements-kinds.ps μ-array·elements t) array·elements.Pre
+array·elements-at = given 3 array·elements-kinds.ps μ-array·elements array·elements.Pre
 
 abbrev pub array·elements-below : ℕ → In 3 array·elements-kinds.ps
-array·elements-below t =
-    and 3 array·elements-kinds.ps (falls 3 array·elements-kinds.ps _<_ μ-array·elements t) array·elements.Pre
+array·elements-below = asked 3 array·elements-kinds.ps μ-array·elements array·elements.Pre
 
 abbrev pub array·first-at : ℕ → In 3 array·first-kinds.ps
-array·first-at t = and 3 array·first-kinds.ps (is 3 array·first-kinds.ps μ-array·first t) array·first.Pre
+array·first-at = given 3 array·first-kinds.ps μ-array·first array·first.Pre
 
 abbrev pub array·first-below : ℕ → In 3 array·first-kinds.ps
-array·first-below t = and 3 array·first-kinds.ps (falls 3 array·first-kinds.ps _<_ μ-array·first t) array·first.Pre
+array·first-below = asked 3 array·first-kinds.ps μ-array·first array·first.Pre
 
 abbrev pub child-at : ℕ → In 3 child-kinds.ps
-child-at t = and 3 child-kinds.ps (is 3 child-kinds.ps μ-child t) child.Pre
+child-at = given 3 child-kinds.ps μ-child child.Pre
 
 abbrev pub child-below : ℕ → In 3 child-kinds.ps
-child-below t = and 3 child-kinds.ps (falls 3 child-kinds.ps _<_ μ-child t) child.Pre
+child-below = asked 3 child-kinds.ps μ-child child.Pre
 
 abbrev pub dictionary·entries-at : ℕ → In 3 dictionary·entries-kinds.ps
-dictionary·entries-at t = and 3 dictionary·entries-kinds.ps (is 3 dictionary·entries-kinds.ps μ-dictionary·entries t) dictionary·entries.Pre
+dictionary·entries-at = given 3 dictionary·entries-kinds.ps μ-dictionary·entries dictionary·entries.Pre
 
 abbrev pub dictionary·entries-below : ℕ → In 3 dictionary·entries-kinds.ps
-dictionary·entries-below t =
-    and 3 dictionary·entries-kinds.ps (falls 3 dictionary·entries-kinds.ps _<_ μ-dictionary·entries t) dictionary·entries.Pre
+dictionary·entries-below = asked 3 dictionary·entries-kinds.ps μ-dictionary·entries dictionary·entries.Pre
 
 abbrev pub dictionary·pair-at : ℕ → In 3 dictionary·pair-kinds.ps
-dictionary·pair-at t = and 3 dictionary·pair-kinds.ps (is 3 dictionary·pair-kinds.ps μ-dictionary·pair t) dictionary·pair.Pre
+dictionary·pair-at = given 3 dictionary·pair-kinds.ps μ-dictionary·pair dictionary·pair.Pre
 
 abbrev pub dictionary·pair-below : ℕ → In 3 dictionary·pair-kinds.ps
-dictionary·pair-below t = and 3 dictionary·pair-kinds.ps (falls 3 dictionary·pair-kinds.ps _<_ μ-dictionary·pair t) dictionary·pair.Pre
+dictionary·pair-below = asked 3 dictionary·pair-kinds.ps μ-dictionary·pair dictionary·pair.Pre
 
 abbrev pub maybe·maybe-at : ℕ → In 3 maybe·maybe-kinds.ps
-maybe·maybe-at t = and 3 maybe·maybe-kinds.ps (is 3 maybe·maybe-kinds.ps μ-maybe·maybe t) maybe·maybe.Pre
+maybe·maybe-at = given 3 maybe·maybe-kinds.ps μ-maybe·maybe maybe·maybe.Pre
 
 abbrev pub maybe·maybe-below : ℕ → In 3 maybe·maybe-kinds.ps
-maybe·maybe-below t = and 3 maybe·maybe-kinds.ps (falls 3 maybe·maybe-kinds.ps _<_ μ-maybe·maybe t) maybe·maybe.Pre
+maybe·maybe-below = asked 3 maybe·maybe-kinds.ps μ-maybe·maybe maybe·maybe.Pre
 
 abbrev pub structure·fields-at : ℕ → In 3 structure·fields-kinds.ps
-structure·fields-at t = and 3 structure·fields-kinds.ps (is 3 structure·fields-kinds.ps μ-structure·fields t) structure·fields.Pre
+structure·fields-at = given 3 structure·fields-kinds.ps μ-structure·fields structure·fields.Pre
 
 abbrev pub structure·fields-below : ℕ → In 3 structure·fields-kinds.ps
-structure·fields-below t = and 3 structure·fields-kinds.ps (falls 3 structure·fields-kinds.ps _<_ μ-structure·fields t) structure·fields.Pre
+structure·fields-below = asked 3 structure·fields-kinds.ps μ-structure·fields structure·fields.Pre
 
 abbrev pub structure·last-field-at : ℕ → In 3 structure·last-field-kinds.ps
-structure·last-field-at t =
-    and 3 structure·last-field-kinds.ps (is 3 structure·last-field-kinds.ps μ-structure·last-field t) structure·last-field.Pre
+structure·last-field-at = given 3 structure·last-field-kinds.ps μ-structure·last-field structure·last-field.Pre
 
 abbrev pub structure·last-field-below : ℕ → In 3 structure·last-field-kinds.ps
-structure·last-field-below t =
-    and 3 structure·last-field-kinds.ps (falls 3 structure·last-field-kinds.ps _<_ μ-structure·last-field t) structure·last-field.Pre
+structure·last-field-below = asked 3 structure·last-field-kinds.ps μ-structure·last-field structure·last-field.Pre
 
 abbrev pub structure·structure-at : ℕ → In 3 structure·structure-kinds.ps
-structure·structure-at t = and 3 structure·structure-kinds.ps (is 3 structure·structure-kinds.ps μ-structure·structure t) structure·structure.Pre
+structure·structure-at = given 3 structure·structure-kinds.ps μ-structure·structure structure·structure.Pre
 
 abbrev pub structure·structure-below : ℕ → In 3 structure·structure-kinds.ps
-structure·structure-below t =
-    and 3 structure·structure-kinds.ps (falls 3 structure·structure-kinds.ps _<_ μ-structure·structure t) structure·structure.Pre
+structure·structure-below = asked 3 structure·structure-kinds.ps μ-structure·structure structure·structure.Pre
 
 abbrev pub value-at : ℕ → In 3 value-kinds.ps
-value-at t = and 3 value-kinds.ps (is 3 value-kinds.ps μ-value t) value.Pre
+value-at = given 3 value-kinds.ps μ-value value.Pre
 
 abbrev pub value-below : ℕ → In 3 value-kinds.ps
-value-below t = and 3 value-kinds.ps (falls 3 value-kinds.ps _<_ μ-value t) value.Pre
+value-below = asked 3 value-kinds.ps μ-value value.Pre
 
 abbrev pub variant·variant-at : ℕ → In 1 variant·variant-kinds.ps
-variant·variant-at t = and 1 variant·variant-kinds.ps (is 1 variant·variant-kinds.ps μ-variant·variant t) variant·variant.Pre
+variant·variant-at = given 1 variant·variant-kinds.ps μ-variant·variant variant·variant.Pre
 
 abbrev pub variant·variant-below : ℕ → In 1 variant·variant-kinds.ps
-variant·variant-below t = and 1 variant·variant-kinds.ps (falls 1 variant·variant-kinds.ps _<_ μ-variant·variant t) variant·variant.Pre
+variant·variant-below = asked 1 variant·variant-kinds.ps μ-variant·variant variant·variant.Pre

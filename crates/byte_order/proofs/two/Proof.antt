@@ -33,7 +33,12 @@ add-result c = search needs
 
 returns : tie.Need-returns
 returns c =
-    (first-high 1 (c .before .before .before .before .before .before .args .place) (c .before .before .before .before .before .before .args .part .now) (omega arith) (c .if1 .taken) (c .before .before .before .wide .ensures .0 ∙ sym (spelled-byte (c .before .before .before .before .before .before .args .big) (c .before .before .before .before .before .before .args .place) (c .before .before .before .before .before .before .args .part .now) (omega arith))) (c .before .wide2 .ensures .0 ∙ sym (spelled-byte (c .before .before .before .before .before .before .args .big) (c .before .before .before .before .before .before .args .place + 1) (c .before .before .before .before .before .before .args .part .now) (omega arith))), omega arith)
+    let at-wide2 = c .before in
+    let at-wide = at-wide2 .before .before in
+    let start = at-wide .before .before .before in
+    let one = at-wide .wide .ensures .0 ∙ sym (spelled-byte (start .args .big) (start .args .place) (start .args .part .now) (omega arith)) in
+    let other = at-wide2 .wide2 .ensures .0 ∙ sym (spelled-byte (start .args .big) (start .args .place + 1) (start .args .part .now) (omega arith)) in
+    (first-high 1 (start .args .place) (start .args .part .now) (omega arith) (c .if1 .taken) one other, omega arith)
 
 mul-result-2 : tie.Need-mul-result-2
 mul-result-2 c = search needs
@@ -43,7 +48,12 @@ add-result-2 c = search needs
 
 returns-2 : tie.Need-returns-2
 returns-2 c =
-    (first-low 1 (c .before .before .before .before .before .before .args .place) (c .before .before .before .before .before .before .args .part .now) (omega arith) (c .if1 .left) (c .before .before .before .wide .ensures .0 ∙ sym (spelled-byte (c .before .before .before .before .before .before .args .big) (c .before .before .before .before .before .before .args .place) (c .before .before .before .before .before .before .args .part .now) (omega arith))) (c .before .wide2 .ensures .0 ∙ sym (spelled-byte (c .before .before .before .before .before .before .args .big) (c .before .before .before .before .before .before .args .place + 1) (c .before .before .before .before .before .before .args .part .now) (omega arith))), omega arith)
+    let at-wide2 = c .before in
+    let at-wide = at-wide2 .before .before in
+    let start = at-wide .before .before .before in
+    let one = at-wide .wide .ensures .0 ∙ sym (spelled-byte (start .args .big) (start .args .place) (start .args .part .now) (omega arith)) in
+    let other = at-wide2 .wide2 .ensures .0 ∙ sym (spelled-byte (start .args .big) (start .args .place + 1) (start .args .part .now) (omega arith)) in
+    (first-low 1 (start .args .place) (start .args .part .now) (omega arith) (c .if1 .left) one other, omega arith)
 
 pub two-spec : {M : Type 1} → statement M
 two-spec =

@@ -40,7 +40,15 @@ mul-out : tie.Need-mul-out Inv-loop μ-loop
 mul-out c = let h = first-digit (c .before .before .before .before .before .loop .inv) (c .before .before .before .before .loop-test .taken) in let e = c .before .before .digit .ensures in omega arith
 
 add-out : tie.Need-add-out Inv-loop μ-loop
-add-out c = let h = first-digit (c .before .before .before .before .before .loop .inv) (c .before .before .before .before .loop-test .taken) in let k = second-digit (c .before .before .before .before .before .loop .inv) (c .before .before .before .before .loop-test .taken) in let e = c .before .before .digit .ensures in let f = c .digit2 .ensures in omega arith
+add-out c =
+    let at-digit = c .before .before in
+    let at-loop-test = at-digit .before .before in
+    let at-loop = at-loop-test .before in
+    let h = first-digit (at-loop .loop .inv) (at-loop-test .loop-test .taken) in
+    let k = second-digit (at-loop .loop .inv) (at-loop-test .loop-test .taken) in
+    let e = at-digit .digit .ensures in
+    let f = c .digit2 .ensures in
+    omega arith
 
 slice-write-out : tie.Need-slice-write-out Inv-loop μ-loop
 slice-write-out c = let h = (c .before .before .before .before .before .loop .inv) .kept in let k = c .before .before .before .before .before .before .before .before .pre in let t = c .before .before .before .before .loop-test .taken in omega arith

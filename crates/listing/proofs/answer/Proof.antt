@@ -28,13 +28,26 @@ refused-requires-3 : tie.Need-refused-requires-3
 refused-requires-3 c κs = search needs
 
 returns-3 : tie.Need-returns-3
-returns-3 c = c .refused3 .ensures ∙ answer-odd _ _ (c .before .before .before .before .before .before .front .ensures) (sym (c .before .before .before .before .before .judge .ensures) ∙ not-false _ (c .before .before .before .before .if1 .left)) (c .before .before .before .if2 .left) (c .before .if3 .taken)
+returns-3 c =
+    let at-if3 = c .before in
+    let at-if2 = at-if3 .before .before in
+    let at-if1 = at-if2 .before in
+    let at-judge = at-if1 .before in
+    let at-front = at-judge .before in
+    c .refused3 .ensures ∙ answer-odd _ _ (at-front .front .ensures) (sym (at-judge .judge .ensures) ∙ not-false _ (at-if1 .if1 .left)) (at-if2 .if2 .left) (at-if3 .if3 .taken)
 
 refused-requires-4 : tie.Need-refused-requires-4
 refused-requires-4 c κs = search needs
 
 returns-4 : tie.Need-returns-4
-returns-4 c = c .refused4 .ensures ∙ answer-long _ _ (c .before .before .before .before .before .before .before .front .ensures) (sym (c .before .before .before .before .before .before .judge .ensures) ∙ not-false _ (c .before .before .before .before .before .if1 .left)) (c .before .before .before .before .if2 .left) (c .before .before .if3 .left) (c .before .if4 .taken)
+returns-4 c =
+    let at-if4 = c .before in
+    let at-if3 = at-if4 .before in
+    let at-if2 = at-if3 .before .before in
+    let at-if1 = at-if2 .before in
+    let at-judge = at-if1 .before in
+    let at-front = at-judge .before in
+    c .refused4 .ensures ∙ answer-long _ _ (at-front .front .ensures) (sym (at-judge .judge .ensures) ∙ not-false _ (at-if1 .if1 .left)) (at-if2 .if2 .left) (at-if3 .if3 .left) (at-if4 .if4 .taken)
 
 front-requires-2 : tie.Need-front-requires-2
 front-requires-2 c κs = search needs
@@ -43,7 +56,15 @@ size-requires : tie.Need-size-requires
 size-requires c κs = search needs
 
 returns-5 : tie.Need-returns-5
-returns-5 c = c .size .ensures ∙ answer-size _ _ (c .before .before .before .before .before .before .before .before .before .front .ensures) _ (c .before .front2 .ensures) (sym (c .before .before .before .before .before .before .before .before .judge .ensures) ∙ not-false _ (c .before .before .before .before .before .before .before .if1 .left)) (c .before .before .before .before .before .before .if2 .left) (c .before .before .before .before .if3 .left) (c .before .before .before .if4 .left)
+returns-5 c =
+    let at-front2 = c .before in
+    let at-if4 = at-front2 .before .before in
+    let at-if3 = at-if4 .before in
+    let at-if2 = at-if3 .before .before in
+    let at-if1 = at-if2 .before in
+    let at-judge = at-if1 .before in
+    let at-front = at-judge .before in
+    c .size .ensures ∙ answer-size _ _ (at-front .front .ensures) _ (at-front2 .front2 .ensures) (sym (at-judge .judge .ensures) ∙ not-false _ (at-if1 .if1 .left)) (at-if2 .if2 .left) (at-if3 .if3 .left) (at-if4 .if4 .left)
 
 pub answer-spec : {M : Type 1} → statement M
 answer-spec =

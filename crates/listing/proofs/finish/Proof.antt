@@ -28,7 +28,13 @@ same-length : tie.Need-same-length
 same-length c = search needs
 
 returns-3 : tie.Need-returns-3
-returns-3 c = finishes _ _ _ (lineText (machine (c .before .before .before .before .before .before .before .before .args .state) (c .before .before .before .before .before .before .before .before .args .text .now) (c .before .before .before .before .before .before .before .before .args .frame .now))) _ (final-line _ _ (c .before .before .before .before .before .before .if1 .left) (sym (c .before .before .before .before .before .begun .ensures) ∙ not-false _ (c .before .before .before .before .if2 .left))) (le-trans (line-most _) (c .before .before .before .before .before .before .if1 .left)) (c .before .before .put-line .ensures)
+returns-3 c =
+    let at-put-line = c .before .before in
+    let at-if2 = at-put-line .before .before in
+    let at-begun = at-if2 .before in
+    let at-if1 = at-begun .before in
+    let start = at-if1 .before .before in
+    finishes _ _ _ (lineText (machine (start .args .state) (start .args .text .now) (start .args .frame .now))) _ (final-line _ _ (at-if1 .if1 .left) (sym (at-begun .begun .ensures) ∙ not-false _ (at-if2 .if2 .left))) (le-trans (line-most _) (at-if1 .if1 .left)) (at-put-line .put-line .ensures)
 
 pub finish-spec : {M : Type 1} → statement M
 finish-spec =

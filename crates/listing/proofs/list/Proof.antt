@@ -44,7 +44,12 @@ loop-less : tie.Need-loop-less Inv-loop μ-loop
 loop-less c = search needs
 
 loop-again : tie.Need-loop-again Inv-loop μ-loop
-loop-again c = going-next (c .before .before .before .before .before .before .before .before .before .before .before .before .loop .inv) _ _ _ _ (c .before .before .before .before .before .before .before .before .before .before .before .loop-test .taken) (c .before .before .before .before .before .before .before .before .before .before .if1 .left) refl (c .before .before .before .before .before .put-output .ensures) (c .step .ensures)
+loop-again c =
+    let at-put-output = c .before .before .before .before .before in
+    let at-if1 = at-put-output .before .before .before .before .before in
+    let at-loop-test = at-if1 .before in
+    let at-loop = at-loop-test .before in
+    going-next (at-loop .loop .inv) _ _ _ _ (at-loop-test .loop-test .taken) (at-if1 .if1 .left) refl (at-put-output .put-output .ensures) (c .step .ensures)
 
 same-length-2 : tie.Need-same-length-2 Inv-loop μ-loop
 same-length-2 c = c .before .loop .inv .kept

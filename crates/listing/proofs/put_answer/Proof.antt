@@ -23,7 +23,13 @@ same-length : tie.Need-same-length
 same-length c = search needs
 
 returns : tie.Need-returns
-returns c = puts-printed _ _ (c .before .before .before .before .before .before .before .before .before .before .before .before .before .before .before .before .before .before .pre) (c .before .before .before .before .before .before .before .before .before .before .before .before .before .before .before .put-decimal .ensures) (c .before .before .before .before .before .before .before .before .before .before .put-decimal2 .ensures) (c .before .before .before .before .before .before .put-decimal3 .ensures) (c .before .before .put-decimal4 .ensures)
+returns c =
+    let at-put-decimal4 = c .before .before in
+    let at-put-decimal3 = at-put-decimal4 .before .before .before .before in
+    let at-put-decimal2 = at-put-decimal3 .before .before .before .before in
+    let at-put-decimal = at-put-decimal2 .before .before .before .before .before in
+    let start = at-put-decimal .before .before .before in
+    puts-printed _ _ (start .pre) (at-put-decimal .put-decimal .ensures) (at-put-decimal2 .put-decimal2 .ensures) (at-put-decimal3 .put-decimal3 .ensures) (at-put-decimal4 .put-decimal4 .ensures)
 
 pub put-answer-spec : {M : Type 1} → statement M
 put-answer-spec =

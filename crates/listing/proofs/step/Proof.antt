@@ -38,7 +38,13 @@ keep-requires-2 : tie.Need-keep-requires-2
 keep-requires-2 c κs = search needs
 
 returns-5 : tie.Need-returns-5
-returns-5 c = step-second _ _ _ _ _ (c .before .before .before .before .before .before .before .before .before .if1 .left) (c .before .before .before .before .before .before .before .if2 .left) (c .before .before .before .before .before .before .digit .ensures .0) (c .before .before .before .before .before .if3 .left) (c .before .before .before .if4 .left) (search needs) (c .keep2 .ensures .0) (c .keep2 .ensures .1)
+returns-5 c =
+    let at-if4 = c .before .before .before in
+    let at-if3 = at-if4 .before .before in
+    let at-digit = at-if3 .before in
+    let at-if2 = at-digit .before in
+    let at-if1 = at-if2 .before .before in
+    step-second _ _ _ _ _ (at-if1 .if1 .left) (at-if2 .if2 .left) (at-digit .digit .ensures .0) (at-if3 .if3 .left) (at-if4 .if4 .left) (search needs) (c .keep2 .ensures .0) (c .keep2 .ensures .1)
 
 pub step-spec : {M : Type 1} → statement M
 step-spec =

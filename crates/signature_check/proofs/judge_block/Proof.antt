@@ -40,28 +40,74 @@ returns : tie.Need-returns Inv-loop μ-loop
 returns c = let i = c .before .before .before .before .before .before .before .before .loop .inv in let p = c .before .before .before .before .before .before .before .before .before .before .before .before .pre in omega arith
 
 add-from : tie.Need-add-from Inv-loop μ-loop
-add-from c = let b = part-passed (c .before .before .before .before .before .before .before .before .before .before .before .before .before .args .block .now) _ _ _ _ _ (c .before .before .before .before .before .gather .ensures) (c .before .before .before .before .before .before .before .before .loop-test .taken) in let g = c .before .before .before .before .before .before .before .before .before .before .before .before .before .good in omega arith
+add-from c =
+    let at-gather = c .before .before .before .before .before in
+    let at-loop-test = at-gather .before .before .before in
+    let start = at-loop-test .before .before .before .before .before in
+    let b = part-passed (start .args .block .now) _ _ _ _ _ (at-gather .gather .ensures) (at-loop-test .loop-test .taken) in
+    let g = start .good in
+    omega arith
 
 verdict-requires : tie.Need-verdict-requires Inv-loop μ-loop
 verdict-requires c κs = tt
 
 slice-write-out : tie.Need-slice-write-out Inv-loop μ-loop
-slice-write-out c = let i = c .before .before .before .before .before .before .before .before .before .before .before .loop .inv in let p = c .before .before .before .before .before .before .before .before .before .before .before .before .before .before .before .pre in let t = c .before .before .before .before .before .before .before .before .before .before .loop-test .taken in omega arith
+slice-write-out c =
+    let at-loop-test = c .before .before .before .before .before .before .before .before .before .before in
+    let at-loop = at-loop-test .before in
+    let start = at-loop .before .before .before .before in
+    let i = at-loop .loop .inv in
+    let p = start .pre in
+    let t = at-loop-test .loop-test .taken in
+    omega arith
 
 add-out : tie.Need-add-out Inv-loop μ-loop
-add-out c = let i = c .before .before .before .before .before .before .before .before .before .before .before .loop .inv in let p = c .before .before .before .before .before .before .before .before .before .before .before .before .before .before .before .pre in let t = c .before .before .before .before .before .before .before .before .before .before .loop-test .taken in omega arith
+add-out c =
+    let at-loop-test = c .before .before .before .before .before .before .before .before .before .before in
+    let at-loop = at-loop-test .before in
+    let start = at-loop .before .before .before .before in
+    let i = at-loop .loop .inv in
+    let p = start .pre in
+    let t = at-loop-test .loop-test .taken in
+    omega arith
 
 slice-write-out-2 : tie.Need-slice-write-out-2 Inv-loop μ-loop
-slice-write-out-2 c = let i = c .before .before .before .before .before .before .before .before .before .before .before .loop .inv in let p = c .before .before .before .before .before .before .before .before .before .before .before .before .before .before .before .pre in let t = c .before .before .before .before .before .before .before .before .before .before .loop-test .taken in simp length-set (omega arith)
+slice-write-out-2 c =
+    let at-loop-test = c .before .before .before .before .before .before .before .before .before .before in
+    let at-loop = at-loop-test .before in
+    let start = at-loop .before .before .before .before in
+    let i = at-loop .loop .inv in
+    let p = start .pre in
+    let t = at-loop-test .loop-test .taken in
+    simp length-set (omega arith)
 
 add-written : tie.Need-add-written Inv-loop μ-loop
-add-written c = let i = c .before .before .before .before .before .before .before .before .before .before .before .loop .inv in let p = c .before .before .before .before .before .before .before .before .before .before .before .before .before .before .before .pre in let t = c .before .before .before .before .before .before .before .before .before .before .loop-test .taken in omega arith
+add-written c =
+    let at-loop-test = c .before .before .before .before .before .before .before .before .before .before in
+    let at-loop = at-loop-test .before in
+    let start = at-loop .before .before .before .before in
+    let i = at-loop .loop .inv in
+    let p = start .pre in
+    let t = at-loop-test .loop-test .taken in
+    omega arith
 
 loop-less : tie.Need-loop-less Inv-loop μ-loop
-loop-less c = let b = part-passed (c .before .before .before .before .before .before .before .before .before .before .before .before .before .before .before .args .block .now) _ _ _ _ _ (c .before .before .before .before .before .before .before .gather .ensures) (c .before .before .before .before .before .before .before .before .before .before .loop-test .taken) in omega arith
+loop-less c =
+    let at-gather = c .before .before .before .before .before .before .before in
+    let at-loop-test = at-gather .before .before .before in
+    let start = at-loop-test .before .before .before .before .before in
+    let b = part-passed (start .args .block .now) _ _ _ _ _ (at-gather .gather .ensures) (at-loop-test .loop-test .taken) in
+    omega arith
 
 loop-again : tie.Need-loop-again Inv-loop μ-loop
-loop-again c = let i = c .before .before .before .before .before .before .before .before .before .before .before .loop .inv in let b = part-passed (c .before .before .before .before .before .before .before .before .before .before .before .before .before .before .before .args .block .now) _ _ _ _ _ (c .before .before .before .before .before .before .before .gather .ensures) (c .before .before .before .before .before .before .before .before .before .before .loop-test .taken) in (b .1, omega arith, (search needs), simp length-set (i .3))
+loop-again c =
+    let at-gather = c .before .before .before .before .before .before .before in
+    let at-loop-test = at-gather .before .before .before in
+    let at-loop = at-loop-test .before in
+    let start = at-loop .before .before .before .before in
+    let i = at-loop .loop .inv in
+    let b = part-passed (start .args .block .now) _ _ _ _ _ (at-gather .gather .ensures) (at-loop-test .loop-test .taken) in
+    (b .1, omega arith, (search needs), simp length-set (i .3))
 
 same-length-3 : tie.Need-same-length-3 Inv-loop μ-loop
 same-length-3 c = c .before .loop .inv .2

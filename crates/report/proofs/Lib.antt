@@ -1,3 +1,5 @@
 pub mod Theorems
 pub mod Table
 pub mod Standing
+pub mod FigureLaws
+pub mod FrameLaws

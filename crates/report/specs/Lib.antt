@@ -1,3 +1,4 @@
 pub mod Report
 pub mod Orders
 pub mod Frames
+pub mod Figures

@@ -1,1 +1,3 @@
-// The monthly report.
+// The monthly report: what a month of lines says of each sensor. Lines come in blocks, and the text goes out through a lent slice.
+pub mod figures;
+pub mod frame;

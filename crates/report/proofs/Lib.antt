@@ -3,3 +3,4 @@ pub mod Table
 pub mod Standing
 pub mod FigureLaws
 pub mod FrameLaws
+pub mod StateLaws

@@ -2,3 +2,4 @@ pub mod Report
 pub mod Orders
 pub mod Frames
 pub mod Figures
+pub mod States

@@ -4,3 +4,4 @@ pub mod Standing
 pub mod FigureLaws
 pub mod FrameLaws
 pub mod StateLaws
+pub mod PrintLaws

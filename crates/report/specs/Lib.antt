@@ -3,3 +3,4 @@ pub mod Orders
 pub mod Frames
 pub mod Figures
 pub mod States
+pub mod Printing

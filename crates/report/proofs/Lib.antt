@@ -5,3 +5,5 @@ pub mod FigureLaws
 pub mod FrameLaws
 pub mod StateLaws
 pub mod PrintLaws
+pub mod MemoryLaws
+pub mod SumLaws

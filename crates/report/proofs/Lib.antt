@@ -7,3 +7,6 @@ pub mod StateLaws
 pub mod PrintLaws
 pub mod MemoryLaws
 pub mod SumLaws
+pub mod LineLaws
+pub mod TextLaws
+pub mod Whole

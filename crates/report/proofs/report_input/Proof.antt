@@ -70,4 +70,28 @@ returns-3 : tie.Need-returns-3 Inv-loop μ-loop
 returns-3 c = search needs
 
 pub report-input-spec : {M : Type 1} → statement M
-report-input-spec = tie.close (tie.spec Inv-loop μ-loop fresh-requires loop-holds large-buffer-requires slice-aggregate-read read-requires slice-aggregate-write-all write-all-requires returns slice-aggregate-count count-requires finish-requires write-report-requires returns-2 array-share-prefix-block slice-aggregate-take take-requires sub-turns loop-less loop-again returns-3)
+report-input-spec =
+    tie.close
+    (tie.spec
+    Inv-loop
+    μ-loop
+    fresh-requires
+    loop-holds
+    large-buffer-requires
+    slice-aggregate-read
+    read-requires
+    slice-aggregate-write-all
+    write-all-requires
+    returns
+    slice-aggregate-count
+    count-requires
+    finish-requires
+    write-report-requires
+    returns-2
+    array-share-prefix-block
+    slice-aggregate-take
+    take-requires
+    sub-turns
+    loop-less
+    loop-again
+    returns-3)

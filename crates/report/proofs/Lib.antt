@@ -1,4 +1,5 @@
 pub mod Theorems
+pub mod AnyOrder
 pub mod Table
 pub mod Standing
 pub mod FigureLaws

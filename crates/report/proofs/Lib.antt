@@ -11,3 +11,4 @@ pub mod SumLaws
 pub mod LineLaws
 pub mod TextLaws
 pub mod Whole
+pub mod Unique

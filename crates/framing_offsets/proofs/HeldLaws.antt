@@ -4,15 +4,17 @@ use mathlib.Core.List.{List, []}
 use mathlib.Core.Bool.{Bool, true, false, _&&_, false≢true}
 use Prim.Native.Nat.{ℕ, _+_, _*_, _-_, _/_, _%_, _≤_, _<_}
 use native.Mathlib.Omega.{arith}
+use native.Mathlib.Nat.{div-self, zero-mul}
 use lib.Dec.{leb, eqb}
-use lib.ListN.{length, take, drop, length-drop}
+use lib.ListN.{length, take, drop, getD, length-drop}
 use lib.Seq.{take-all, drop-drop, drop-length}
 use borrow.Author.Tests.{leb-true, leb-false, le-leb}
 use Rattle.meaning.specs.Choice.{pick}
 use Rattle.meaning.specs.Refusals.{outOfBounds, missingFramingOffset}
 use Rattle.meaning.specs.Offsets.{Table, tableFrom, tableOf, entries, endsOf, noneAbove, tableStands}
 use Rattle.framing_offsets.specs.declared.EncodedArray.{EncodedArray}
-use Rattle.meaning.specs.Numbers.{spelled}
+use Rattle.meaning.specs.Numbers.{spelled, value}
+use Rattle.meaning.proofs.NumberSteps.{spelled-byte, first-low}
 use Rattle.utils.specs.declared.Checked.{Checked}
 use Rattle.utils.specs.Checks.{passed, failed}
 use Rattle.byte_order.specs.Standing.{numberAt}
@@ -39,6 +41,30 @@ module _ (w i : ℕ) (l : List ℕ) {n : ℕ} (e : n ≡ countFrom w 0 l) where
     held-there =
         let z : i * w ≡ 0 + i * w = omega arith in
         ap (numberAt w false l) z ∙ offset-there (heldTable w l) i l (rw e at g) e p g
+
+    pub held-spelled : {m : ℕ} → m ≡ spelled false w (i * w) l → passed m ≡ offsetIn (heldTable w l) i l
+    held-spelled h = ap passed h ∙ sym (numberAt-is w false l (i * w) ∙ rw (le-leb (i * w + w) (length l) held-inside)) ∙ held-there
+
+-- the offsets of one byte and of two, from the bytes as they stand
+module _ (i : ℕ) (l : List ℕ) where
+  pub byte-behind : length l ≤ i → failed missingFramingOffset ≡ offsetIn (heldTable 1 l) i l
+  byte-behind h = held-behind 1 i l (count-held 1 l {n = length l} (omega arith)) h
+
+  pub byte-there : {b : ℕ} → i < length l → b ≡ getD l i 0 → passed b ≡ offsetIn (heldTable 1 l) i l
+  byte-there g h =
+      let z : i ≡ i * 1 = omega arith in
+      held-spelled 1 i l (count-held 1 l {n = length l} (omega arith)) (omega arith) g (h ∙ sym (spelled-byte false i l g) ∙ ap (λ (k : ℕ). spelled false 1 k l) z)
+
+  pub two-behind : length l / 2 ≤ i → failed missingFramingOffset ≡ offsetIn (heldTable 2 l) i l
+  two-behind h = held-behind 2 i l (count-held 2 l refl) h
+
+  pub two-there : {low high : ℕ} → i < length l / 2 → low ≡ getD l (i * 2) 0 → high ≡ getD l (i * 2 + 1) 0
+      → passed (low + 256 * high) ≡ offsetIn (heldTable 2 l) i l
+  two-there g p q =
+      let fits : i * 2 + 1 + 1 ≤ length l = omega arith in
+      let first = p ∙ sym (spelled-byte false (i * 2) l (omega arith)) in
+      let second = q ∙ sym (spelled-byte false (i * 2 + 1) l (omega arith)) in
+      held-spelled 2 i l (count-held 2 l refl) (omega arith) g (first-low 1 (i * 2) l fits refl first second)
 
 -- a table that stands begins inside its container
 stands-inside : (t : Table) (l : List ℕ) → tableStands t l ≡ true → t .start ≤ length l
@@ -92,7 +118,7 @@ module _ (l : List ℕ) (r : EncodedArray) (t : Encoded l r) where
 -- whether an offset is there, by the answer
 module _ (w i : ℕ) (l : List ℕ) (p : 0 < w) {r : Checked} (e : r ≡ offsetIn (heldTable w l) i l) where
   held-is : i < countFrom w 0 l → r ≡ passed (spelled false w (i * w) l)
-  held-is g = e ∙ sym (held-there w i l refl p g) ∙ numberAt-is w false l (i * w) ∙ rw (le-leb (i * w + w) (length l) (held-inside w i l refl p g))
+  held-is g = e ∙ sym (held-spelled w i l refl p g refl)
 
   held-past : (r .refusal ≡ 0 → ⊥) → countFrom w 0 l ≤ i
   held-past z = go (leb (countFrom w 0 l) i) refl
@@ -107,6 +133,15 @@ module _ (w i : ℕ) (l : List ℕ) (p : 0 < w) {r : Checked} (e : r ≡ offsetI
       go : (b : Bool) → leb (countFrom w 0 l) i ≡ b → i < countFrom w 0 l
       go true q = absurd (let n : r .refusal ≡ 14 = ap (λ (x : Checked). x .refusal) (e ∙ sym (held-behind w i l refl (leb-true _ _ q))) in omega arith)
       go false q = leb-false _ _ q
+
+-- the bytes of one offset are a table of that one
+pub only-held : (w : ℕ) (l : List ℕ) {r : Checked} → 0 < w → length l ≡ w → r ≡ offsetIn (heldTable w l) 0 l → r .value ≡ value l
+unfolding tableFrom
+only-held w l {r} p h e =
+    let z : length l - 0 ≡ w = omega arith in
+    let one : (length l - 0) / w ≡ 1 = rw z (div-self p) in
+    let is : r ≡ passed (spelled false w (0 * w) l) = held-is w 0 l p e (omega arith) in
+    ap (λ (x : Checked). x .value) is ∙ rw (zero-mul w) (ap value (take-all w l (omega arith)))
 
 -- an offset of a table that stands in a container, by the table's own bytes
 module _ (t : Table) (i : ℕ) (l : List ℕ) (h : i < t .count) (p : 0 < t .width) where

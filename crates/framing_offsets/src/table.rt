@@ -4,6 +4,7 @@ use framing_offset_size::FramingOffsetSize;
 use meaning::refusals::MISSING_FRAMING_OFFSET;
 use utils::Checked;
 ghost use mathlib.Core.Path.{_≡_};
+ghost use Prim.Native.Nat.{_<_};
 ghost use lib.ListN.{length};
 ghost use Rattle.meaning.specs.Offsets.{encodedWidth};
 ghost use Rattle.framing_offset_size.specs.Widths.{widthOf, lastOffsetIn};
@@ -23,14 +24,51 @@ fn count_of(table: &[u8], size: FramingOffsetSize) -> usize
     size.count_in(table.len())
 }
 
-// The i-th offset of a width in a table's bytes, from 0 on.
-fn offset_of(table: &[u8], size: FramingOffsetSize, i: usize) -> Checked
+fn wide(byte: u8) -> usize
+    ensures { λ r. ⌜ (r ≡ byte) × (r < 256) ⌝ }
+{
+    byte as usize
+}
+
+// The i-th offset of a table, from 0 on, by its width. Nearly all are one byte or two: a test, and the bytes as they stand.
+fn byte_of(table: &[u8], i: usize) -> Checked
+    ensures { λ r. ⌜ r ≡ offsetIn (heldTable 1 (now (table .entry))) i (now (table .entry)) ⌝ }
+{
+    if table.len() <= i {
+        return Checked::failed(MISSING_FRAMING_OFFSET);
+    }
+    Checked::passed(wide(table[i]))
+}
+
+fn two_of(table: &[u8], i: usize) -> Checked
+    ensures { λ r. ⌜ r ≡ offsetIn (heldTable 2 (now (table .entry))) i (now (table .entry)) ⌝ }
+{
+    if table.len() / 2 <= i {
+        return Checked::failed(MISSING_FRAMING_OFFSET);
+    }
+    let place = i * 2;
+    let low = wide(table[place]);
+    let high = wide(table[place + 1]);
+    Checked::passed(low + 256 * high)
+}
+
+fn wider_of(table: &[u8], size: FramingOffsetSize, i: usize) -> Checked
     ensures { λ r. ⌜ r ≡ offsetIn (heldTable (widthOf size) (now (table .entry))) i (now (table .entry)) ⌝ }
 {
     if count_of(table, size) <= i {
         return Checked::failed(MISSING_FRAMING_OFFSET);
     }
     size.offset_at(table, i * size.width())
+}
+
+fn offset_of(table: &[u8], size: FramingOffsetSize, i: usize) -> Checked
+    ensures { λ r. ⌜ r ≡ offsetIn (heldTable (widthOf size) (now (table .entry))) i (now (table .entry)) ⌝ }
+{
+    match size {
+        FramingOffsetSize::U8 => byte_of(table, i),
+        FramingOffsetSize::U16 => two_of(table, i),
+        _ => wider_of(table, size, i),
+    }
 }
 
 // The bytes of an array's or dictionary's table, none where it is refused.

@@ -33,24 +33,48 @@ offset-at-requires : tie.Need-offset-at-requires Inv-loop μ-loop
 offset-at-requires c κs = search needs
 
 returns-2 : tie.Need-returns-2 Inv-loop μ-loop
-returns-2 c = sym (c .before .before .before .before .loop .inv .1 ∙ entry-missing (widthOf (c .before .before .before .before .before .before .before .before .args .size)) (c .before .before .before .before .before .before .before .before .args .start) (c .before .before .before .before .before .before .before .before .args .container .now) (c .before .before .before .before .loop .i) (width-positive (c .before .before .before .before .before .before .before .before .args .size)) (c .before .before .offset-at .ensures) (c .before .before .before .loop-test .taken) (c .if2 .taken))
+returns-2 c =
+    let start = c .before .before .before .before .before .before .before .before in
+    let at-loop = c .before .before .before .before in
+    let at-loop-test = c .before .before .before in
+    sym (at-loop .loop .inv .1 ∙ entry-missing (widthOf (start .args .size)) (start .args .start) (start .args .container .now) (at-loop .loop .i) (width-positive (start .args .size)) (c .before .before .offset-at .ensures) (at-loop-test .loop-test .taken) (c .if2 .taken))
 
 returns-3 : tie.Need-returns-3 Inv-loop μ-loop
-returns-3 c = sym (c .before .before .before .before .before .before .loop .inv .1 ∙ entry-above (widthOf (c .before .before .before .before .before .before .before .before .before .before .args .size)) (c .before .before .before .before .before .before .before .before .before .before .args .start) (c .before .before .before .before .before .before .before .before .before .before .args .container .now) (c .before .before .before .before .before .before .loop .i) (width-positive (c .before .before .before .before .before .before .before .before .before .before .args .size)) (c .before .before .before .before .offset-at .ensures) (c .before .before .if2 .left) (c .if3 .taken))
+returns-3 c =
+    let start = c .before .before .before .before .before .before .before .before .before .before in
+    let at-loop = c .before .before .before .before .before .before in
+    let at-offset-at = c .before .before .before .before in
+    sym (at-loop .loop .inv .1 ∙ entry-above (widthOf (start .args .size)) (start .args .start) (start .args .container .now) (at-loop .loop .i) (width-positive (start .args .size)) (at-offset-at .offset-at .ensures) (c .before .before .if2 .left) (c .if3 .taken))
 
 add-i : tie.Need-add-i Inv-loop μ-loop
-add-i c = let inside = entry-inside (widthOf (c .before .before .before .before .before .before .before .before .before .before .args .size)) (c .before .before .before .before .before .before .before .before .before .before .args .start) (c .before .before .before .before .before .before .before .before .before .before .args .container .now) (c .before .before .before .before .before .before .loop .i) (width-positive (c .before .before .before .before .before .before .before .before .before .before .args .size)) (c .before .before .before .before .offset-at .ensures) (c .before .before .if2 .left) in omega (arith, c .before .before .before .before .before .before .before .width .ensures)
+add-i c =
+    let start = c .before .before .before .before .before .before .before .before .before .before in
+    let at-width = c .before .before .before .before .before .before .before in
+    let at-loop = c .before .before .before .before .before .before in
+    let at-offset-at = c .before .before .before .before in
+    let inside = entry-inside (widthOf (start .args .size)) (start .args .start) (start .args .container .now) (at-loop .loop .i) (width-positive (start .args .size)) (at-offset-at .offset-at .ensures) (c .before .before .if2 .left) in
+    omega (arith, at-width .width .ensures)
 
 loop-less : tie.Need-loop-less Inv-loop μ-loop
-loop-less c = omega (arith, width-positive (c .before .before .before .before .before .before .before .before .before .before .args .size), c .before .before .before .before .before .before .before .width .ensures)
+loop-less c =
+    let start = c .before .before .before .before .before .before .before .before .before .before in
+    let at-width = c .before .before .before .before .before .before .before in
+    omega (arith, width-positive (start .args .size), at-width .width .ensures)
 
 loop-again : tie.Need-loop-again Inv-loop μ-loop
 loop-again c =
-    let inside = entry-inside (widthOf (c .before .before .before .before .before .before .before .before .before .before .args .size)) (c .before .before .before .before .before .before .before .before .before .before .args .start) (c .before .before .before .before .before .before .before .before .before .before .args .container .now) (c .before .before .before .before .before .before .loop .i) (width-positive (c .before .before .before .before .before .before .before .before .before .before .args .size)) (c .before .before .before .before .offset-at .ensures) (c .before .before .if2 .left) in
-    (omega (arith, c .before .before .before .before .before .before .before .width .ensures), rw (c .before .before .before .before .before .before .before .width .ensures) (c .before .before .before .before .before .before .loop .inv .1 ∙ entry-next (widthOf (c .before .before .before .before .before .before .before .before .before .before .args .size)) (c .before .before .before .before .before .before .before .before .before .before .args .start) (c .before .before .before .before .before .before .before .before .before .before .args .container .now) (c .before .before .before .before .before .before .loop .i) (width-positive (c .before .before .before .before .before .before .before .before .before .before .args .size)) (c .before .before .before .before .offset-at .ensures) (c .before .before .if2 .left) (c .if3 .left)))
+    let start = c .before .before .before .before .before .before .before .before .before .before in
+    let at-width = c .before .before .before .before .before .before .before in
+    let at-loop = c .before .before .before .before .before .before in
+    let at-offset-at = c .before .before .before .before in
+    let inside = entry-inside (widthOf (start .args .size)) (start .args .start) (start .args .container .now) (at-loop .loop .i) (width-positive (start .args .size)) (at-offset-at .offset-at .ensures) (c .before .before .if2 .left) in
+    let next = at-loop .loop .inv .1 ∙ entry-next (widthOf (start .args .size)) (start .args .start) (start .args .container .now) (at-loop .loop .i) (width-positive (start .args .size)) (at-offset-at .offset-at .ensures) (c .before .before .if2 .left) (c .if3 .left) in
+    (omega (arith, at-width .width .ensures), rw (at-width .width .ensures) next)
 
 returns-4 : tie.Need-returns-4 Inv-loop μ-loop
-returns-4 c = sym (c .before .loop .inv .1 ∙ rest-end (widthOf (c .before .before .before .before .before .args .size)) (c .before .before .before .before .before .args .start) (c .before .before .before .before .before .args .container .now) (c .before .loop .i) (width-positive (c .before .before .before .before .before .args .size)) (c .loop-test .left))
+returns-4 c =
+    let start = c .before .before .before .before .before in
+    sym (c .before .loop .inv .1 ∙ rest-end (widthOf (start .args .size)) (start .args .start) (start .args .container .now) (c .before .loop .i) (width-positive (start .args .size)) (c .loop-test .left))
 
 pub stands-spec : {M : Type 1} → statement M
 stands-spec =

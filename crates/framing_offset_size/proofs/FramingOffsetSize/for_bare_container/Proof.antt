@@ -38,13 +38,22 @@ enum-told : tie.Need-enum-told Inv-loop μ-loop
 enum-told c = search needs
 
 returns-2 : tie.Need-returns-2 Inv-loop μ-loop
-returns-2 c = fitted _ _ _ (trying-none _ _ (c .before .before .before .before .before .loop .size) (c .before .before .before .before .holds .ensures) (c .before .before .before .if1 .left) (sym (c .enum-told .given .1) ∙ c .before .before .bump-up .ensures) (c .before .before .before .before .before .loop .inv))
+returns-2 c =
+    let at-loop = c .before .before .before .before .before in
+    let at-holds = c .before .before .before .before in
+    let at-if1 = c .before .before .before in
+    fitted _ _ _ (trying-none _ _ (at-loop .loop .size) (at-holds .holds .ensures) (at-if1 .if1 .left) (sym (c .enum-told .given .1) ∙ c .before .before .bump-up .ensures) (at-loop .loop .inv))
 
 loop-less : tie.Need-loop-less Inv-loop μ-loop
 loop-less c = bumped-above (c .before .before .before .before .before .before .loop .size) _ (sym (c .before .next .given .1) ∙ c .before .before .before .bump-up .ensures)
 
 loop-again : tie.Need-loop-again Inv-loop μ-loop
-loop-again c = trying-next _ _ (c .before .before .before .before .before .before .loop .size) _ (c .before .before .before .before .before .holds .ensures) (c .before .before .before .before .if1 .left) (sym (c .before .next .given .1) ∙ c .before .before .before .bump-up .ensures) (c .before .before .before .before .before .before .loop .inv)
+loop-again c =
+    let at-loop = c .before .before .before .before .before .before in
+    let at-holds = c .before .before .before .before .before in
+    let at-if1 = c .before .before .before .before in
+    let at-bump-up = c .before .before .before in
+    trying-next _ _ (at-loop .loop .size) _ (at-holds .holds .ensures) (at-if1 .if1 .left) (sym (c .before .next .given .1) ∙ at-bump-up .bump-up .ensures) (at-loop .loop .inv)
 
 pub for-bare-container-spec : {M : Type 1} → statement M
 for-bare-container-spec =

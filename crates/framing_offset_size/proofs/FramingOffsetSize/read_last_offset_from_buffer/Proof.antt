@@ -28,7 +28,10 @@ offset-at-requires : tie.Need-offset-at-requires
 offset-at-requires c κs = search needs
 
 returns-3 : tie.Need-returns-3
-returns-3 c = c .offset-at .ensures ∙ last-there (widthOf (c .before .before .before .before .before .args .self)) (c .before .before .before .before .before .args .buffer .now) (c .before .before .before .if1 .left) (c .before .before .width .ensures) (rw (c .before .before .width .ensures) at (c .before .if2 .left))
+returns-3 c =
+    let start = c .before .before .before .before .before in
+    let at-if1 = c .before .before .before in
+    c .offset-at .ensures ∙ last-there (widthOf (start .args .self)) (start .args .buffer .now) (at-if1 .if1 .left) (c .before .before .width .ensures) (rw (c .before .before .width .ensures) at (c .before .if2 .left))
 
 pub read-last-offset-from-buffer-spec : {M : Type 1} → statement M
 read-last-offset-from-buffer-spec =

@@ -65,7 +65,7 @@ extern "C" {
  *                          LIMITS, then ROOM
  *   bogtassel_is_written   TYPE, LIMITS, then whatever of 3 to 12 reading meets first, then NOT_WRITTEN
  *   bogtassel_edit         TYPE, LIMITS (of `used`), then whatever of 3 to 12 reading meets first, then NOT_WRITTEN, NO_READING,
- *                          VALUE, DEPTH (of the reading), LIMITS (of the new frame), ROOM
+ *                          VALUE, DEPTH (of the reading), LIMITS (of the new frame), ROOM; a withdrawal none of these last four
  * No call gives a number that is not named for it here; 14 and 18 are given by none of them.
  */
 enum bogtassel_refusal {
@@ -193,6 +193,11 @@ uint8_t bogtassel_is_written(const uint8_t *type, size_t type_length, bool big_e
  * edited again, with *length as `used`. No byte before the reading's place, which is that of its event, is another. From the new
  * length to a larger old one `buffer` holds zeros; beyond both it is as it was. A nothing that is withdrawn, and a number that
  * is replaced by itself, leave all bytes as they were.
+ *
+ * A WITHDRAWAL, where `present` is false, NEEDS NO SPARE ROOM: a buffer that is exactly full, `buffer_length` being `used`, will
+ * do. Its frame is never longer than the old one: what follows the reading moves towards the front or keeps its place, and in no
+ * container do offsets become wider. So it gives neither BOGTASSEL_ROOM nor the BOGTASSEL_LIMITS of a new frame, and *length is at
+ * most `used`. This too is proved for all arguments. To put a number where nothing was may still need room.
  *
  * Returns BOGTASSEL_LIMITS where `used` is over 65,536 or over `buffer_length`, and, when all else is well, where the new frame
  * would have more than 65,536 bytes, whatever room there is; BOGTASSEL_ROOM where it has no room in `buffer`. Returns what

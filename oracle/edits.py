@@ -196,6 +196,17 @@ def mode_room(rng):
         yield asked(rng, tree, data, order, [edit], spare)
 
 
+def mode_full(rng):
+    """Every reading of a frame withdrawn by itself in a buffer that is exactly full, and then all of them one after another."""
+    tree, value = near(rng, rng.choice([255, 257])) if rng.random() < 0.4 else readable(rng)
+    order, count = random_order(rng), len(readings(tree, value))
+    data = gen.written(tree, value, order)
+    if count and len(data) <= gen.LIMIT:
+        for number in range(count):
+            yield asked(rng, tree, data, order, [(number, None)], spare=0)
+        yield asked(rng, tree, data, order, [(number, None) for number in rng.sample(range(count), count)], spare=0)
+
+
 def wrapped(steps, tree, value):
     """Containers of one element each around a value."""
     for step in reversed(steps):
@@ -274,8 +285,8 @@ def mode_over(rng):
     yield rng.choice([b"ay", b"amn", b"amy", b"(aymn)", b"v"]), random_order(rng), buffer, used, [(0, rng.choice([None, 5, 256]))]
 
 
-MODES = {"random": mode_random, "chain": mode_chain, "boundary": mode_boundary, "wide": mode_wide, "room": mode_room, "depth": mode_depth,
-         "refusals": mode_refusals, "damaged": mode_damaged, "over": mode_over}
+MODES = {"random": mode_random, "chain": mode_chain, "boundary": mode_boundary, "wide": mode_wide, "room": mode_room, "full": mode_full,
+         "depth": mode_depth, "refusals": mode_refusals, "damaged": mode_damaged, "over": mode_over}
 # How often a throw of `mix` takes each mode, out of ten thousand; one of `room` is twenty-one lines, one of `chain` fifty edits.
 MIX = {"random": 5300, "chain": 30, "boundary": 1200, "wide": 2, "room": 60, "depth": 700, "refusals": 1700, "damaged": 1000, "over": 1}
 

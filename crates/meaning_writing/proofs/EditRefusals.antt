@@ -86,6 +86,10 @@ module _ (type : List ℕ) (big : Bool) (t : Tree) (buffer : List ℕ) (used i :
         let n : length (take used buffer) ≤ largestFrame = omega (arith, length-take used buffer) in
         rw (ht, le-leb (length (take used buffer)) largestFrame n) (sized-refusal (reading 0 big mostVariants t noneOpen 0 (take used buffer)))
 
+    -- a frame that reads and does not pass the strict test
+    pub judged-fifteen : reading 0 big mostVariants t noneOpen 0 (take used buffer) .refusal ≡ 0 → isWritten mostVariants t noneOpen (take used buffer) ≡ false → edit type big buffer used i x .refusal ≡ notWritten
+    judged-fifteen r e = frame-judged ∙ (unfold frameRefusal in rw (eq-eqb (reading 0 big mostVariants t noneOpen 0 (take used buffer) .refusal) 0 r, e))
+
     -- 15, exactly where a frame reads and is the written form of no value that fits
     pub edit-fifteen : Bytes buffer → reading 0 big mostVariants t noneOpen 0 (take used buffer) .refusal ≡ 0
         → ((v : Value mostVariants t) → T (fits (piece big mostVariants t v) noneOpen) → written big mostVariants t v ≡ take used buffer → ⊥) → edit type big buffer used i x .refusal ≡ notWritten
@@ -184,7 +188,7 @@ pub record FrameReads (type : List ℕ) (big : Bool) (buffer : List ℕ) (used :
   pub reads : reading 0 big mostVariants t noneOpen 0 (take used buffer) .refusal ≡ 0
 
 -- what reading meets is 12 or less
-met-most : (r : ℕ) → Met r → r ≤ 12
+pub met-most : (r : ℕ) → Met r → r ≤ 12
 met-most r (inl h) = omega arith
 met-most r (inr h) = h .1
 
@@ -232,7 +236,7 @@ pub record OfValue (type : List ℕ) (big : Bool) (buffer : List ℕ) (used i : 
   pub refusal-is : edit type big buffer used i x .refusal ≡ valueRefusal big t v i x (length buffer)
 
 -- the used part of a buffer, that is a value's written form
-form-holds : (big : Bool) (t : Tree) (v : Value mostVariants t) (buffer : List ℕ) (used : ℕ) → used ≤ largestFrame → used ≤ length buffer
+pub form-holds : (big : Bool) (t : Tree) (v : Value mostVariants t) (buffer : List ℕ) (used : ℕ) → used ≤ largestFrame → used ≤ length buffer
     → T (fits (piece big mostVariants t v) noneOpen) → written big mostVariants t v ≡ take used buffer → Holds big t v buffer used
 form-holds big t v buffer used l m f e = record { fit = f; small = rw e (omega (arith, length-take used buffer)); roomy = m; is = sym e }
 

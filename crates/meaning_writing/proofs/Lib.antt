@@ -25,3 +25,5 @@ pub mod EditedSteps
 pub mod EditingLaws
 pub mod EditRefusals
 pub mod EditFrames
+pub mod Withdrawals
+pub mod WithdrawalAnswers

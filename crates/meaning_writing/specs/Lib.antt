@@ -6,3 +6,4 @@ pub mod Strict
 pub mod Readings
 pub mod Edited
 pub mod Editing
+pub mod Withdrawals

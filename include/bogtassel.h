@@ -131,8 +131,8 @@ enum bogtassel_kind {
  * Sizes a reading: judges the whole frame and counts its events, and gives no events.
  *
  * Returns BOGTASSEL_DONE, and sets *used to the bytes that were used and *event_count to the number of events. Fewer bytes
- * than frame_length may have been used; that is no refusal. There are at most 8,454,273 events, so that 3 times their number,
- * and the bytes of those numbers, are no overflow. Or returns a refusal, and sets both to 0.
+ * than frame_length may have been used; that is no refusal. More are never used. There are at most 8,454,273 events, so that
+ * 3 times their number, and the bytes of those numbers, are no overflow. Or returns a refusal, and sets both to 0.
  */
 uint8_t bogtassel_size(const uint8_t *type, size_t type_length, bool big_endian, size_t position, const uint8_t *frame,
                        size_t frame_length, size_t *used, size_t *event_count);
@@ -156,7 +156,9 @@ uint8_t bogtassel_read(const uint8_t *type, size_t type_length, bool big_endian,
  * Returns BOGTASSEL_DONE, and sets *length to the frame's length. The frame stands at the front of `out`; the bytes behind it
  * are as they were. It is the form that the GVariant Specification gives the value: padding is 0, offsets have the smallest
  * width that the container's length allows, a bool is 0 or 1, and a text ends in one nul. Dictionaries keep their order and
- * their doubles. bogtassel_read reads the whole of it, and gives back these events but for their places.
+ * their doubles. bogtassel_read reads the whole of it, and gives back these events but for their places. So no two records are
+ * alike: two different values of a type, texts compared by their bytes and floats by their bits, never have the same frame in
+ * one byte order.
  *
  * Returns BOGTASSEL_VALUE where the events are not those of one value of the type: another kind than the type has there, an
  * event too few or too many, numbers left over that make no event, a number that is wider than its type, a bool above 1, a

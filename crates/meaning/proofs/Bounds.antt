@@ -25,7 +25,8 @@ use Rattle.meaning.specs.Outcome.{Outcome, outcome, done, refused, after
 use Rattle.meaning.specs.Reading
 use Rattle.meaning.specs.Reading.{Reader, child, within, paddingOf, textAs, readText, readBool, numberIn, endByte, presentIn, maybeIn, further, elements, elementsTo, Step, tabled, arrayBody, arrayIn, childStep, Field, offsetStands, fieldOffset, padded, lastNul, separator, remaining, variantValue, variantType, variantTyped, variantBody, variantIn, pad, readNumber, readBasic, readMaybe, readArray, endPadding, fieldsIn, structureBody, structureIn, readStructure, valueFrom, fixedKey, valueBefore, keyTo, textKey, entryFrom, readEntry, entryStep, readVariant, readTree, readers, reading}
 use Rattle.meaning.specs.Limits.{largestFrame, mostVariants}
-use Rattle.meaning.specs.Calls.{frameOf, frameReading}
+use Rattle.meaning.specs.Refusals.{roomTooSmall}
+use Rattle.meaning.specs.Calls.{frameOf, frameReading, Counts, counts, sized, fitted, size, read}
 use Rattle.meaning.proofs.Tests.{both-left, both-right, from-test}
 use Rattle.meaning.proofs.DepthLaws.{limits}
 use Rattle.meaning.proofs.OffsetLaws.{encodedWidth-positive}
@@ -586,6 +587,24 @@ frame-used type big position frame = go (typeOf type)
     go : (t : Option Tree) → frameOf big position frame t .used ≤ length frame
     go none = unfold frameOf in omega arith
     go (some t) = unfold frameOf in pick-used (leb (length frame) largestFrame && leb position largestFrame) _ (used-most position big mostVariants t noneOpen 0 frame)
+
+-- BYTES USED NEVER EXCEED THE FRAME, as the public calls answer them, on any frame, refused or not
+module _ (type : List ℕ) (big : Bool) (position : ℕ) (frame : List ℕ) where
+  pub size-used : size type big position frame .used ≤ length frame
+  unfolding size sized
+  size-used = go (frameReading type big position frame) (frame-used type big position frame) (eqb (frameReading type big position frame .refusal) 0)
+    where
+      go : (o : Outcome) → o .used ≤ length frame → (x : Bool) → pick x (counts 0 (o .used) (length (o .events))) (counts (o .refusal) 0 0) .used ≤ length frame
+      go o h true = h
+      go o h false = omega arith
+
+  pub read-used : (out : List ℕ) → read type big position frame out .used ≤ length frame
+  unfolding read fitted
+  read-used out = go (size type big position frame) size-used (leb (3 * size type big position frame .count) (length out))
+    where
+      go : (c : Counts) → c .used ≤ length frame → (x : Bool) → pick x c (counts roomTooSmall 0 0) .used ≤ length frame
+      go c h true = h
+      go c h false = omega arith
 
 -- at most 129 events for each byte and 129 besides: no more than 8,454,273, so every count is inside 64 bits
 pub frame-events : (type : List ℕ) (big : Bool) (position : ℕ) (frame : List ℕ) → frameReading type big position frame .refusal ≡ 0

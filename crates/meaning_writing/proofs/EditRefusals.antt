@@ -1,6 +1,6 @@
 -- THE REFUSALS of the edit, number by number: what each one says, and that a 15, 16 or 17 is never what reading met. Assumes nothing.
 use mathlib.Core.Path.{_≡_, refl, sym, _∙_, subst}
-use mathlib.Core.Logic.{inl, inr}
+use mathlib.Core.Logic.{_⊎_, inl, inr}
 use mathlib.Core.List.{List}
 use mathlib.Core.Option.{Option, none, some}
 use mathlib.Core.Bool.{Bool, true, false, _&&_}
@@ -49,7 +49,7 @@ edit-refused type big buffer used i x h = record {
   buffer-same = unfold editBuffer in rw (ne-eqb (edit type big buffer used i x .refusal) 0 h);
 }
 
-sized-refusal : (o : Outcome) → sized o .refusal ≡ o .refusal
+pub sized-refusal : (o : Outcome) → sized o .refusal ≡ o .refusal
 unfolding sized
 sized-refusal o = go (eqb (o .refusal) 0) refl
   where
@@ -219,6 +219,51 @@ module _ (type : List ℕ) (big : Bool) (buffer : List ℕ) (used i : ℕ) (x : 
           lengths true true p q h = met (leb-true used largestFrame p) (leb-true used (length buffer) q) (eqb r 0) refl h
           lengths true false p q h = absurd (omega arith)
           lengths false b p q h = absurd (omega arith)
+
+-- ---- the numbers that an edit answers
+
+-- 0 to 13, and 15 to 17
+abbrev pub EditNumber : ℕ → Type 0
+EditNumber r = (r ≤ roomTooSmall) ⊎ ((notWritten ≤ r) × (r ≤ noValue))
+
+change-number : (counted i : ℕ) (s : Spot) (x : MaybeNumber) (n room : ℕ) → EditNumber (changeRefusal counted i s x n room)
+unfolding changeRefusal lengthRefusal
+change-number counted i s x n room = go (ltb i counted) (spells (s .type) x) (mayStand (s .around) x) (leb n largestFrame) (leb n room)
+  where
+    go : (a b c d e : Bool) → EditNumber (pick a (pick b (pick c (pick d (pick e 0 roomTooSmall) overLimit) containersTooDeep) noValue) noSuchReading)
+    go false b c d e = inr (omega arith, omega arith)
+    go true false c d e = inr (omega arith, omega arith)
+    go true true false d e = inl (omega arith)
+    go true true true false e = inl (omega arith)
+    go true true true true false = inl (omega arith)
+    go true true true true true = inl (omega arith)
+
+frame-number : (big : Bool) (t : Tree) (frame : List ℕ) (i : ℕ) (x : MaybeNumber) (room : ℕ) → EditNumber (frameRefusal big t frame i x room (reading 0 big mostVariants t noneOpen 0 frame))
+unfolding frameRefusal
+frame-number big t frame i x room = go (eqb r 0) (isWritten mostVariants t noneOpen frame)
+  where
+    r : ℕ
+    r = reading 0 big mostVariants t noneOpen 0 frame .refusal
+
+    c : ℕ
+    c = changeRefusal (readingCount big mostVariants t frame) i (readingSpot big mostVariants t noneOpen frame i) x (length (editedFrame big mostVariants t frame i x)) room
+
+    go : (a b : Bool) → EditNumber (pick a (pick b c notWritten) r)
+    go false b = inl (omega (arith, met-most r (reading-met 0 big mostVariants t noneOpen 0 frame)))
+    go true false = inr (omega arith, omega arith)
+    go true true = change-number (readingCount big mostVariants t frame) i (readingSpot big mostVariants t noneOpen frame i) x (length (editedFrame big mostVariants t frame i x)) room
+
+pub edit-numbers : (type : List ℕ) (big : Bool) (buffer : List ℕ) (used i : ℕ) (x : MaybeNumber) → EditNumber (edit type big buffer used i x .refusal)
+unfolding refusalOf
+edit-numbers type big buffer used i x = rw (edit-refusal type big buffer used i x) (go (typeOf type))
+  where
+    picked : (t : Tree) (b : Bool) → EditNumber (pick b (frameRefusal big t (take used buffer) i x (length buffer) (reading 0 big mostVariants t noneOpen 0 (take used buffer))) overLimit)
+    picked t true = frame-number big t (take used buffer) i x (length buffer)
+    picked t false = inl (omega arith)
+
+    go : (o : Option Tree) → EditNumber (refusalOf big buffer used i x o)
+    go none = inl (omega arith)
+    go (some t) = picked t (leb used largestFrame && leb used (length buffer))
 
 -- ---- what they say
 

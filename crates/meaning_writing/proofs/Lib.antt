@@ -4,6 +4,7 @@ pub mod BuildsSound
 pub mod TextsStand
 pub mod PlacesFree
 pub mod WriteLaws
+pub mod OneRecord
 pub mod Emitted
 pub mod WritingSteps
 pub mod EmitLaws

@@ -12,18 +12,19 @@ use borrow.Author.Tests.{le-leb, lt-leb, leb-true}
 use Rattle.meaning.specs.Choice.{pick}
 use Rattle.meaning.specs.Limits.{largestFrame, mostVariants}
 use Rattle.meaning.specs.Refusals.{typeRefused, overLimit, roomTooSmall}
-use Rattle.meaning.specs.Depths.{noneOpen}
+use Rattle.meaning.specs.Depths.{Depths, noneOpen}
 use Rattle.meaning.specs.Types.{Tree}
 use Rattle.meaning.specs.TypeText.{typeOf}
 use Rattle.meaning.specs.Events.{Event, triples}
 use Rattle.meaning.specs.Values.{Value}
 use Rattle.meaning.specs.Written.{fits, piece, written}
 use Rattle.meaning.specs.Outcome.{Outcome, done}
+use Rattle.meaning.specs.Reading.{reading}
 use Rattle.meaning.specs.Calls.{frameReading}
 use Rattle.meaning_writing.specs.Writing.{Built, built, fault, build, Framed, framed, limited, frameBuilt, frameTyped, frameWriting, roomed, writeAnswered, outputWith, write, writeSlice, writeAnswer}
 use Rattle.meaning_writing.specs.Shown.{Shows}
 use Rattle.meaning.proofs.TypeTextLaws.{typeOf-sound}
-use Rattle.meaning.proofs.RoundTrip.{round-trip-frame}
+use Rattle.meaning.proofs.RoundTrip.{round-trip, round-trip-frame}
 use Rattle.meaning_writing.proofs.BuildsBack.{all-build}
 use Rattle.meaning_writing.proofs.BuildsSound.{among, eventRefusals, faulty-not-done, Answers, Right, all-sound}
 use Rattle.meaning_writing.proofs.TextsStand.{frame-shows}
@@ -254,21 +255,19 @@ frame-again type big numbers texts z =
 -- ---- one value
 
 -- the numbers say which value is written
-pub spelled-once : (texts numbers : List ℕ) (big : Bool) (t : Tree) (v w : Value mostVariants t) → T (fits (piece big mostVariants t v) noneOpen) → T (fits (piece big mostVariants t w) noneOpen)
-    → Shows texts numbers (piece big mostVariants t v .events 0) [] → Shows texts numbers (piece big mostVariants t w .events 0) [] → v ≡ w
-spelled-once texts numbers big t v w f g s r =
-    let e = all-build texts big mostVariants t .builds v noneOpen 0 numbers [] f s in
-    let i = all-build texts big mostVariants t .builds w noneOpen 0 numbers [] g r in
+pub spelled-once : (texts numbers : List ℕ) (big : Bool) (n : ℕ) (t : Tree) (v w : Value n t) (d : Depths) → T (fits (piece big n t v) d) → T (fits (piece big n t w) d)
+    → Shows texts numbers (piece big n t v .events 0) [] → Shows texts numbers (piece big n t w .events 0) [] → v ≡ w
+spelled-once texts numbers big n t v w d f g s r =
+    let e = all-build texts big n t .builds v d 0 numbers [] f s in
+    let i = all-build texts big n t .builds w d 0 numbers [] g r in
     cc
 
--- ONE VALUE FOR ONE FRAME: values that fit and have the same written form are the same
-pub written-once : (type : List ℕ) (big : Bool) (t : Tree) (v w : Value mostVariants t) → typeOf type ≡ some t → T (fits (piece big mostVariants t v) noneOpen) → T (fits (piece big mostVariants t w) noneOpen)
-    → length (written big mostVariants t v) ≤ largestFrame → written big mostVariants t v ≡ written big mostVariants t w → v ≡ w
-written-once type big t v w h f g small e =
-    let a : Fitting type big = record { tree = t; type-is = h; value = v; fit = f } in
-    let b : Fitting type big = record { tree = t; type-is = h; value = w; fit = g } in
-    let i : frameReading type big 0 (formOf a) ≡ done (length (formOf a)) (eventsOf a) = form-reads a small in
-    let j : frameReading type big 0 (formOf a) ≡ done (length (formOf b)) (eventsOf b) = rw e (form-reads b (rw e at small)) in
-    let k : eventsOf a ≡ eventsOf b = ap (λ (o : Outcome). o .events) (sym i ∙ j) in
-    let s : Shows (formOf a) (triples (eventsOf a)) (eventsOf b) [] = rw (e, k) (frame-shows big mostVariants t w) in
-    spelled-once (formOf a) (triples (eventsOf a)) big t v w f g (frame-shows big mostVariants t v) s
+-- ONE VALUE FOR ONE FRAME: values of any type that fit and have the same written form in one byte order are the same
+pub written-once : (big : Bool) (n : ℕ) (t : Tree) (v w : Value n t) (d : Depths) → T (fits (piece big n t v) d) → T (fits (piece big n t w) d)
+    → length (written big n t v) ≤ largestFrame → written big n t v ≡ written big n t w → v ≡ w
+written-once big n t v w d f g small e =
+    let i : reading 0 big n t d 0 (written big n t v) ≡ done (length (written big n t v)) (piece big n t v .events 0) = round-trip 0 big n t v d refl f small in
+    let j : reading 0 big n t d 0 (written big n t v) ≡ done (length (written big n t w)) (piece big n t w .events 0) = rw e (round-trip 0 big n t w d refl g (rw e at small)) in
+    let k : piece big n t v .events 0 ≡ piece big n t w .events 0 = ap (λ (o : Outcome). o .events) (sym i ∙ j) in
+    let s : Shows (written big n t v) (triples (piece big n t v .events 0)) (piece big n t w .events 0) [] = rw (e, k) (frame-shows big n t w) in
+    spelled-once (written big n t v) (triples (piece big n t v .events 0)) big n t v w d f g (frame-shows big n t v) s

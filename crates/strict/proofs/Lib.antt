@@ -1,3 +1,4 @@
 pub mod Wholes
 pub mod WrittenFrames
 pub mod Unique
+pub mod Numbers

@@ -32,7 +32,6 @@ static const char *const refusals[] = {
     [BOGTASSEL_ARRAY_DEPTH] = "too many arrays in one another",
     [BOGTASSEL_DEPTH] = "too many containers in one another",
     [BOGTASSEL_ROOM] = "too little room for the events",
-    [BOGTASSEL_OFFSET] = "an offset is missing",
 };
 
 /* What is being printed: the frame, whose texts hold the types of variants, and the event that is next. */

@@ -66,7 +66,8 @@ extern "C" {
  *   bogtassel_is_written   TYPE, LIMITS, then whatever of 3 to 12 reading meets first, then NOT_WRITTEN
  *   bogtassel_edit         TYPE, LIMITS (of `used`), then whatever of 3 to 12 reading meets first, then NOT_WRITTEN, NO_READING,
  *                          VALUE, DEPTH (of the reading), LIMITS (of the new frame), ROOM; a withdrawal none of these last four
- * No call gives a number that is not named for it here; 14 and 18 are given by none of them.
+ * No call gives a number that is not named for it here. 18 is given by none of them, and 14 is not used: it is proved that no
+ * call gives it, whatever its arguments.
  */
 enum bogtassel_refusal {
     BOGTASSEL_DONE = 0,             /* no refusal: the frame was read, or written, or edited, or is a written form */
@@ -85,7 +86,7 @@ enum bogtassel_refusal {
     BOGTASSEL_DEPTH = 12,           /* more than 64 containers in one another; editing: there would be, with the reading present */
     BOGTASSEL_ROOM = 13,            /* `out` is too short: for all events, 3 numbers each, or for the frame; editing: `buffer`
                                        is, for the new frame */
-    BOGTASSEL_OFFSET = 14,          /* a table of offsets has no further offset */
+                                    /* 14 is not used */
     BOGTASSEL_NOT_WRITTEN = 15,     /* the frame reads, but is not the form that writing gives its value */
     BOGTASSEL_NO_READING = 16,      /* editing: the frame has no reading of that number */
     BOGTASSEL_VALUE = 17,           /* the events spell no value of the type; editing: the bits spell none of the reading's type */

@@ -47,6 +47,7 @@ impl Error {
             Error::MaxDepthExceeded(MaxDepthExceeded::Structure) => Some(10),
             Error::MaxDepthExceeded(MaxDepthExceeded::Array) => Some(11),
             Error::MaxDepthExceeded(MaxDepthExceeded::Container) => Some(12),
+            // The table does not use this number, and no call of ours gives it: a frame on which the Rust said so would be a difference.
             Error::MissingFramingOffset => Some(14),
             _ => None,
         }

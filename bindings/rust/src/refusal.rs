@@ -1,4 +1,4 @@
-//! The numbered refusals, and what each means. 14 and 18 are given by none of the calls here and have no name.
+//! The numbered refusals, and what each means. 14 is not used, and 18 is given by none of the calls here: they have no name.
 use std::error::Error;
 use std::fmt;
 

@@ -8,9 +8,9 @@ use native.Mathlib.Nat.{div-self, zero-mul}
 use lib.Dec.{leb, eqb}
 use lib.ListN.{length, take, drop, getD, length-drop}
 use lib.Seq.{take-all, drop-drop, drop-length}
-use borrow.Author.Tests.{leb-true, leb-false, le-leb}
+use borrow.Author.Tests.{leb-true, leb-false, le-leb, eqb-true, eqb-false}
 use Rattle.meaning.specs.Choice.{pick}
-use Rattle.meaning.specs.Refusals.{outOfBounds, missingFramingOffset}
+use Rattle.meaning.specs.Refusals.{outOfBounds}
 use Rattle.meaning.specs.Offsets.{Table, tableFrom, tableOf, entries, endsOf, noneAbove, tableStands}
 use Rattle.framing_offsets.specs.declared.EncodedArray.{EncodedArray}
 use Rattle.meaning.specs.Numbers.{spelled, value}
@@ -28,7 +28,7 @@ unfolding tableFrom
 count-held w l h = let z : length l - 0 ≡ length l = omega arith in rw z h
 
 module _ (w i : ℕ) (l : List ℕ) {n : ℕ} (e : n ≡ countFrom w 0 l) where
-  pub held-behind : n ≤ i → failed missingFramingOffset ≡ offsetIn (heldTable w l) i l
+  pub held-behind : n ≤ i → failed outOfBounds ≡ offsetIn (heldTable w l) i l
   held-behind h = offset-behind (heldTable w l) i l (rw e at h)
 
   module _ (p : 0 < w) (g : i < n) where
@@ -47,7 +47,7 @@ module _ (w i : ℕ) (l : List ℕ) {n : ℕ} (e : n ≡ countFrom w 0 l) where
 
 -- the offsets of one byte and of two, from the bytes as they stand
 module _ (i : ℕ) (l : List ℕ) where
-  pub byte-behind : length l ≤ i → failed missingFramingOffset ≡ offsetIn (heldTable 1 l) i l
+  pub byte-behind : length l ≤ i → failed outOfBounds ≡ offsetIn (heldTable 1 l) i l
   byte-behind h = held-behind 1 i l (count-held 1 l {n = length l} (omega arith)) h
 
   pub byte-there : {b : ℕ} → i < length l → b ≡ getD l i 0 → passed b ≡ offsetIn (heldTable 1 l) i l
@@ -55,7 +55,7 @@ module _ (i : ℕ) (l : List ℕ) where
       let z : i ≡ i * 1 = omega arith in
       held-spelled 1 i l (count-held 1 l {n = length l} (omega arith)) (omega arith) g (h ∙ sym (spelled-byte false i l g) ∙ ap (λ (k : ℕ). spelled false 1 k l) z)
 
-  pub two-behind : length l / 2 ≤ i → failed missingFramingOffset ≡ offsetIn (heldTable 2 l) i l
+  pub two-behind : length l / 2 ≤ i → failed outOfBounds ≡ offsetIn (heldTable 2 l) i l
   two-behind h = held-behind 2 i l (count-held 2 l refl) h
 
   pub two-there : {low high : ℕ} → i < length l / 2 → low ≡ getD l (i * 2) 0 → high ≡ getD l (i * 2 + 1) 0
@@ -131,7 +131,7 @@ module _ (w i : ℕ) (l : List ℕ) (p : 0 < w) {r : Checked} (e : r ≡ offsetI
   held-before z = go (leb (countFrom w 0 l) i) refl
     where
       go : (b : Bool) → leb (countFrom w 0 l) i ≡ b → i < countFrom w 0 l
-      go true q = absurd (let n : r .refusal ≡ 14 = ap (λ (x : Checked). x .refusal) (e ∙ sym (held-behind w i l refl (leb-true _ _ q))) in omega arith)
+      go true q = absurd (let n : r .refusal ≡ outOfBounds = ap (λ (x : Checked). x .refusal) (e ∙ sym (held-behind w i l refl (leb-true _ _ q))) in omega arith)
       go false q = leb-false _ _ q
 
 -- the bytes of one offset are a table of that one
@@ -156,10 +156,10 @@ module _ (t : Table) (i : ℕ) (l : List ℕ) (h : i < t .count) (p : 0 < t .wid
     unfolding tableFrom
     counted = let z : length (drop (t .start) l) - 0 ≡ length l - t .start = simp length-drop (omega arith) in rw z
 
-    pub offset-short : (r .refusal ≡ 0 → ⊥) → failed outOfBounds ≡ offsetIn t i l
+    offset-short : (r .refusal ≡ 0 → ⊥) → failed outOfBounds ≡ offsetIn t i l
     offset-short z = offset-past t i l h counted p (held-past (t .width) i (drop (t .start) l) p cut z)
 
-    pub offset-held : r .refusal ≡ 0 → r ≡ offsetIn t i l
+    offset-held : r .refusal ≡ 0 → r ≡ offsetIn t i l
     offset-held z =
         let g = held-before (t .width) i (drop (t .start) l) p cut z in
         let q = offset-inside t i l h counted p g in
@@ -167,3 +167,13 @@ module _ (t : Table) (i : ℕ) (l : List ℕ) (h : i < t .count) (p : 0 < t .wid
         numberAt-is (t .width) false l (t .start + i * t .width) ∙ rw (le-leb (t .start + i * t .width + t .width) (length l) q) in
         let same : spelled false (t .width) (i * t .width) (drop (t .start) l) ≡ spelled false (t .width) (t .start + i * t .width) l = rw (drop-drop (i * t .width) (t .start) l) in
         held-is (t .width) i (drop (t .start) l) p cut g ∙ ap passed same ∙ sym b ∙ offset-there t i l h counted p g
+
+    -- what the table's own bytes answer is the answer
+    pub offset-through : r ≡ offsetIn t i l
+    offset-through = go (eqb (r .refusal) 0) refl
+      where
+        go : (b : Bool) → eqb (r .refusal) 0 ≡ b → r ≡ offsetIn t i l
+        go true q = offset-held (eqb-true _ 0 q)
+        go false q =
+            let z = eqb-false _ 0 q in
+            cut ∙ sym (held-behind (t .width) i (drop (t .start) l) refl (held-past (t .width) i (drop (t .start) l) p cut z)) ∙ offset-short z

@@ -9,7 +9,7 @@ use lib.Dec.{leb, eqb}
 use lib.ListN.{length, take, drop, getD}
 use borrow.Author.Tests.{le-leb, lt-leb, eq-eqb, ne-eqb}
 use Rattle.meaning.specs.Choice.{pick}
-use Rattle.meaning.specs.Refusals.{outOfBounds, missingFramingOffset}
+use Rattle.meaning.specs.Refusals.{outOfBounds}
 use Rattle.meaning.specs.Offsets.{Table, encodedWidth, lastOffset, tableFrom, tableOf, endsOf, tableStands}
 use Rattle.meaning.specs.Parts.{holds}
 use Rattle.meaning.proofs.OffsetSteps.{end-at, entry-past, entry-there, own-width, restStands, rest-piece, rest-above, rest-next}
@@ -66,7 +66,7 @@ module _ (l : List ℕ) (s : FramingOffsetSize) {last : Checked}
     encoded-falls t = record { refusal = rw (judged ∙ t); table = rw (judged ∙ t) }
 
 module _ (t : Table) (i : ℕ) (l : List ℕ) where
-  pub offset-behind : t .count ≤ i → failed missingFramingOffset ≡ offsetIn t i l
+  pub offset-behind : t .count ≤ i → failed outOfBounds ≡ offsetIn t i l
   unfolding offsetIn
   offset-behind h = rw (le-leb (t .count) i h)
 

@@ -5,7 +5,7 @@ use Prim.Native.Nat.{ℕ, _+_, _*_}
 use lib.Dec.{leb}
 use lib.ListN.{getD}
 use Rattle.meaning.specs.Choice.{pick}
-use Rattle.meaning.specs.Refusals.{outOfBounds, missingFramingOffset}
+use Rattle.meaning.specs.Refusals.{outOfBounds}
 use Rattle.meaning.specs.Offsets.{Table, tableFrom, tableOf, endsOf, tableStands}
 use Rattle.meaning.specs.Parts.{holds}
 use Rattle.utils.specs.declared.Checked.{Checked}
@@ -28,8 +28,8 @@ pub record Encoded (l : List ℕ) (r : EncodedArray) : Type 0 where
   pub refusal : r .refusal ≡ pick (tableStands (tableOf l) l) 0 outOfBounds
   pub table : tableIn (r .offsets) ≡ pick (tableStands (tableOf l) l) (tableOf l) emptyTable
 
--- an offset by its number: 14 behind the last one, 3 where the table is longer than the container
+-- an offset by its number: 3 behind the last one, and where the table is longer than the container
 unfoldable pub offsetIn : Table → ℕ → List ℕ → Checked
 offsetIn t i l =
-    pick (leb (t .count) i) (failed missingFramingOffset)
+    pick (leb (t .count) i) (failed outOfBounds)
     (pick (holds l (t .start + i * t .width) (t .width)) (passed (getD (endsOf t l) i 0)) (failed outOfBounds))

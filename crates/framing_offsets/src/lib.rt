@@ -3,7 +3,6 @@ pub mod table;
 
 use crate::table::next_in;
 use framing_offset_size::FramingOffsetSize;
-use meaning::refusals::MISSING_FRAMING_OFFSET;
 use meaning::refusals::OUT_OF_BOUNDS;
 use utils::Checked;
 ghost use mathlib.Core.Path.{_≡_};
@@ -91,16 +90,12 @@ pub fn next(container: &[u8], offsets: OffsetTable, i: usize) -> Checked
     let start = offsets.start;
     let size = offsets.size;
     if offsets.count <= i {
-        return Checked::failed(MISSING_FRAMING_OFFSET);
+        return Checked::failed(OUT_OF_BOUNDS);
     }
     if container.len() < start {
         return Checked::failed(OUT_OF_BOUNDS);
     }
-    let entry = next_in(&container[start..], size, i);
-    if entry.refusal != 0 {
-        return Checked::failed(OUT_OF_BOUNDS);
-    }
-    entry
+    next_in(&container[start..], size, i)
 }
 
 pub fn first(container: &[u8], offsets: OffsetTable) -> Checked

@@ -1,7 +1,7 @@
 // A table of framing offsets that holds its own bytes and their width, read where it stands. Ports the type of framing_offsets.rs.
 use crate::from_encoded_array;
 use framing_offset_size::FramingOffsetSize;
-use meaning::refusals::MISSING_FRAMING_OFFSET;
+use meaning::refusals::OUT_OF_BOUNDS;
 use utils::Checked;
 ghost use mathlib.Core.Path.{_≡_};
 ghost use Prim.Native.Nat.{_<_};
@@ -35,7 +35,7 @@ fn byte_of(table: &[u8], i: usize) -> Checked
     ensures { λ r. ⌜ r ≡ offsetIn (heldTable 1 (now (table .entry))) i (now (table .entry)) ⌝ }
 {
     if table.len() <= i {
-        return Checked::failed(MISSING_FRAMING_OFFSET);
+        return Checked::failed(OUT_OF_BOUNDS);
     }
     Checked::passed(wide(table[i]))
 }
@@ -44,7 +44,7 @@ fn two_of(table: &[u8], i: usize) -> Checked
     ensures { λ r. ⌜ r ≡ offsetIn (heldTable 2 (now (table .entry))) i (now (table .entry)) ⌝ }
 {
     if table.len() / 2 <= i {
-        return Checked::failed(MISSING_FRAMING_OFFSET);
+        return Checked::failed(OUT_OF_BOUNDS);
     }
     let place = i * 2;
     let low = wide(table[place]);
@@ -56,7 +56,7 @@ fn wider_of(table: &[u8], size: FramingOffsetSize, i: usize) -> Checked
     ensures { λ r. ⌜ r ≡ offsetIn (heldTable (widthOf size) (now (table .entry))) i (now (table .entry)) ⌝ }
 {
     if count_of(table, size) <= i {
-        return Checked::failed(MISSING_FRAMING_OFFSET);
+        return Checked::failed(OUT_OF_BOUNDS);
     }
     size.offset_at(table, i * size.width())
 }

@@ -45,8 +45,7 @@ containersTooDeep = 12
 abbrev pub roomTooSmall : ℕ
 roomTooSmall = 13
 
-abbrev pub missingFramingOffset : ℕ
-missingFramingOffset = 14
+-- 14 is not used
 
 -- edit: the frame reads, but is no written form
 abbrev pub notWritten : ℕ

@@ -1,4 +1,4 @@
-// The numbers of the refusals, as specs/Refusals has them.
+// The numbers of the refusals, as specs/Refusals has them; 14 is not used.
 pub const TYPE_REFUSED: u8 = 1;
 
 pub const OVER_LIMIT: u8 = 2;
@@ -24,8 +24,6 @@ pub const ARRAYS_TOO_DEEP: u8 = 11;
 pub const CONTAINERS_TOO_DEEP: u8 = 12;
 
 pub const ROOM_TOO_SMALL: u8 = 13;
-
-pub const MISSING_FRAMING_OFFSET: u8 = 14;
 
 pub const NOT_WRITTEN: u8 = 15;
 

@@ -3,7 +3,7 @@ use mathlib.Core.Path.{_∙_}
 use Rattle.framing_offset_size.proofs.WidthLaws.{width-positive}
 use Rattle.framing_offsets.specs.Tables.{tableIn}
 use Rattle.framing_offsets.proofs.TableLaws.{offset-behind}
-use Rattle.framing_offsets.proofs.HeldLaws.{offset-beyond, offset-short, offset-held}
+use Rattle.framing_offsets.proofs.HeldLaws.{offset-beyond, offset-through}
 use borrow.Author.Needs.{needs}
 use Rattle.framing_offsets.proofs.next.Statement.{statement}
 use Rattle.framing_offsets.proofs.next.Tie as tie
@@ -38,18 +38,10 @@ part-next-in-end c = search needs
 next-in-requires : tie.Need-next-in-requires
 next-in-requires c κs = search needs
 
-failed-requires-3 : tie.Need-failed-requires-3
-failed-requires-3 c κs = search needs
-
 returns-3 : tie.Need-returns-3
 returns-3 c =
-    let a = c .before .before .before .before .before .before .before .before .before .args in
-    (c .failed3 .ensures) ∙ offset-short (tableIn (a .offsets)) (a .i) (a .container .now) (c .before .before .before .before .before .before .if1 .left) (width-positive (a .offsets .size)) (c .before .before .before .next-in .ensures) (c .before .if3 .taken)
-
-returns-4 : tie.Need-returns-4
-returns-4 c =
-    let a = c .before .before .before .before .before .before .before .before .args in
-    offset-held (tableIn (a .offsets)) (a .i) (a .container .now) (c .before .before .before .before .before .if1 .left) (width-positive (a .offsets .size)) (c .before .before .next-in .ensures) (c .if3 .left)
+    let a = c .before .before .before .before .before .before .args in
+    offset-through (tableIn (a .offsets)) (a .i) (a .container .now) (c .before .before .before .if1 .left) (width-positive (a .offsets .size)) (c .next-in .ensures)
 
 pub next-spec : {M : Type 1} → statement M
 next-spec =
@@ -63,6 +55,4 @@ next-spec =
     part-next-in-start
     part-next-in-end
     next-in-requires
-    failed-requires-3
-    returns-3
-    returns-4)
+    returns-3)

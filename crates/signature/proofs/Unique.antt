@@ -14,6 +14,12 @@ use Rattle.signature.proofs.shapes.shapes_of.Kinds as shapes-of-kinds
 use Rattle.signature.proofs.shapes.shapes_of.Reads as shapes-of
 use Rattle.signature.proofs.shapes.shape_in.Kinds as shape-in-kinds
 use Rattle.signature.proofs.shapes.shape_in.Reads as shape-in
+use Rattle.signature.proofs.shapes.next_of.Kinds as next-of-kinds
+use Rattle.signature.proofs.shapes.next_of.Reads as next-of
+use Rattle.signature.proofs.shapes.alignment_of.Kinds as alignment-of-kinds
+use Rattle.signature.proofs.shapes.alignment_of.Reads as alignment-of
+use Rattle.signature.proofs.shapes.fixed_of.Kinds as fixed-of-kinds
+use Rattle.signature.proofs.shapes.fixed_of.Reads as fixed-of
 use Rattle.signature.proofs.items.item_of.Kinds as item-of-kinds
 use Rattle.signature.proofs.items.item_of.Reads as item-of
 
@@ -37,6 +43,15 @@ shapes-of-unique κs a z z′ w w′ p q =
 
 pub shape-in-unique : OneAnswer shape-in-kinds.ps shape-in-kinds.r shape-in.Learnt
 shape-in-unique κs a z z′ w w′ p q = (p ∙ sym q, refl)
+
+pub next-of-unique : OneAnswer next-of-kinds.ps next-of-kinds.r next-of.Learnt
+next-of-unique κs a z z′ w w′ p q = (p ∙ sym q, refl)
+
+pub alignment-of-unique : OneAnswer alignment-of-kinds.ps alignment-of-kinds.r alignment-of.Learnt
+alignment-of-unique κs a z z′ w w′ p q = (p ∙ sym q, refl)
+
+pub fixed-of-unique : OneAnswer fixed-of-kinds.ps fixed-of-kinds.r fixed-of.Learnt
+fixed-of-unique κs a z z′ w w′ p q = (p ∙ sym q, refl)
 
 pub item-of-unique : OneAnswer item-of-kinds.ps item-of-kinds.r item-of.Learnt
 item-of-unique κs a z z′ w w′ p q = (p ∙ sym q, refl)

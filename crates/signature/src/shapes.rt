@@ -38,19 +38,19 @@ fn pack(next: usize, alignment: usize, fixed: bool) -> u16
     (32 * next + alignment) as u16
 }
 
-fn next_of(s: u16) -> usize
+pub fn next_of(s: u16) -> usize
     ensures { λ r. ⌜ r ≡ s / 32 ⌝ }
 {
     (s / 32) as usize
 }
 
-fn alignment_of(s: u16) -> usize
+pub fn alignment_of(s: u16) -> usize
     ensures { λ r. ⌜ r ≡ s % 16 ⌝ }
 {
     (s % 16) as usize
 }
 
-fn fixed_of(s: u16) -> bool
+pub fn fixed_of(s: u16) -> bool
     ensures { λ r. ⌜ r ≡ leb 16 (s % 32) ⌝ }
 {
     16 <= s % 32

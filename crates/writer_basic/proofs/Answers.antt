@@ -141,7 +141,7 @@ bounds z d = let m = made-of z d in record { small = omega (arith, m .facts .siz
 
 -- a value of one event
 pub single : {x : Built Piece} (c : Piece) (ns : List ℕ) (i start top u : ℕ) (l l′ s : List ℕ) → x ≡ built c (drop (i + 3) ns) → i + 3 ≤ length ns → u ≡ min (length (c .bytes)) cap
-    → (start + length (c .bytes) ≤ largestFrame → l′ ≡ puts l start (c .bytes)) → Done x ns i start top l l′ s s (answer 0 (i + 3) u)
+    → (start + length (c .bytes) ≤ length l → l′ ≡ puts l start (c .bytes)) → Done x ns i start top l l′ s s (answer 0 (i + 3) u)
 single c ns i start top u l l′ s e h g p = rw e (record {
   says = record {
     refusal = refl;
@@ -149,7 +149,7 @@ single c ns i start top u l l′ s e h g p = rw e (record {
     forward = omega arith;
     within = h;
     size = g;
-    stored = λ q. puts-stored l s start (c .bytes) top (omega (arith, q .inside)) l′ (p (omega (arith, q .inside, q .limit)));
+    stored = λ q. puts-stored l s start (c .bytes) top (omega (arith, q .inside)) l′ (p (omega (arith, q .inside)));
   };
 })
 
@@ -232,20 +232,34 @@ module _ (texts : List ℕ) (big : Bool) (d : Depths) (ns : List ℕ) (i start t
   unfolding emitBasic buildBasic
   text-wrong t k l′ e u = let v : Untaken texts (textLetter n) ns i k = rw e at u in wrong (mapped-fault _ _ k (untaken-fault _ v)) (untaken-real v)
 
-  pub text-made : (k from to u place : ℕ) (l₁ l₂ : List ℕ) → k ≡ textLetter n → Taken texts k ns i from to → l₁ ≡ puts l start (take (to - from) (drop from texts)) → place ≡ sum start (to - from) → l₂ ≡ set l₁ place 0
-      → u ≡ sum 1 (to - from) → Done (emitBasic texts big (text n) d (drop i ns)) ns i start top l l₂ s s (answer 0 (i + 3) u)
+  pub text-made : (k from to u : ℕ) (l₁ : List ℕ) → k ≡ textLetter n → Taken texts k ns i from to
+      → (start + length (take (to - from) (drop from texts)) < length l → l₁ ≡ puts l start (take (to - from) (drop from texts) ++ (0 ∷ []))) → u ≡ sum 1 (to - from) → Done (emitBasic texts big (text n) d (drop i ns)) ns i start top l l₁ s s (answer 0 (i + 3) u)
   unfolding emitBasic buildBasic basicPiece
-  text-made k from to u place l₁ l₂ x t₀ h hp g hu =
+  text-made k from to u l₁ x t₀ h hu =
       let t : Taken texts (textLetter n) ns i from to = rw x at t₀ in
       let m : length (take (to - from) (drop from texts)) ≡ to - from = part-length from to (t .order) (t .inside) in
       let k = length-append (take (to - from) (drop from texts)) (0 ∷ []) in
-      single (basicPiece big (text n) (take (to - from) (drop from texts))) ns i start top u l l₂ s
+      single (basicPiece big (text n) (take (to - from) (drop from texts))) ns i start top u l l₁ s
       (mapped-built _ _ _ _ (taken-on _ t)) (t .at .whole) (omega (arith, m, k))
-      (λ q. let e : place ≡ start + (to - from) = omega (arith, m, k) in
-      g ∙ rw (e, h, puts-append (take (to - from) (drop from texts)) (0 ∷ []) l start (start + (to - from)) (omega arith), puts-cons, puts-none))
+      (λ q. h (omega (arith, k)))
     where
       part-length : (a b : ℕ) → a ≤ b → b ≤ length texts → length (take (b - a) (drop a texts)) ≡ b - a
       part-length a b x y = lib.Seq.length-take-le (b - a) (drop a texts) (rw (lib.ListN.length-drop a texts) (omega arith))
+
+-- a place is as good where it is not capped
+pub done-near : {x : Built Piece} {ns : List ℕ} {i top : ℕ} {l l′ s s′ : List ℕ} {r : Answer} (base k : ℕ) → Done x ns i (base + k) top l l′ s s′ r → Done x ns i (sum base k) top l l′ s s′ r
+done-near {x} {ns} {i} {top} {l} {l′} {s} {s′} {r} base k d = record { says = go x (d .says) }
+  where
+    go : (y : Built Piece) → Says y ns i (base + k) top l l′ s s′ r → Says y ns i (sum base k) top l l′ s s′ r
+    go (fault n) f = f
+    go (built c rest) f = record {
+      refusal = f .refusal;
+      behind = f .behind;
+      forward = f .forward;
+      within = f .within;
+      size = f .size;
+      stored = λ q. let e : min (base + k) cap ≡ base + k = omega (arith, q .inside, q .limit) in rw e (f .stored (rw e at q));
+    }
 
 -- ---- by the letter
 

@@ -7,7 +7,7 @@ use native.Mathlib.Decide.{decLt}
 use native.Mathlib.Numerals.{add-one}
 use native.Mathlib.Nat.{add-zero, sub-zero}
 use lib.ListN.{length, drop, take, set, getD, length-set, length-append, length-replicate, length-reverse, length-drop, drop-of-length-le}
-use lib.Seq.{sets, sets-eq, set-comm, set-out, drop-cons, take-suc, getD-drop}
+use lib.Seq.{sets, sets-eq, set-comm, set-set, set-out, drop-cons, take-suc, take-add, take-length, length-take-le, getD-drop}
 use lib.Dec.{leb}
 use borrow.Author.Tests.{le-leb, lt-leb}
 use Rattle.meaning.specs.Padding.{Aligns, padding, zeros}
@@ -102,6 +102,61 @@ copied-end l part at i h = go (decLt i (length part))
     go : Dec (i < length part) → puts l (at + i) (drop i part) ≡ l
     go (yes g) = puts-out (drop i part) l (at + i) (omega arith)
     go (no g) = part-end l part at i (omega arith)
+
+-- ---- blocks
+
+-- a byte more of a block, at a place behind its first
+block-step : (l p : List ℕ) (at i m n : ℕ) → i + m < length p → puts l (at + m) (take (suc n) (drop (i + m) p)) ≡ puts (set l (at + m) (getD p (i + m) 0)) (at + (m + 1)) (take n (drop (i + (m + 1)) p))
+block-step l p at i m n h =
+    let f : at + (m + 1) ≡ suc (at + m) = omega arith in
+    let g : i + (m + 1) ≡ suc (i + m) = omega arith in
+    rw (f, g, drop-cons p (i + m) 0 h) (puts-cons l (at + m) (getD p (i + m) 0) (take n (drop (suc (i + m)) p)))
+
+block-first : (l p : List ℕ) (at i n : ℕ) → i < length p → puts l at (take (suc n) (drop i p)) ≡ puts (set l at (getD p i 0)) (at + 1) (take n (drop (i + 1) p))
+block-first l p at i n h = rw (add-one at, add-one i, drop-cons p i 0 h) (puts-cons l at (getD p i 0) (take n (drop (suc i) p)))
+
+pub four : (l p : List ℕ) (at i : ℕ) → i + 4 ≤ length p → puts l at (take 4 (drop i p)) ≡ set (set (set (set l at (getD p i 0)) (at + 1) (getD p (i + 1) 0)) (at + 2) (getD p (i + 2) 0)) (at + 3) (getD p (i + 3) 0)
+four l p at i h =
+    block-first l p at i 3 (omega arith) ∙ block-step _ p at i 1 2 (omega arith) ∙ block-step _ p at i 2 1 (omega arith) ∙ block-step _ p at i 3 0 (omega arith) ∙ puts-none _ (at + 4)
+
+pub eight : (l p : List ℕ) (at i : ℕ) → i + 8 ≤ length p → puts l at (take 8 (drop i p))
+    ≡ set (set (set (set (set (set (set (set l at (getD p i 0)) (at + 1) (getD p (i + 1) 0)) (at + 2) (getD p (i + 2) 0)) (at + 3) (getD p (i + 3) 0)) (at + 4) (getD p (i + 4) 0)) (at + 5) (getD p (i + 5) 0)) (at + 6) (getD p (i + 6) 0)) (at + 7) (getD p (i + 7) 0)
+eight l p at i h =
+    block-first l p at i 7 (omega arith) ∙ block-step _ p at i 1 6 (omega arith) ∙ block-step _ p at i 2 5 (omega arith) ∙ block-step _ p at i 3 4 (omega arith) ∙ block-step _ p at i 4 3 (omega arith)
+    ∙ block-step _ p at i 5 2 (omega arith) ∙ block-step _ p at i 6 1 (omega arith) ∙ block-step _ p at i 7 0 (omega arith) ∙ puts-none _ (at + 8)
+
+-- a store in front of others may be done first
+set-front : (xs l : List ℕ) (i j b : ℕ) → j < i → set (puts l i xs) j b ≡ puts (set l j b) i xs
+unfolding puts
+set-front [] l i j b h = refl
+set-front (x ∷ xs) l i j b h = set-front xs (set l i x) (suc i) j b (omega arith) ∙ ap (λ (z : List ℕ). puts z (suc i) xs) (set-comm l i j x b (λ q. omega arith))
+
+-- what is stored over is of no matter
+puts-over : (xs ys l : List ℕ) (i : ℕ) → length xs ≤ length ys → puts (puts l i xs) i ys ≡ puts l i ys
+unfolding puts
+puts-over [] ys l i h = refl
+puts-over (x ∷ xs) [] l i h = absurd (omega arith)
+puts-over (x ∷ xs) (y ∷ ys) l i h =
+    ap (λ (z : List ℕ). puts z (suc i) ys) (set-front xs (set l i x) (suc i) i y (omega arith) ∙ ap (λ (z : List ℕ). puts z (suc i) xs) (set-set l i x y)) ∙ puts-over xs ys (set l i y) (suc i) (omega arith)
+
+-- two blocks are a whole part, also where they overlap
+pub overlap : (l p : List ℕ) (at j k : ℕ) → j ≤ k → j + k ≡ length p → puts (puts l at (take k p)) (at + j) (take k (drop j p)) ≡ puts l at p
+overlap l p at j k h e =
+    let a : length (take j p) ≡ j = length-take-le j p (omega arith) in
+    let c : length (drop j p) ≡ k = length-drop j p ∙ omega arith in
+    let s : take k p ≡ take j p ++ take (k - j) (drop j p) = (let z : k ≡ j + (k - j) = omega arith in ap (λ (m : ℕ). take m p) z ∙ take-add j (k - j) p) in
+    let w : take j p ++ take k (drop j p) ≡ p = sym (take-add j k p) ∙ ap (λ (m : ℕ). take m p) e ∙ take-length p in
+    let x : length (take (k - j) (drop j p)) ≡ k - j = length-take-le (k - j) (drop j p) (omega arith) in
+    let y : length (take k (drop j p)) ≡ k = length-take-le k (drop j p) (omega arith) in
+    ap (λ (z : List ℕ). puts z (at + j) (take k (drop j p))) (ap (puts l at) s ∙ puts-append (take j p) (take (k - j) (drop j p)) l at (at + j) (omega arith))
+    ∙ puts-over (take (k - j) (drop j p)) (take k (drop j p)) (puts l at (take j p)) (at + j) (omega arith) ∙ sym (puts-append (take j p) (take k (drop j p)) l at (at + j) (omega arith)) ∙ ap (puts l at) w
+
+-- a byte behind, and one in front
+pub puts-snoc : (xs l : List ℕ) (i b : ℕ) → set (puts l i xs) (i + length xs) b ≡ puts l i (xs ++ (b ∷ []))
+puts-snoc xs l i b = sym (puts-append xs (b ∷ []) l i (i + length xs) refl ∙ puts-cons (puts l i xs) (i + length xs) b [] ∙ puts-none _ (suc (i + length xs)))
+
+pub puts-front : (xs l : List ℕ) (i b : ℕ) → puts (set l i b) (i + 1) xs ≡ puts l i (b ∷ xs)
+puts-front xs l i b = rw (add-one i) (sym (puts-cons l i b xs))
 
 -- the highest byte first, from the back
 pub turned-step : (l : List ℕ) (at i y : ℕ) → 0 < i → puts l at (reverse (bytes i y)) ≡ puts (set l (at + (i - 1)) (y % 256)) at (reverse (bytes (i - 1) (y / 256)))

@@ -340,10 +340,10 @@ module _ (x : Built Piece) (t : Tree) (ns : List ℕ) (i start top : ℕ) (l l�
       let m = made-of z d in
       wrong (mapped-fault variantOf _ 17 (sealed-built _ (t, m .piece) _ (mapped-built _ x _ _ (m .is ∙ ap (built (m .piece)) (m .facts .behind))) ∙ onPlain-not (λ q. built (t, m .piece) q) (o .not e))) (λ q. omega arith)
 
-  pub value-shut : (b : Bool) (text l₂ l₃ : List ℕ) (u c : ℕ) → r .refusal ≡ 0 → Opens 41 ns (r .next) b → b ≡ true → typeText t ≡ text → length text ≡ c → l₂ ≡ set l₁ (start + r .size) 0 → l₃ ≡ puts l₂ (start + r .size + 1) text
-      → u ≡ sum (r .size) (1 + c) → length l₁ ≡ length l → Done (aroundValue t x) ns i start top l l₃ s s′ (answer 0 (r .next + 3) u)
+  pub value-shut : (b : Bool) (text l₂ : List ℕ) (u c : ℕ) → r .refusal ≡ 0 → Opens 41 ns (r .next) b → b ≡ true → typeText t ≡ text → length text ≡ c → (start + r .size + length text < length l₁ → l₂ ≡ puts l₁ (start + r .size) (0 ∷ text))
+      → u ≡ sum (r .size) (1 + c) → length l₁ ≡ length l → Done (aroundValue t x) ns i start top l l₂ s s′ (answer 0 (r .next + 3) u)
   unfolding aroundValue variantPiece
-  value-shut b text l₂ l₃ u c z o e k hc h₂ h₃ hu n₁ =
+  value-shut b text l₂ u c z o e k hc h hu n₁ =
       let m = made-of z d in
       let f = m .facts in
       let n = length-append (m .piece .bytes) (0 ∷ text) in
@@ -359,9 +359,6 @@ module _ (x : Built Piece) (t : Tree) (ns : List ℕ) (i start top : ℕ) (l l�
           forward = omega (arith, f .forward);
           within = o .here e .whole;
           size = omega (arith, f .size, hu, n, hc);
-          stored = λ q. behind (0 ∷ text) (r .size) l₃ q n₁ (f .size) (f .stored) text-stored;
+          stored = λ q. behind (0 ∷ text) (r .size) l₂ q n₁ (f .size) (f .stored) (h (omega (arith, n, n₁, f .size, q .inside)));
         };
       }))
-    where
-      text-stored : l₃ ≡ puts l₁ (start + r .size) (0 ∷ text)
-      text-stored = let y : start + r .size + 1 ≡ suc (start + r .size) = omega arith in h₃ ∙ rw (y, h₂) (sym (puts-cons l₁ (start + r .size) 0 text))

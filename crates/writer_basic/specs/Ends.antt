@@ -48,6 +48,13 @@ pub record Kept (top j end : ℕ) (skip : Bool) (l l′ s s′ : List ℕ) (r : 
   pub counts : skip ≡ false → r ≡ sum j 1
   pub keeps : skip ≡ false → (place : ℕ) → place + tail (top + j) ≤ length l → 128 ≤ length s → end < 65536 → Stored l s l′ s′ place [] (top + j) (end ∷ [])
 
+-- two ends are exchanged: the others are as they were, and so is what stands in front of them
+pub record Swapped (i j : ℕ) (l l′ s s′ : List ℕ) : Type 0 where
+  pub first : tail j ≤ length l → 128 ≤ length s → endAt l′ s′ i ≡ endAt l s j
+  pub last : tail j ≤ length l → 128 ≤ length s → endAt l′ s′ j ≡ endAt l s i
+  pub others : tail j ≤ length l → (k : ℕ) → (k ≡ i → ⊥) → (k ≡ j → ⊥) → tail k ≤ length l → endAt l′ s′ k ≡ endAt l s k
+  pub front : tail j ≤ length l → (place : ℕ) → place + tail j ≤ length l → take place l′ ≡ take place l
+
 -- so many ends are turned round
 pub record Turned (top count : ℕ) (l l′ s s′ : List ℕ) : Type 0 where
   pub each : 2 * (top + count - 128) ≤ length l → 128 ≤ length s → (k : ℕ) → k < count → endAt l′ s′ (top + k) ≡ endAt l s (top + (count - 1 - k))

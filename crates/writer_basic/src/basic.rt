@@ -2,9 +2,8 @@
 use crate::Answer;
 use crate::refused;
 use crate::store::add;
-use crate::store::copy;
 use crate::store::number_bytes;
-use crate::store::put;
+use crate::store::put_text;
 use crate::wrote;
 use meaning::letters::ARRAY_LETTER;
 use meaning::letters::BOOL_LETTER;
@@ -169,7 +168,7 @@ pub fn text_value(
     out: &mut [u8],
     start: usize,
 ) -> Answer
-    requires { ⌜ (i ≤ length (now events)) × (start ≤ cap) ⌝ }
+    requires { ⌜ (i ≤ length (now events)) × (start ≤ cap + cap) ⌝ }
     ensures { λ r. ⌜ ((n : TextType) (big : Bool) (d : Depths) (top : ℕ) (s : List ℕ) → code ≡ textLetter n → Done (emitBasic (now (texts .entry)) big (textBasic n) d (drop i (now (events .entry)))) (now (events .entry)) i start top (now (out .entry)) (now (out .exit)) s s r) ⌝ }
 {
     let view = text_at(events, texts, i, code_of(code));
@@ -180,9 +179,7 @@ pub fn text_value(
         return refused(refusal);
     }
     let count = to - from;
-    copy(out, start, &texts[from..to]);
-    let place = add(start, count);
-    put(out, place, 0);
+    put_text(out, start, &texts[from..to]);
     wrote(i + 3, add(1, count))
 }
 

@@ -9,9 +9,9 @@ use crate::ran;
 use crate::refused;
 use crate::stopped;
 use crate::store::add;
-use crate::store::copy;
 use crate::store::pad;
 use crate::store::put;
+use crate::store::put_type;
 use crate::wrote;
 use meaning::letters::CONTAINER_END;
 use meaning::refusals::NO_VALUE;
@@ -137,8 +137,7 @@ pub fn variant_end(
     }
     if plain_at(events, next, CONTAINER_END) {
         let place = start + size;
-        put(out, place, 0);
-        copy(out, place + 1, &texts[from..to]);
+        put_type(out, place, &texts[from..to]);
         return wrote(next + 3, add(size, 1 + (to - from)));
     }
     refused(NO_VALUE)

@@ -10,7 +10,7 @@ ghost use mathlib.Core.List.{List};
 ghost use lib.ListN.{length, set};
 ghost use Rattle.meaning.specs.Offsets.{writtenWidth, table as tableOf, backTable};
 ghost use Rattle.writer_basic.specs.Stores.{cap};
-ghost use Rattle.writer_basic.specs.Ends.{EndAt, PutEnd, Kept, Turned, TableFrom};
+ghost use Rattle.writer_basic.specs.Ends.{EndAt, PutEnd, Kept, Swapped, Turned, TableFrom};
 
 fn half(x: u64) -> u16
     ensures { λ r. ⌜ r ≡ x % 65536 ⌝ }
@@ -102,6 +102,32 @@ pub fn width(body: usize, count: usize) -> usize
     4
 }
 
+// Exchanges two ends. Both may stand in the tail, where their bytes are exchanged.
+fn swap_ends(out: &mut [u8], ends: &mut [u16], i: usize, j: usize)
+    requires { ⌜ (i < j) × (j < 2 ^ 32) ⌝ }
+    ensures { λ r. ⌜ Swapped i j (now (out .entry)) (now (out .exit)) (now (ends .entry)) (now (ends .exit)) ⌝ }
+{
+    if 128 <= i {
+        let back = 2 * (j - 127);
+        if out.len() < back {
+            return;
+        }
+        let at = out.len() - 2 * (i - 127);
+        let to = out.len() - back;
+        let first = wide_byte(out[at]) + 256 * wide_byte(out[at + 1]);
+        let last = wide_byte(out[to]) + 256 * wide_byte(out[to + 1]);
+        out[at] = low(last);
+        out[at + 1] = low(last / 256);
+        out[to] = low(first);
+        out[to + 1] = low(first / 256);
+        return;
+    }
+    let first = end_at(out, ends, i);
+    let last = end_at(out, ends, j);
+    put_end(out, ends, i, last);
+    put_end(out, ends, j, first);
+}
+
 // Turns so many ends round: the first is the last then.
 fn turn_ends(out: &mut [u8], ends: &mut [u16], top: usize, count: usize)
     requires { ⌜ (top ≤ cap) × (count ≤ cap) ⌝ }
@@ -111,10 +137,7 @@ fn turn_ends(out: &mut [u8], ends: &mut [u16], top: usize, count: usize)
     let mut j = count;
     while i + 1 < j {
         j = j - 1;
-        let first = end_at(out, ends, top + i);
-        let last = end_at(out, ends, top + j);
-        put_end(out, ends, top + i, last);
-        put_end(out, ends, top + j, first);
+        swap_ends(out, ends, top + i, top + j);
         i = i + 1;
     }
 }
@@ -137,13 +160,34 @@ pub fn back_table(out: &mut [u8], at: usize, width: usize, ends: &[u16], top: us
     }
 }
 
-// The table of so many ends, in order.
+// The table of so many ends that all stand in their slice, in order.
+fn front_table(out: &mut [u8], at: usize, width: usize, ends: &[u16], top: usize, count: usize)
+    requires { ⌜ (at < 2 ^ 30) × (width ≤ 4) × (top + count ≤ 128) × (top + count ≤ length (now ends)) ⌝ }
+    ensures { λ r. ⌜ TableFrom (tableOf width) at width top count (now (out .entry)) (now (out .exit)) (now (ends .entry)) (now (ends .entry)) ⌝ }
+{
+    let mut j: usize = 0;
+    let mut place = at;
+    while j < count {
+        let end = wide(ends[top + j]);
+        digits(out, place, width, end);
+        place = place + width;
+        j = j + 1;
+    }
+}
+
+// The table of so many ends, in order: they are turned round first where some stand in the tail.
 pub fn table(out: &mut [u8], at: usize, width: usize, ends: &mut [u16], top: usize, count: usize)
     requires { ⌜ (at < 2 ^ 30) × (width ≤ 4) × (top ≤ cap) × (count ≤ cap) ⌝ }
     ensures { λ r. ⌜ TableFrom (tableOf width) at width top count (now (out .entry)) (now (out .exit)) (now (ends .entry)) (now (ends .exit)) ⌝ }
 {
     if out.len() < at {
         return;
+    }
+    if top + count <= 128 {
+        if top + count <= ends.len() {
+            front_table(out, at, width, ends, top, count);
+            return;
+        }
     }
     turn_ends(out, ends, top, count);
     back_table(out, at, width, ends, top, count);

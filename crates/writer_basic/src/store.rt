@@ -2,7 +2,8 @@
 ghost use mathlib.Core.Path.{_≡_};
 ghost use Prim.Native.Nat.{ℕ, _+_, _≤_, _<_, _^_, _%_, min};
 ghost use mathlib.Core.Bool.{true, false};
-ghost use lib.ListN.{length, set};
+ghost use mathlib.Core.List.{[], _∷_, _++_};
+ghost use lib.ListN.{length, set, take, drop};
 ghost use Rattle.meaning.specs.Numbers.{bytes, ordered};
 ghost use Rattle.meaning.specs.Padding.{Aligns, padding, zeros};
 ghost use Rattle.writer_basic.specs.Stores.{cap, sum, puts};
@@ -140,7 +141,7 @@ fn smaller(a: usize, b: usize) -> usize
 }
 
 // A part's bytes from a place on, as many as there is room for.
-pub fn copy(out: &mut [u8], at: usize, part: &[u8])
+fn copy(out: &mut [u8], at: usize, part: &[u8])
     ensures { λ r. ⌜ now (out .exit) ≡ puts (now (out .entry)) at (now (part .entry)) ⌝ }
 {
     if out.len() <= at {
@@ -152,4 +153,92 @@ pub fn copy(out: &mut [u8], at: usize, part: &[u8])
         out[at + i] = part[i];
         i = i + 1;
     }
+}
+
+// Four bytes of a part at once, and eight.
+fn copy_four(out: &mut [u8], at: usize, part: &[u8], i: usize)
+    requires { ⌜ (at + 4 ≤ length (now out)) × (i + 4 ≤ length (now part)) ⌝ }
+    ensures { λ r. ⌜ now (out .exit) ≡ puts (now (out .entry)) at (take 4 (drop i (now (part .entry)))) ⌝ }
+{
+    let first = part[i];
+    let second = part[i + 1];
+    let third = part[i + 2];
+    let fourth = part[i + 3];
+    out[at] = first;
+    out[at + 1] = second;
+    out[at + 2] = third;
+    out[at + 3] = fourth;
+}
+
+fn copy_eight(out: &mut [u8], at: usize, part: &[u8], i: usize)
+    requires { ⌜ (at + 8 ≤ length (now out)) × (i + 8 ≤ length (now part)) ⌝ }
+    ensures { λ r. ⌜ now (out .exit) ≡ puts (now (out .entry)) at (take 8 (drop i (now (part .entry)))) ⌝ }
+{
+    let first = part[i];
+    let second = part[i + 1];
+    let third = part[i + 2];
+    let fourth = part[i + 3];
+    let fifth = part[i + 4];
+    let sixth = part[i + 5];
+    let seventh = part[i + 6];
+    let eighth = part[i + 7];
+    out[at] = first;
+    out[at + 1] = second;
+    out[at + 2] = third;
+    out[at + 3] = fourth;
+    out[at + 4] = fifth;
+    out[at + 5] = sixth;
+    out[at + 6] = seventh;
+    out[at + 7] = eighth;
+}
+
+// All of a part, for which there is room. A short one by two steps, which may overlap.
+fn copy_all(out: &mut [u8], at: usize, part: &[u8])
+    requires { ⌜ at + length (now part) ≤ length (now out) ⌝ }
+    ensures { λ r. ⌜ now (out .exit) ≡ puts (now (out .entry)) at (now (part .entry)) ⌝ }
+{
+    if part.len() <= 16 {
+        if 8 <= part.len() {
+            let last = part.len() - 8;
+            copy_eight(out, at, part, 0);
+            copy_eight(out, at + last, part, last);
+            return;
+        }
+        if 4 <= part.len() {
+            let last = part.len() - 4;
+            copy_four(out, at, part, 0);
+            copy_four(out, at + last, part, last);
+            return;
+        }
+    }
+    copy(out, at, part);
+}
+
+// A text and a nul behind it, where there is room for both.
+pub fn put_text(out: &mut [u8], at: usize, part: &[u8])
+    ensures { λ r. ⌜ (at + length (now (part .entry)) < length (now (out .entry)) → now (out .exit) ≡ puts (now (out .entry)) at (now (part .entry) ++ (0 ∷ []))) ⌝ }
+{
+    if out.len() <= at {
+        return;
+    }
+    if out.len() - at <= part.len() {
+        return;
+    }
+    let end = at + part.len();
+    copy_all(out, at, part);
+    out[end] = 0;
+}
+
+// A nul and the text of a type behind it, where there is room for both.
+pub fn put_type(out: &mut [u8], at: usize, part: &[u8])
+    ensures { λ r. ⌜ (at + length (now (part .entry)) < length (now (out .entry)) → now (out .exit) ≡ puts (now (out .entry)) at (0 ∷ now (part .entry))) ⌝ }
+{
+    if out.len() <= at {
+        return;
+    }
+    if out.len() - at <= part.len() {
+        return;
+    }
+    out[at] = 0;
+    copy_all(out, at + 1, part);
 }

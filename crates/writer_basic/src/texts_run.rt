@@ -37,8 +37,7 @@ pub fn texts(
         if events[e] == CONTAINER_END {
             return ran(e, k, j);
         }
-        let start = add(base, k);
-        let r = text_value(events, texts, e, code, out, start);
+        let r = text_value(events, texts, e, code, out, base + k);
         let refusal = r.refusal;
         if refusal != 0 {
             return stopped(refusal);

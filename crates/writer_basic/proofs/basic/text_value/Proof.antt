@@ -11,90 +11,75 @@ use Rattle.writer_basic.proofs.basic.code_of.Reads as code-of-reads
 use Rattle.writer_basic.proofs.basic.text_at.Reads as text-at-reads
 use Rattle.writer_basic.proofs.refused.Reads as refused-reads
 use Rattle.writer_basic.proofs.store.add.Reads as add-reads
-use Rattle.writer_basic.proofs.store.copy.Reads as copy-reads
-use Rattle.writer_basic.proofs.store.put.Reads as put-reads
 use Rattle.writer_basic.proofs.wrote.Reads as wrote-reads
+use Rattle.writer_basic.proofs.store.put_text.Reads as put-text-reads
 
--- src/basic.rt:175:42
+-- src/basic.rt:174:42
 code-of-requires : tie.Need-code-of-requires
 code-of-requires c κs = search needs
 
--- src/basic.rt:175:9
+-- src/basic.rt:174:9
 text-at-requires : tie.Need-text-at-requires
 text-at-requires c κs = search needs
 
--- src/basic.rt:180:9
+-- src/basic.rt:179:9
 refused-requires : tie.Need-refused-requires
 refused-requires c κs = search needs
 
--- src/basic.rt:180:9
+-- src/basic.rt:179:9
 returns : tie.Need-returns
 returns c = λ n big d top s e. rw (c .refused .ensures) (text-wrong _ big d _ _ _ top _ s n _ _ _ (c .before .before .before .code-of .ensures ∙ e) (c .before .before .text-at .ensures .refused (c .before .if1 .taken)))
 
--- src/basic.rt:182:17
+-- src/basic.rt:181:17
 sub-count : tie.Need-sub-count
 sub-count c = let q = c .before .text-at .ensures .taken (c .if1 .left) .order in omega arith
 
--- src/basic.rt:183:22
-sub-copy : tie.Need-sub-copy
-sub-copy c = let q = c .before .before .text-at .ensures .taken (c .before .if1 .left) .order in omega arith
+-- src/basic.rt:182:26
+sub-put-text : tie.Need-sub-put-text
+sub-put-text c = let q = c .before .before .text-at .ensures .taken (c .before .if1 .left) .order in omega arith
 
--- src/basic.rt:183:22
-part-copy-start : tie.Need-part-copy-start
-part-copy-start c = let q = c .before .before .text-at .ensures .taken (c .before .if1 .left) .order in omega arith
+-- src/basic.rt:182:26
+part-put-text-start : tie.Need-part-put-text-start
+part-put-text-start c = let q = c .before .before .text-at .ensures .taken (c .before .if1 .left) .order in omega arith
 
--- src/basic.rt:183:22
-part-copy-end : tie.Need-part-copy-end
-part-copy-end c = let q = c .before .before .text-at .ensures .taken (c .before .if1 .left) .inside in omega arith
+-- src/basic.rt:182:26
+part-put-text-end : tie.Need-part-put-text-end
+part-put-text-end c = let q = c .before .before .text-at .ensures .taken (c .before .if1 .left) .inside in omega arith
 
--- src/basic.rt:183:5
-copy-requires : tie.Need-copy-requires
-copy-requires c κs = search needs
+-- src/basic.rt:182:5
+put-text-requires : tie.Need-put-text-requires
+put-text-requires c κs = search needs
 
--- src/basic.rt:184:9
-add-requires : tie.Need-add-requires
-add-requires c κs =
-    let at-if1 = c .before .before .before .before .before in
-    let at-text-at = at-if1 .before in
-    let start = at-text-at .before .before .before .before .before in
-    (omega (arith, start .pre .1), let q = at-text-at .text-at .ensures .taken (at-if1 .if1 .left) in omega (arith, q .inside, start .good .1 .0 .1))
-
--- src/basic.rt:185:5
-put-requires : tie.Need-put-requires
-put-requires c κs = search needs
-
--- src/basic.rt:186:11
+-- src/basic.rt:183:11
 add-wrote : tie.Need-add-wrote
 add-wrote c = search needs
 
--- src/basic.rt:186:18
-add-requires-2 : tie.Need-add-requires-2
-add-requires-2 c κs =
-    let at-if1 = c .before .before .before .before .before .before .before .before .before .before in
-    let at-text-at = at-if1 .before in
-    let start = at-text-at .before .before .before .before .before in
+-- src/basic.rt:183:18
+add-requires : tie.Need-add-requires
+add-requires c κs =
+    let at-if1 = c .before .before .before .before .before in
+    let at-text-at = c .before .before .before .before .before .before in
+    let start = c .before .before .before .before .before .before .before .before .before .before .before in
     (omega arith, let q = at-text-at .text-at .ensures .taken (at-if1 .if1 .left) in omega (arith, q .inside, start .good .1 .0 .1))
 
--- src/basic.rt:186:5
+-- src/basic.rt:183:5
 wrote-requires : tie.Need-wrote-requires
 wrote-requires c κs = search needs
 
--- src/basic.rt:164:1
+-- src/basic.rt:163:1
 same-length : tie.Need-same-length
 same-length c = search needs
 
--- src/basic.rt:164:1
+-- src/basic.rt:163:1
 returns-2 : tie.Need-returns-2
 returns-2 c =
-    let at-add2 = c .before in
-    let at-put = at-add2 .before .before .before in
-    let at-add = at-put .before .before in
-    let at-copy = at-add .before .before .before in
-    let at-if1 = at-copy .before .before .before in
+    let at-add = c .before in
+    let at-put-text = at-add .before .before .before in
+    let at-if1 = at-put-text .before .before .before in
     let at-text-at = at-if1 .before in
     let at-code-of = at-text-at .before in
     λ n big d top s e. rw (c .wrote .ensures)
-    (text-made _ big d _ _ _ top _ s n _ _ _ _ _ _ _ (at-code-of .code-of .ensures ∙ e) (at-text-at .text-at .ensures .taken (at-if1 .if1 .left)) (at-copy .copy .ensures) (at-add .add .ensures) (at-put .put .ensures) (at-add2 .add2 .ensures))
+    (text-made _ big d _ _ _ top _ s n _ _ _ _ _ (at-code-of .code-of .ensures ∙ e) (at-text-at .text-at .ensures .taken (at-if1 .if1 .left)) (at-put-text .put-text .ensures) (at-add .add .ensures))
 
 pub text-value-spec : {M : Type 1} → statement M
 text-value-spec =
@@ -105,14 +90,12 @@ text-value-spec =
     refused-requires
     returns
     sub-count
-    sub-copy
-    part-copy-start
-    part-copy-end
-    copy-requires
-    add-requires
-    put-requires
+    sub-put-text
+    part-put-text-start
+    part-put-text-end
+    put-text-requires
     add-wrote
-    add-requires-2
+    add-requires
     wrote-requires
     same-length
     returns-2)

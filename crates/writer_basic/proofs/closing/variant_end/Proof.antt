@@ -9,9 +9,8 @@ use Rattle.writer_basic.proofs.closing.variant_end.Lts as lts
 use Rattle.writer_basic.proofs.basic.plain_at.Reads as plain-at-reads
 use Rattle.writer_basic.proofs.refused.Reads as refused-reads
 use Rattle.writer_basic.proofs.store.add.Reads as add-reads
-use Rattle.writer_basic.proofs.store.copy.Reads as copy-reads
-use Rattle.writer_basic.proofs.store.put.Reads as put-reads
 use Rattle.writer_basic.proofs.wrote.Reads as wrote-reads
+use Rattle.writer_basic.proofs.store.put_type.Reads as put-type-reads
 
 -- src/closing.rt:136:9
 returns : tie.Need-returns
@@ -25,71 +24,62 @@ plain-at-requires c κs = c .before .before .before .before .pre .2 (c .if1 .lef
 add-place : tie.Need-add-place
 add-place c = omega (arith, c .before .before .before .before .before .before .pre .1 (c .before .before .if1 .left))
 
+-- src/closing.rt:140:30
+sub-put-type : tie.Need-sub-put-type
+sub-put-type c = search needs
+
+-- src/closing.rt:140:30
+part-put-type-start : tie.Need-part-put-type-start
+part-put-type-start c = search needs
+
+-- src/closing.rt:140:30
+part-put-type-end : tie.Need-part-put-type-end
+part-put-type-end c = search needs
+
 -- src/closing.rt:140:9
-put-requires : tie.Need-put-requires
-put-requires c κs = search needs
+put-type-requires : tie.Need-put-type-requires
+put-type-requires c κs = search needs
 
--- src/closing.rt:141:19
-add-copy : tie.Need-add-copy
-add-copy c = omega (arith, c .before .before .before .before .before .before .before .before .before .before .before .pre .1 (c .before .before .before .before .before .before .before .if1 .left))
-
--- src/closing.rt:141:30
-sub-copy : tie.Need-sub-copy
-sub-copy c = search needs
-
--- src/closing.rt:141:30
-part-copy-start : tie.Need-part-copy-start
-part-copy-start c = search needs
-
--- src/closing.rt:141:30
-part-copy-end : tie.Need-part-copy-end
-part-copy-end c = search needs
-
--- src/closing.rt:141:9
-copy-requires : tie.Need-copy-requires
-copy-requires c κs = search needs
-
--- src/closing.rt:142:22
+-- src/closing.rt:141:22
 add-wrote : tie.Need-add-wrote
-add-wrote c = omega (arith, c .before .before .before .before .before .before .before .before .before .before .plain-at .ensures .here (c .before .before .before .before .before .before .before .before .before .if2 .taken) .whole)
+add-wrote c = omega (arith, c .before .before .before .before .before .before .plain-at .ensures .here (c .before .before .before .before .before .if2 .taken) .whole)
 
--- src/closing.rt:142:47
+-- src/closing.rt:141:47
 sub-add : tie.Need-sub-add
 sub-add c = search needs
 
--- src/closing.rt:142:42
+-- src/closing.rt:141:42
 add-add : tie.Need-add-add
 add-add c = search needs
 
--- src/closing.rt:142:32
+-- src/closing.rt:141:32
 add-requires : tie.Need-add-requires
 add-requires c κs =
-    let at-if1 = c .before .before .before .before .before .before .before .before .before .before .before in
-    let start = at-if1 .before .before .before .before in
+    let at-if1 = c .before .before .before .before .before .before .before in
+    let start = c .before .before .before .before .before .before .before .before .before .before .before in
     (omega (arith, start .pre .1 (at-if1 .if1 .left)), omega (arith, start .pre .5))
 
--- src/closing.rt:142:9
+-- src/closing.rt:141:9
 wrote-requires : tie.Need-wrote-requires
 wrote-requires c κs = search needs
 
--- src/closing.rt:142:9
+-- src/closing.rt:141:9
 same-length : tie.Need-same-length
 same-length c = search needs
 
--- src/closing.rt:142:9
+-- src/closing.rt:141:9
 returns-2 : tie.Need-returns-2
 returns-2 c =
     let at-add = c .before in
-    let at-copy = at-add .before .before .before in
-    let at-put = at-copy .before .before .before .before .before in
-    let at-if2 = at-put .before .before in
+    let at-put-type = at-add .before .before .before in
+    let at-if2 = at-put-type .before .before .before in
     let at-plain-at = at-if2 .before in
     let at-if1 = at-plain-at .before in
     let start = at-if1 .before .before .before .before in
     λ x t i top l s s′ k n d. rw (c .wrote .ensures)
-    (value-shut x t _ i _ top l _ s s′ _ d _ _ _ _ _ _ (at-if1 .if1 .left) (at-plain-at .plain-at .ensures) (at-if2 .if2 .taken) k (part-length _ _ _ (start .pre .3) (start .pre .4)) (at-put .put .ensures) (at-copy .copy .ensures) (at-add .add .ensures) n)
+    (value-shut x t _ i _ top l _ s s′ _ d _ _ _ _ _ (at-if1 .if1 .left) (at-plain-at .plain-at .ensures) (at-if2 .if2 .taken) k (part-length _ _ _ (start .pre .3) (start .pre .4)) (at-put-type .put-type .ensures) (at-add .add .ensures) n)
 
--- src/closing.rt:144:5
+-- src/closing.rt:143:5
 refused-requires : tie.Need-refused-requires
 refused-requires c κs = search needs
 
@@ -104,12 +94,10 @@ variant-end-spec =
     returns
     plain-at-requires
     add-place
-    put-requires
-    add-copy
-    sub-copy
-    part-copy-start
-    part-copy-end
-    copy-requires
+    sub-put-type
+    part-put-type-start
+    part-put-type-end
+    put-type-requires
     add-wrote
     sub-add
     add-add

@@ -11,7 +11,7 @@ use Rattle.meaning_writing.specs.Emitting.{emitBasic}
 use Rattle.meaning_writing.proofs.EmitLaws.{basic-shorter}
 use Rattle.signature.specs.declared.Letter.the-variants.{Text}
 use Rattle.writer_basic.specs.Wrote.{keyBasic}
-use Rattle.writer_basic.proofs.Answers.{bounds}
+use Rattle.writer_basic.proofs.Answers.{bounds, done-near}
 use Rattle.writer_basic.proofs.Rows.{Left, left-all, left-short, left-shut, left-stop, left-next}
 use Rattle.writer_basic.proofs.NumberRows.{basic-alignment, text-alignment, text-done, unpadded}
 use Rattle.writer_basic.proofs.texts_run.texts.Statement.{statement}
@@ -62,81 +62,80 @@ same-length-2 c = omega (arith, c .before .before .before .before .loop .inv fal
 returns : tie.Need-returns Inv-loop μ-loop
 returns c = λ big d. rw (c .ran .ensures) (left-shut _ _ _ _ _ _ _ _ _ _ _ _ _ (c .before .before .before .before .loop .inv big d) (omega (arith, c .before .before .before .before .loop .inv false noneOpen .within, c .before .before .before .loop-test .taken)) (c .before .if1 .taken))
 
+-- src/texts_run.rt:40:57
+add-text-value : tie.Need-add-text-value Inv-loop μ-loop
+add-text-value c = omega (arith, c .before .before .before .before .before .before .before .before .before .pre .1 .near, c .before .before .before .before .loop .inv false noneOpen .small)
+
 -- src/texts_run.rt:40:13
-add-requires : tie.Need-add-requires Inv-loop μ-loop
-add-requires c κs = (omega (arith, c .before .before .before .before .before .before .before .before .pre .1 .near), omega (arith, c .before .before .before .loop .inv false noneOpen .small))
-
--- src/texts_run.rt:41:13
 text-value-requires : tie.Need-text-value-requires Inv-loop μ-loop
-text-value-requires c κs = (c .before .before .before .before .before .loop .inv false noneOpen .within, omega (arith, c .before .add .ensures))
+text-value-requires c κs = (c .before .before .before .before .loop .inv false noneOpen .within, omega (arith, c .before .before .before .before .before .before .before .before .before .pre .1 .near, c .before .before .before .before .loop .inv false noneOpen .small))
 
--- src/texts_run.rt:44:13
+-- src/texts_run.rt:43:13
 stopped-requires : tie.Need-stopped-requires Inv-loop μ-loop
 stopped-requires c κs = search needs
 
--- src/texts_run.rt:44:13
+-- src/texts_run.rt:43:13
 same-length-3 : tie.Need-same-length-3 Inv-loop μ-loop
-same-length-3 c = omega (arith, c .before .before .before .before .before .before .before .before .before .before .loop .inv false noneOpen .same, c .before .before .before .before .text-value .kept)
+same-length-3 c = omega (arith, c .before .before .before .before .before .before .before .before .before .loop .inv false noneOpen .same, c .before .before .before .before .text-value .kept)
 
--- src/texts_run.rt:44:13
+-- src/texts_run.rt:43:13
 same-length-4 : tie.Need-same-length-4 Inv-loop μ-loop
-same-length-4 c = omega (arith, c .before .before .before .before .before .before .before .before .before .before .loop .inv false noneOpen .sames)
+same-length-4 c = omega (arith, c .before .before .before .before .before .before .before .before .before .loop .inv false noneOpen .sames)
 
--- src/texts_run.rt:44:13
+-- src/texts_run.rt:43:13
 returns-2 : tie.Need-returns-2 Inv-loop μ-loop
 returns-2 c =
     let at-if2 = c .before in
-    let at-text-value = at-if2 .before .before .before in
-    let at-if1 = at-text-value .before .before .before in
-    let at-loop-test = at-if1 .before .before in
-    let at-loop = at-loop-test .before in
-    let start = at-loop .before .before .before .before .before in
+    let at-text-value = c .before .before .before .before in
+    let at-if1 = c .before .before .before .before .before .before in
+    let at-loop-test = c .before .before .before .before .before .before .before .before in
+    let at-loop = c .before .before .before .before .before .before .before .before .before in
+    let start = c .before .before .before .before .before .before .before .before .before .before .before .before .before .before in
     λ big d. rw (c .stopped .ensures)
     (left-stop _ _ _ _ _ _ _ _ _ _ _ _ _ (at-loop .loop .inv big d) (omega (arith, at-loop .loop .inv false noneOpen .within, at-loop-test .loop-test .taken)) (at-if1 .if1 .left) _ 0 _ _ _ _
     (text-done _ (start .pre .0) _ _ _ _ _ _ _ (at-text-value .text-value .ensures) big d 0 _) (at-if2 .if2 .taken))
 
--- src/texts_run.rt:46:9
-add-requires-2 : tie.Need-add-requires-2 Inv-loop μ-loop
-add-requires-2 c κs =
+-- src/texts_run.rt:45:9
+add-requires : tie.Need-add-requires Inv-loop μ-loop
+add-requires c κs =
     let at-text-value = c .before .before .before in
-    let at-loop = at-text-value .before .before .before .before .before .before in
-    let start = at-loop .before .before .before .before .before in
+    let at-loop = c .before .before .before .before .before .before .before .before in
+    let start = c .before .before .before .before .before .before .before .before .before .before .before .before .before in
     (omega (arith, at-loop .loop .inv false noneOpen .small), let q = bounds (c .if2 .left) (text-done _ (start .pre .0) _ _ _ _ _ _ _ (at-text-value .text-value .ensures) false noneOpen 0 []) in omega (arith, q .small))
 
--- src/texts_run.rt:48:9
+-- src/texts_run.rt:47:9
 keep-requires : tie.Need-keep-requires Inv-loop μ-loop
 keep-requires c κs =
-    let at-loop = c .before .before .before .before .before .before .before .before .before .before .before .before in
-    let start = at-loop .before .before .before .before .before in
+    let at-loop = c .before .before .before .before .before .before .before .before .before .before .before in
+    let start = c .before .before .before .before .before .before .before .before .before .before .before .before .before .before .before .before in
     omega (arith, at-loop .loop .inv false noneOpen .few, start .pre .1 .few)
 
 -- src/texts_run.rt:36:5
 loop-less : tie.Need-loop-less Inv-loop μ-loop
 loop-less c =
     let at-if2 = c .before .before .before .before .before .before .before .before in
-    let at-text-value = at-if2 .before .before .before in
-    let start = at-text-value .before .before .before .before .before .before .before .before .before .before .before in
+    let at-text-value = c .before .before .before .before .before .before .before .before .before .before .before in
+    let start = c .before .before .before .before .before .before .before .before .before .before .before .before .before .before .before .before .before .before .before .before .before in
     let q = bounds (at-if2 .if2 .left) (text-done _ (start .pre .0) _ _ _ _ _ _ _ (at-text-value .text-value .ensures) false noneOpen 0 []) in omega (arith, q .forward, q .within)
 
 -- src/texts_run.rt:36:5
 loop-again : tie.Need-loop-again Inv-loop μ-loop
 loop-again c =
     let at-keep = c .before .before .before .before in
-    let at-add2 = at-keep .before .before .before in
-    let at-if2 = at-add2 .before in
-    let at-text-value = at-if2 .before .before .before in
-    let at-add = at-text-value .before .before in
-    let at-if1 = at-add .before in
-    let at-loop-test = at-if1 .before .before in
-    let at-loop = at-loop-test .before in
-    let start = at-loop .before .before .before .before .before in
+    let at-if2 = c .before .before .before .before .before .before .before .before in
+    let at-text-value = c .before .before .before .before .before .before .before .before .before .before .before in
+    let at-add = c .before .before .before .before .before .before .before in
+    let at-if1 = c .before .before .before .before .before .before .before .before .before .before .before .before .before in
+    let at-loop-test = c .before .before .before .before .before .before .before .before .before .before .before .before .before .before .before in
+    let at-loop = c .before .before .before .before .before .before .before .before .before .before .before .before .before .before .before .before in
+    let start = c .before .before .before .before .before .before .before .before .before .before .before .before .before .before .before .before .before .before .before .before .before in
     λ big d. left-next _ _ _ _ _ _ _ _ _ _ _ _ _ (at-loop .loop .inv big d) (omega (arith, at-loop .loop .inv false noneOpen .within, at-loop-test .loop-test .taken)) (at-if1 .if1 .left) _ _ _ _ _
-    (text-done _ (start .pre .0) _ _ _ _ _ _ _ (at-text-value .text-value .ensures) big d _ _) 1 _ _ _ _ (basic-shorter _ _ _ _) (basic-alignment _ _ _ _ _ _ (text-alignment _ (start .pre .0))) (unpadded _) (at-if2 .if2 .left)
-    (at-add .add .ensures) refl (at-add2 .add2 .ensures) (at-keep .keep .ensures) (omega (arith, at-loop .loop .inv false noneOpen .same, at-text-value .text-value .kept))
+    (done-near (start .args .spot .start) (at-loop .loop .k) (text-done _ (start .pre .0) _ _ _ _ _ _ _ (at-text-value .text-value .ensures) big d _ _)) 1 _ _ _ _ (basic-shorter _ _ _ _) (basic-alignment _ _ _ _ _ _ (text-alignment _ (start .pre .0))) (unpadded _) (at-if2 .if2 .left)
+    refl refl (at-add .add .ensures) (at-keep .keep .ensures) (omega (arith, at-loop .loop .inv false noneOpen .same, at-text-value .text-value .kept))
     (omega (arith, at-loop .loop .inv false noneOpen .same, at-text-value .text-value .kept, at-keep .keep .kept .0)) (omega (arith, at-loop .loop .inv false noneOpen .sames))
     (omega (arith, at-loop .loop .inv false noneOpen .sames, at-keep .keep .kept .1))
 
--- src/texts_run.rt:50:5
+-- src/texts_run.rt:49:5
 stopped-requires-2 : tie.Need-stopped-requires-2 Inv-loop μ-loop
 stopped-requires-2 c κs = search needs
 
@@ -166,13 +165,13 @@ texts-spec =
     same-length
     same-length-2
     returns
-    add-requires
+    add-text-value
     text-value-requires
     stopped-requires
     same-length-3
     same-length-4
     returns-2
-    add-requires-2
+    add-requires
     keep-requires
     loop-less
     loop-again

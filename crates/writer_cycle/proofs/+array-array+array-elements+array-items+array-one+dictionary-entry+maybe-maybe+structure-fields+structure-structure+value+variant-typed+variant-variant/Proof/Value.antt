@@ -59,7 +59,7 @@ value-enum-known-kind-2 t c = search needs
 value-text-value-requires : (t : ℕ) → value-lts.Need-text-value-requires (value-callees t) (value-at t) value.Post
 value-text-value-requires t c κs =
     let start = c .before .before .before .before .before .before .before .before .before .before in
-    (start .pre .1 .2 .within, start .pre .1 .2 .near)
+    (start .pre .1 .2 .within, omega (arith, start .pre .1 .2 .near))
 
 value-enum-told-2 : (t : ℕ) → value-lts.Need-enum-told-2 (value-callees t) (value-at t) value.Post
 value-enum-told-2 t c = search needs

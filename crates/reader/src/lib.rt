@@ -1,5 +1,4 @@
 // Reading a frame: `size` and `read`; and the text of an event. A type's shapes are found once a call.
-use container_depths::ContainerDepths;
 pub use events::event_text;
 use meaning::limits::LARGEST_FRAME;
 use meaning::limits::LONGEST_TYPE;
@@ -7,8 +6,8 @@ use meaning::refusals::OVER_LIMIT;
 use meaning::refusals::ROOM_TOO_SMALL;
 use meaning::refusals::TYPE_REFUSED;
 pub use reader_basic::Answer;
-use reader_basic::Context;
 use reader_basic::refused;
+use reader_cycle::ride::ride_of;
 use reader_cycle::value;
 use signature::shapes::shape_in;
 use signature::shapes::shapes_of;
@@ -171,13 +170,8 @@ fn whole(
     if LARGEST_FRAME < position {
         return refused(OVER_LIMIT, 0, 0);
     }
-    let depths = ContainerDepths::new();
-    let context = Context {
-        position,
-        big,
-        depths,
-    };
+    let ride = ride_of(position, big);
     let shape = shape_in(signature, shapes, 0);
     let len = frame.len();
-    value(signature, shapes, shape, frame, 0, len, 0, context, out, 0)
+    value(signature, shapes, shape, frame, 0, len, 0, ride, out, 0)
 }

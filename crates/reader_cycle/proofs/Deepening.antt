@@ -11,16 +11,15 @@ use Rattle.meaning.specs.Depths as Depth
 use Rattle.meaning.specs.Depths.{Depths, Opened, total, depthRefusal, opened}
 use Rattle.meaning.specs.Outcome.{Outcome}
 use Rattle.meaning.specs.Reading.{within}
-use Rattle.container_depths.specs.Opening.{depthsOf, Raises}
+use Rattle.container_depths.specs.Opening.{depthsOf}
 use Rattle.container_depths.specs.declared.ContainerDepths.{ContainerDepths}
-use Rattle.container_depths.specs.declared.Raised.{Raised}
 use Rattle.container_depths.proofs.Levels.{total-most, total-opened, level}
 use Rattle.reader_basic.specs.Answers.{Done}
 use Rattle.reader_basic.specs.Parts.{Within, Inside}
 use Rattle.reader_basic.specs.declared.Answer.{Answer}
 use Rattle.reader_basic.specs.declared.Context.{Context}
 use Rattle.reader_basic.proofs.Answers.{answer, refusing}
-use Rattle.reader_cycle.specs.Openings.{innerOf, Deeper, Opens}
+use Rattle.reader_cycle.specs.Openings.{Deeper, Opens}
 use Rattle.reader_cycle.specs.declared.opening.Inner.{Inner}
 
 -- an answer by what is known of it
@@ -33,18 +32,6 @@ arrived e f d = rw (e, f) d
 
 pub few-variants : {len place position : ℕ} {d : ContainerDepths} → Within len place position d → d .variant ≤ 64
 few-variants {d = d} w = omega (arith, total-most (depthsOf d) (w .shallow))
-
--- ---- a raise of the depths, as a context
-
-pub opens-by : (x : Opened) (c : Context) (r : Raised) (s : Inner) → s ≡ innerOf c r → Raises (depthsOf (c .depths)) (opened x (depthsOf (c .depths))) r → Opens x c s
-opens-by x c r s e h = subst⁻¹ (λ (y : Inner). Opens x c y) e
-    (record {
-      refusal = h .refusal;
-      deeper = λ z.
-          let q : eqb (depthRefusal (opened x (depthsOf (c .depths)))) 0 ≡ true = eq-eqb _ 0 (sym (h .refusal) ∙ z) in
-          let d : depthsOf (r .depths) ≡ opened x (depthsOf (c .depths)) = h .depths ∙ rw q in
-          record { position = refl; big = refl; depths = d; shallow = ap depthRefusal d ∙ sym (h .refusal) ∙ z };
-    })
 
 -- ---- one container too many
 

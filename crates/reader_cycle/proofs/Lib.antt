@@ -4,5 +4,6 @@ pub mod Entries
 pub mod ItemLaws
 pub mod Maybes
 pub mod Readers
+pub mod Rides
 pub mod Structures
 pub mod Variants

@@ -1,3 +1,4 @@
 pub mod Children
 pub mod Openings
 pub mod Places
+pub mod Rides

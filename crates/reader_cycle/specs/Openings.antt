@@ -2,15 +2,9 @@
 use mathlib.Core.Path.{_≡_}
 use Rattle.meaning.specs.Depths.{Opened, depthRefusal, opened}
 use Rattle.container_depths.specs.Opening.{depthsOf}
-use Rattle.container_depths.specs.declared.Raised.{Raised}
 use Rattle.reader_basic.specs.declared.Context.{Context}
+use Rattle.reader_cycle.specs.Rides.{contextOf}
 use Rattle.reader_cycle.specs.declared.opening.Inner.{Inner}
-
-abbrev pub innerOf : Context → Raised → Inner
-innerOf c r = record {
-  refusal = r .refusal;
-  context = record { position = c .position; big = c .big; depths = r .depths };
-}
 
 -- one context is the other with one more container open, within the limits
 pub record Deeper (x : Opened) (outer inner : Context) : Type 0 where
@@ -21,4 +15,4 @@ pub record Deeper (x : Opened) (outer inner : Context) : Type 0 where
 
 pub record Opens (x : Opened) (outer : Context) (r : Inner) : Type 0 where
   pub refusal : r .refusal ≡ depthRefusal (opened x (depthsOf (outer .depths)))
-  pub deeper : r .refusal ≡ 0 → Deeper x outer (r .context)
+  pub deeper : r .refusal ≡ 0 → Deeper x outer (contextOf (r .ride))

@@ -1,13 +1,13 @@
 // Arrays, and the walk over a dictionary's entries. Ports ArrayDeserializer and its SeqAccess of gvariant/de.rs.
 use crate::dictionary::entry;
 use crate::opening::in_array;
+use crate::ride::context_of;
 use crate::value;
 use events::emit;
 use framing_offsets::OffsetTable;
 use framing_offsets::from_encoded_array;
 use framing_offsets::next;
 use reader_basic::Answer;
-use reader_basic::Context;
 use reader_basic::basic::close;
 use reader_basic::basic::item_kind;
 use reader_basic::behind;
@@ -30,6 +30,7 @@ ghost use Rattle.signature.specs.Trees.{treeAt, Described};
 ghost use Rattle.reader_basic.specs.Answers.{From};
 ghost use Rattle.reader_basic.specs.Parts.{Stands, Inside};
 ghost use Rattle.reader_cycle.specs.Places.{insideOf, elementKind, elementsOf, framedOf, Repeated};
+ghost use Rattle.reader_cycle.specs.Rides.{contextOf};
 
 pub(crate) fn array(
     text: &[u8],
@@ -38,19 +39,19 @@ pub(crate) fn array(
     part: &[u8],
     lead: usize,
     place: usize,
-    context: Context,
+    ride: usize,
     out: &mut [u64],
     n: usize,
 ) -> Answer
-    requires { ⌜ Described (now text) (now shapes) shape × (letterAt (now text) (shape .at) ≡ Letter.Array) × Inside (length (now part)) place context × (lead ≤ length (now part)) ⌝ }
-    ensures { λ r. ⌜ From (insideOf context (treeAt (now (text .entry)) (shape .at)) place (now (part .entry)) lead) (now (part .entry)) lead n (now (out .entry)) (now (out .exit)) r ⌝ }
+    requires { ⌜ Described (now text) (now shapes) shape × (letterAt (now text) (shape .at) ≡ Letter.Array) × Inside (length (now part)) place (contextOf ride) × (lead ≤ length (now part)) ⌝ }
+    ensures { λ r. ⌜ From (insideOf (contextOf ride) (treeAt (now (text .entry)) (shape .at)) place (now (part .entry)) lead) (now (part .entry)) lead n (now (out .entry)) (now (out .exit)) r ⌝ }
 {
-    let inner = in_array(context);
+    let inner = in_array(ride);
     let refusal = inner.refusal;
     if refusal != 0 {
         return refused(refusal, 0, n);
     }
-    let deeper = inner.context;
+    let deeper = inner.ride;
     let item = item_of(text, shapes, shape);
     let kind = item_kind(item);
     let fixed = item.fixed;
@@ -78,15 +79,16 @@ pub(crate) fn elements(
     part: &[u8],
     lead: usize,
     place: usize,
-    context: Context,
+    ride: usize,
     out: &mut [u64],
     n: usize,
 ) -> Answer
-    requires { ⌜ Repeated (now text) (now shapes) item × (item .fixed ≡ true) × Inside (length (now part)) place context × (lead ≤ length (now part)) ⌝ }
-    ensures { λ r. ⌜ From (elementsOf context (now (text .entry)) item place (now (part .entry)) lead) (now (part .entry)) lead n (now (out .entry)) (now (out .exit)) r ⌝ }
+    requires { ⌜ Repeated (now text) (now shapes) item × (item .fixed ≡ true) × Inside (length (now part)) place (contextOf ride) × (lead ≤ length (now part)) ⌝ }
+    ensures { λ r. ⌜ From (elementsOf (contextOf ride) (now (text .entry)) item place (now (part .entry)) lead) (now (part .entry)) lead n (now (out .entry)) (now (out .exit)) r ⌝ }
 {
     let plain = item.number;
     if let Letter::Number { code, width } = plain {
+        let context = context_of(ride);
         return numbers(part, lead, place, context, code, width, out, n);
     }
     let is_entry = item.entry;
@@ -97,9 +99,9 @@ pub(crate) fn elements(
     while lead + u < b {
         let j = lead + u;
         let r = if is_entry {
-            entry(text, shapes, item, part, b, j, b, place, context, out, m)
+            entry(text, shapes, item, part, b, j, b, place, ride, out, m)
         } else {
-            value(text, shapes, child, part, j, b, place, context, out, m)
+            value(text, shapes, child, part, j, b, place, ride, out, m)
         };
         let refusal = r.refusal;
         if refusal != 0 {
@@ -120,15 +122,16 @@ pub(crate) fn framed(
     part: &[u8],
     lead: usize,
     place: usize,
-    context: Context,
+    ride: usize,
     out: &mut [u64],
     n: usize,
 ) -> Answer
-    requires { ⌜ Repeated (now text) (now shapes) item × (item .fixed ≡ false) × Inside (length (now part)) place context × (lead ≤ length (now part)) × Stands (tableIn offsets) (drop lead (now part)) ⌝ }
-    ensures { λ r. ⌜ From (framedOf context (now (text .entry)) item offsets place (now (part .entry)) lead) (now (part .entry)) lead n (now (out .entry)) (now (out .exit)) r ⌝ }
+    requires { ⌜ Repeated (now text) (now shapes) item × (item .fixed ≡ false) × Inside (length (now part)) place (contextOf ride) × (lead ≤ length (now part)) × Stands (tableIn offsets) (drop lead (now part)) ⌝ }
+    ensures { λ r. ⌜ From (framedOf (contextOf ride) (now (text .entry)) item offsets place (now (part .entry)) lead) (now (part .entry)) lead n (now (out .entry)) (now (out .exit)) r ⌝ }
 {
     let held = item.number;
     if let Letter::Number { code, width } = held {
+        let context = context_of(ride);
         return readings(offsets, part, lead, place, context, code, width, out, n);
     }
     let plain = element_kind(item);
@@ -148,9 +151,9 @@ pub(crate) fn framed(
         let offset = next(table, offsets, i);
         let e = lead + offset.value;
         let r = if is_entry {
-            entry(text, shapes, item, part, b, j, e, place, context, out, m)
+            entry(text, shapes, item, part, b, j, e, place, ride, out, m)
         } else {
-            value(text, shapes, child, part, j, e, place, context, out, m)
+            value(text, shapes, child, part, j, e, place, ride, out, m)
         };
         let refusal = r.refusal;
         if refusal != 0 {

@@ -1,13 +1,14 @@
 // The entries of a dictionary. Ports MapAccess of ArrayDeserializer, gvariant/de.rs.
 use crate::ends::Ends;
 use crate::ends::past;
+use crate::ride::context_of;
+use crate::ride::position_of;
 use crate::value;
 use de::parse_padding;
 use framing_offset_size::FramingOffsetSize;
 use framing_offsets::table::last_in;
 use meaning::refusals::OUT_OF_BOUNDS;
 use reader_basic::Answer;
-use reader_basic::Context;
 use reader_basic::basic::child_key;
 use reader_basic::basic::end_padding;
 use reader_basic::behind;
@@ -22,6 +23,7 @@ ghost use Rattle.reader_basic.specs.Answers.{Between};
 ghost use Rattle.reader_basic.specs.Parts.{Inside};
 ghost use Rattle.reader_cycle.specs.Places.{stepIn, fixedKeyIn, textKeyIn, Repeated};
 ghost use Rattle.reader_cycle.specs.Children.{keyEnds};
+ghost use Rattle.reader_cycle.specs.Rides.{contextOf};
 
 // One entry of a dictionary, from j to e; the body ends at b.
 pub(crate) fn entry(
@@ -33,14 +35,15 @@ pub(crate) fn entry(
     j: usize,
     e: usize,
     place: usize,
-    context: Context,
+    ride: usize,
     out: &mut [u64],
     n: usize,
 ) -> Answer
-    requires { ⌜ Repeated (now text) (now shapes) item × (item .entry ≡ true) × Inside (length (now part)) place context × (j ≤ length (now part)) × (e ≤ b) × (b ≤ length (now part)) × (item .fixed ≡ true → e ≡ length (now part)) ⌝ }
-    ensures { λ r. ⌜ Between (stepIn context (now (text .entry)) item place (now (part .entry)) b j e) (now (part .entry)) j e n (now (out .entry)) (now (out .exit)) r ⌝ }
+    requires { ⌜ Repeated (now text) (now shapes) item × (item .entry ≡ true) × Inside (length (now part)) place (contextOf ride) × (j ≤ length (now part)) × (e ≤ b) × (b ≤ length (now part)) × (item .fixed ≡ true → e ≡ length (now part)) ⌝ }
+    ensures { λ r. ⌜ Between (stepIn (contextOf ride) (now (text .entry)) item place (now (part .entry)) b j e) (now (part .entry)) j e n (now (out .entry)) (now (out .exit)) r ⌝ }
 {
-    let padding = parse_padding(context.position + place, j, item.alignment, part);
+    let position = position_of(ride);
+    let padding = parse_padding(position + place, j, item.alignment, part);
     let refusal = padding.refusal;
     let lead = padding.value;
     if refusal != 0 {
@@ -49,10 +52,10 @@ pub(crate) fn entry(
     let from = j + lead;
     let keyed = item.keyed;
     if keyed {
-        let r = fixed_key(text, shapes, item, part, from, e, place, context, out, n);
+        let r = fixed_key(text, shapes, item, part, from, e, place, ride, out, n);
         return behind(lead, r);
     }
-    let r = text_key(text, shapes, item, part, b, from, e, place, context, out, n);
+    let r = text_key(text, shapes, item, part, b, from, e, place, ride, out, n);
     behind(lead, r)
 }
 
@@ -65,15 +68,16 @@ pub(crate) fn fixed_key(
     j: usize,
     e: usize,
     place: usize,
-    context: Context,
+    ride: usize,
     out: &mut [u64],
     n: usize,
 ) -> Answer
-    requires { ⌜ Repeated (now text) (now shapes) item × Inside (length (now part)) place context × (j ≤ length (now part)) × (e ≤ length (now part)) × (item .fixed ≡ true → e ≡ length (now part)) ⌝ }
-    ensures { λ r. ⌜ ((b : ℕ) → Between (fixedKeyIn context (now (text .entry)) item place (now (part .entry)) b j e) (now (part .entry)) j e n (now (out .entry)) (now (out .exit)) r) ⌝ }
+    requires { ⌜ Repeated (now text) (now shapes) item × Inside (length (now part)) place (contextOf ride) × (j ≤ length (now part)) × (e ≤ length (now part)) × (item .fixed ≡ true → e ≡ length (now part)) ⌝ }
+    ensures { λ r. ⌜ ((b : ℕ) → Between (fixedKeyIn (contextOf ride) (now (text .entry)) item place (now (part .entry)) b j e) (now (part .entry)) j e n (now (out .entry)) (now (out .exit)) r) ⌝ }
 {
     let key = item.key;
     let child = item.child;
+    let context = context_of(ride);
     let k = child_key(key, part, j, e, place, context, out, n);
     let refusal = k.refusal;
     let first = k.used;
@@ -82,10 +86,11 @@ pub(crate) fn fixed_key(
     }
     let from = j + first;
     let m = k.count;
-    let v = value(text, shapes, child, part, from, e, place, context, out, m);
+    let v = value(text, shapes, child, part, from, e, place, ride, out, m);
     let fixed = item.fixed;
     if fixed {
-        let r = end_padding(part, from, place, context.position, item.alignment, v);
+        let position = position_of(ride);
+        let r = end_padding(part, from, place, position, item.alignment, v);
         return behind(first, r);
     }
     behind(first, v)
@@ -101,12 +106,12 @@ pub(crate) fn text_key(
     j: usize,
     e: usize,
     place: usize,
-    context: Context,
+    ride: usize,
     out: &mut [u64],
     n: usize,
 ) -> Answer
-    requires { ⌜ Repeated (now text) (now shapes) item × Inside (length (now part)) place context × (j ≤ length (now part)) × (e ≤ b) × (b ≤ length (now part)) ⌝ }
-    ensures { λ r. ⌜ Between (textKeyIn context (now (text .entry)) item place (now (part .entry)) b j e) (now (part .entry)) j e n (now (out .entry)) (now (out .exit)) r ⌝ }
+    requires { ⌜ Repeated (now text) (now shapes) item × Inside (length (now part)) place (contextOf ride) × (j ≤ length (now part)) × (e ≤ b) × (b ≤ length (now part)) ⌝ }
+    ensures { λ r. ⌜ Between (textKeyIn (contextOf ride) (now (text .entry)) item place (now (part .entry)) b j e) (now (part .entry)) j e n (now (out .entry)) (now (out .exit)) r ⌝ }
 {
     let ends = key_ends(part, b, j, e);
     let fault = ends.refusal;
@@ -114,6 +119,7 @@ pub(crate) fn text_key(
         return refused(fault, 0, n);
     }
     let key = item.key;
+    let context = context_of(ride);
     let k = child_key(key, part, j, ends.child, place, context, out, n);
     let refusal = k.refusal;
     let first = k.used;
@@ -127,7 +133,7 @@ pub(crate) fn text_key(
     }
     let child = item.child;
     let end = e - ends.width;
-    let v = value(text, shapes, child, part, from, end, place, context, out, m);
+    let v = value(text, shapes, child, part, from, end, place, ride, out, m);
     let r = past(v, ends.width);
     behind(first, r)
 }

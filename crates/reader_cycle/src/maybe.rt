@@ -6,7 +6,6 @@ use meaning::letters::MAYBE_LETTER;
 use meaning::letters::NOTHING_LETTER;
 use meaning::refusals::MAYBE_END_NOT_ZERO;
 use reader_basic::Answer;
-use reader_basic::Context;
 use reader_basic::done;
 use reader_basic::refused;
 use signature::Letter;
@@ -24,6 +23,7 @@ ghost use Rattle.signature.specs.Trees.{treeAt, Described};
 ghost use Rattle.reader_basic.specs.Answers.{Done, From};
 ghost use Rattle.reader_basic.specs.Parts.{Inside};
 ghost use Rattle.reader_cycle.specs.Places.{insideOf};
+ghost use Rattle.reader_cycle.specs.Rides.{contextOf};
 
 pub(crate) fn maybe(
     text: &[u8],
@@ -32,23 +32,23 @@ pub(crate) fn maybe(
     part: &[u8],
     lead: usize,
     place: usize,
-    context: Context,
+    ride: usize,
     out: &mut [u64],
     n: usize,
 ) -> Answer
-    requires { ⌜ Described (now text) (now shapes) shape × (letterAt (now text) (shape .at) ≡ Letter.Maybe) × Inside (length (now part)) place context × (lead ≤ length (now part)) ⌝ }
-    ensures { λ r. ⌜ From (insideOf context (treeAt (now (text .entry)) (shape .at)) place (now (part .entry)) lead) (now (part .entry)) lead n (now (out .entry)) (now (out .exit)) r ⌝ }
+    requires { ⌜ Described (now text) (now shapes) shape × (letterAt (now text) (shape .at) ≡ Letter.Maybe) × Inside (length (now part)) place (contextOf ride) × (lead ≤ length (now part)) ⌝ }
+    ensures { λ r. ⌜ From (insideOf (contextOf ride) (treeAt (now (text .entry)) (shape .at)) place (now (part .entry)) lead) (now (part .entry)) lead n (now (out .entry)) (now (out .exit)) r ⌝ }
 {
     if part.len() <= lead {
         let m = emit(out, n, NOTHING_LETTER, place + lead, 0);
         return done(0, m);
     }
-    let inner = in_maybe(context);
+    let inner = in_maybe(ride);
     let refusal = inner.refusal;
     if refusal != 0 {
         return refused(refusal, 0, n);
     }
-    let deeper = inner.context;
+    let deeper = inner.ride;
     let m = emit(out, n, MAYBE_LETTER, place + lead, 0);
     let held = shape_in(text, shapes, shape.at + 1);
     let fixed = held.fixed;

@@ -1,50 +1,101 @@
 // Opening a container: one more is open, and the refusal where that is one too many.
-use container_depths::Raised;
-use reader_basic::Context;
+use meaning::refusals::ARRAYS_TOO_DEEP;
+use meaning::refusals::CONTAINERS_TOO_DEEP;
+use meaning::refusals::STRUCTURES_TOO_DEEP;
 ghost use mathlib.Core.Path.{_≡_};
-ghost use Rattle.meaning.specs.Depths.{structure, array, variant, maybe};
-ghost use Rattle.reader_cycle.specs.Openings.{innerOf, Opens};
+ghost use Prim.Native.Nat.{_≤_};
+ghost use lib.Dec.{leb};
+ghost use Rattle.meaning.specs.Depths.{structure, array, variant, maybe, total, depthRefusal};
+ghost use Rattle.container_depths.specs.Opening.{depthsOf};
+ghost use Rattle.reader_cycle.specs.Rides.{contextOf};
+ghost use Rattle.reader_cycle.specs.Openings.{Opens};
 
-// A container opened: a refusal, or the context inside it.
+// A container opened: a refusal, or what rides along inside it.
 pub struct Inner {
     pub refusal: u8,
-    pub context: Context,
+    pub ride: usize,
 }
 
-impl Inner {
-    fn of(context: Context, raised: Raised) -> Self
-        ensures { λ r. ⌜ r ≡ innerOf context raised ⌝ }
-    {
-        let refusal = raised.refusal;
-        let context = context.opened(raised.depths);
-        Inner { refusal, context }
+// Whether as many containers are open as may be: the sum of a number's bytes is what is left over by 255.
+fn is_full(ride: usize) -> bool
+    requires { ⌜ depthRefusal (depthsOf (contextOf ride .depths)) ≡ 0 ⌝ }
+    ensures { λ r. ⌜ r ≡ leb 64 (total (depthsOf (contextOf ride .depths))) ⌝ }
+{
+    64 <= ride / 4294967296 % 255
+}
+
+pub(crate) fn in_maybe(ride: usize) -> Inner
+    requires { ⌜ depthRefusal (depthsOf (contextOf ride .depths)) ≡ 0 ⌝ }
+    ensures { λ r. ⌜ Opens maybe (contextOf ride) r ⌝ }
+{
+    if is_full(ride) {
+        return Inner {
+            refusal: CONTAINERS_TOO_DEEP,
+            ride,
+        };
+    }
+    Inner {
+        refusal: 0,
+        ride: ride + 72057594037927936,
     }
 }
 
-pub(crate) fn in_maybe(context: Context) -> Inner
-    ensures { λ r. ⌜ Opens maybe context r ⌝ }
+pub(crate) fn in_variant(ride: usize) -> Inner
+    requires { ⌜ depthRefusal (depthsOf (contextOf ride .depths)) ≡ 0 ⌝ }
+    ensures { λ r. ⌜ Opens variant (contextOf ride) r ⌝ }
 {
-    let raised = context.depths.inc_maybe();
-    Inner::of(context, raised)
+    if is_full(ride) {
+        return Inner {
+            refusal: CONTAINERS_TOO_DEEP,
+            ride,
+        };
+    }
+    Inner {
+        refusal: 0,
+        ride: ride + 281474976710656,
+    }
 }
 
-pub(crate) fn in_array(context: Context) -> Inner
-    ensures { λ r. ⌜ Opens array context r ⌝ }
+pub(crate) fn in_array(ride: usize) -> Inner
+    requires { ⌜ depthRefusal (depthsOf (contextOf ride .depths)) ≡ 0 ⌝ }
+    ensures { λ r. ⌜ Opens array (contextOf ride) r ⌝ }
 {
-    let raised = context.depths.inc_array();
-    Inner::of(context, raised)
+    if 32 <= ride / 1099511627776 % 256 {
+        return Inner {
+            refusal: ARRAYS_TOO_DEEP,
+            ride,
+        };
+    }
+    if is_full(ride) {
+        return Inner {
+            refusal: CONTAINERS_TOO_DEEP,
+            ride,
+        };
+    }
+    Inner {
+        refusal: 0,
+        ride: ride + 1099511627776,
+    }
 }
 
-pub(crate) fn in_structure(context: Context) -> Inner
-    ensures { λ r. ⌜ Opens structure context r ⌝ }
+pub(crate) fn in_structure(ride: usize) -> Inner
+    requires { ⌜ depthRefusal (depthsOf (contextOf ride .depths)) ≡ 0 ⌝ }
+    ensures { λ r. ⌜ Opens structure (contextOf ride) r ⌝ }
 {
-    let raised = context.depths.inc_structure();
-    Inner::of(context, raised)
-}
-
-pub(crate) fn in_variant(context: Context) -> Inner
-    ensures { λ r. ⌜ Opens variant context r ⌝ }
-{
-    let raised = context.depths.inc_variant();
-    Inner::of(context, raised)
+    if 32 <= ride / 4294967296 % 256 {
+        return Inner {
+            refusal: STRUCTURES_TOO_DEEP,
+            ride,
+        };
+    }
+    if is_full(ride) {
+        return Inner {
+            refusal: CONTAINERS_TOO_DEEP,
+            ride,
+        };
+    }
+    Inner {
+        refusal: 0,
+        ride: ride + 4294967296,
+    }
 }

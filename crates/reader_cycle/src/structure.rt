@@ -2,12 +2,12 @@
 use crate::ends::Ends;
 use crate::ends::past;
 use crate::opening::in_structure;
+use crate::ride::position_of;
 use crate::value;
 use events::emit;
 use framing_offset_size::FramingOffsetSize;
 use meaning::letters::STRUCTURE_LETTER;
 use reader_basic::Answer;
-use reader_basic::Context;
 use reader_basic::basic::close;
 use reader_basic::basic::end_padding;
 use reader_basic::basic::offset_before;
@@ -32,6 +32,7 @@ ghost use Rattle.reader_basic.specs.Answers.{From, Between};
 ghost use Rattle.reader_basic.specs.Parts.{Inside};
 ghost use Rattle.reader_cycle.specs.Places.{insideOf, fieldsOf};
 ghost use Rattle.reader_cycle.specs.Children.{fieldEnds, ClosesAt};
+ghost use Rattle.reader_cycle.specs.Rides.{contextOf};
 
 pub(crate) fn structure(
     text: &[u8],
@@ -40,19 +41,19 @@ pub(crate) fn structure(
     part: &[u8],
     lead: usize,
     place: usize,
-    context: Context,
+    ride: usize,
     out: &mut [u64],
     n: usize,
 ) -> Answer
-    requires { ⌜ Described (now text) (now shapes) shape × (letterAt (now text) (shape .at) ≡ Letter.OpenStructure) × Inside (length (now part)) place context × (lead ≤ length (now part)) ⌝ }
-    ensures { λ r. ⌜ From (insideOf context (treeAt (now (text .entry)) (shape .at)) place (now (part .entry)) lead) (now (part .entry)) lead n (now (out .entry)) (now (out .exit)) r ⌝ }
+    requires { ⌜ Described (now text) (now shapes) shape × (letterAt (now text) (shape .at) ≡ Letter.OpenStructure) × Inside (length (now part)) place (contextOf ride) × (lead ≤ length (now part)) ⌝ }
+    ensures { λ r. ⌜ From (insideOf (contextOf ride) (treeAt (now (text .entry)) (shape .at)) place (now (part .entry)) lead) (now (part .entry)) lead n (now (out .entry)) (now (out .exit)) r ⌝ }
 {
-    let inner = in_structure(context);
+    let inner = in_structure(ride);
     let refusal = inner.refusal;
     if refusal != 0 {
         return refused(refusal, 0, n);
     }
-    let deeper = inner.context;
+    let deeper = inner.ride;
     let m = emit(out, n, STRUCTURE_LETTER, place + lead, 0);
     let r = fields(text, shapes, shape, part, lead, place, deeper, out, m);
     close(r, place + lead, out)
@@ -66,12 +67,12 @@ pub(crate) fn fields(
     part: &[u8],
     lead: usize,
     place: usize,
-    context: Context,
+    ride: usize,
     out: &mut [u64],
     n: usize,
 ) -> Answer
-    requires { ⌜ Described (now text) (now shapes) shape × (letterAt (now text) (shape .at) ≡ Letter.OpenStructure) × Inside (length (now part)) place context × (lead ≤ length (now part)) ⌝ }
-    ensures { λ r. ⌜ From (fieldsOf context (now (text .entry)) shape place (now (part .entry)) lead) (now (part .entry)) lead n (now (out .entry)) (now (out .exit)) r ⌝ }
+    requires { ⌜ Described (now text) (now shapes) shape × (letterAt (now text) (shape .at) ≡ Letter.OpenStructure) × Inside (length (now part)) place (contextOf ride) × (lead ≤ length (now part)) ⌝ }
+    ensures { λ r. ⌜ From (fieldsOf (contextOf ride) (now (text .entry)) shape place (now (part .entry)) lead) (now (part .entry)) lead n (now (out .entry)) (now (out .exit)) r ⌝ }
 {
     let mut i = shape.at + 1;
     let mut end = part.len();
@@ -81,8 +82,9 @@ pub(crate) fn fields(
         let field = shape_in(text, shapes, i);
         let j = lead + u;
         if closes_at(text, field.next) {
-            let r = value(text, shapes, field, part, j, end, place, context, out, m);
-            let s = close_fields(shape, part, j, end, place, context.position, r);
+            let r = value(text, shapes, field, part, j, end, place, ride, out, m);
+            let position = position_of(ride);
+            let s = close_fields(shape, part, j, end, place, position, r);
             return behind(u, s);
         }
         let ends = field_ends(part, lead, field.fixed, end);
@@ -91,7 +93,7 @@ pub(crate) fn fields(
             return refused(fault, u, m);
         }
         let e = ends.child;
-        let r = value(text, shapes, field, part, j, e, place, context, out, m);
+        let r = value(text, shapes, field, part, j, e, place, ride, out, m);
         let refusal = r.refusal;
         if refusal != 0 {
             return behind(u, r);

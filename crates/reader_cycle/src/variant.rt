@@ -1,5 +1,6 @@
 // Variants. Ports ValueDeserializer of gvariant/de.rs.
 use crate::opening::in_variant;
+use crate::ride::context_of;
 use crate::value;
 use events::emit;
 use meaning::letters::CONTAINER_END;
@@ -9,7 +10,6 @@ use meaning::limits::LONGEST_TYPE;
 use meaning::refusals::NO_SEPARATOR;
 use meaning::refusals::VARIANT_TYPE_REFUSED;
 use reader_basic::Answer;
-use reader_basic::Context;
 use reader_basic::basic::child_key;
 use reader_basic::basic::separator;
 use reader_basic::done;
@@ -35,18 +35,19 @@ ghost use Rattle.reader_basic.specs.Answers.{Done, From};
 ghost use Rattle.reader_basic.specs.Parts.{Inside};
 ghost use Rattle.reader_cycle.specs.Places.{insideOf, variantTree};
 ghost use Rattle.reader_cycle.specs.Children.{onlyLetter, HoldsBasic};
+ghost use Rattle.reader_cycle.specs.Rides.{contextOf};
 
 // A variant: its type stands at its end, behind a nul.
 pub(crate) fn variant(
     part: &[u8],
     lead: usize,
     place: usize,
-    context: Context,
+    ride: usize,
     out: &mut [u64],
     n: usize,
 ) -> Answer
-    requires { ⌜ Inside (length (now part)) place context × (lead ≤ length (now part)) ⌝ }
-    ensures { λ r. ⌜ From (insideOf context variantTree place (now (part .entry)) lead) (now (part .entry)) lead n (now (out .entry)) (now (out .exit)) r ⌝ }
+    requires { ⌜ Inside (length (now part)) place (contextOf ride) × (lead ≤ length (now part)) ⌝ }
+    ensures { λ r. ⌜ From (insideOf (contextOf ride) variantTree place (now (part .entry)) lead) (now (part .entry)) lead n (now (out .entry)) (now (out .exit)) r ⌝ }
 {
     let s = separator(&part[lead..]);
     if s == 0 {
@@ -56,7 +57,7 @@ pub(crate) fn variant(
     let text = &part[from..];
     let kind = only_letter(text);
     if key_alignment(kind) != 0 {
-        return basic_variant(kind, part, lead, from, place, context, out, n);
+        return basic_variant(kind, part, lead, from, place, ride, out, n);
     }
     let head = type_text(text, place + lead, place + from, out, n);
     let fault = head.refusal;
@@ -68,12 +69,12 @@ pub(crate) fn variant(
     if !shapes_of(text, &mut shapes) {
         return refused(VARIANT_TYPE_REFUSED, 0, g);
     }
-    let inner = in_variant(context);
+    let inner = in_variant(ride);
     let refusal = inner.refusal;
     if refusal != 0 {
         return refused(refusal, 0, g);
     }
-    let deeper = inner.context;
+    let deeper = inner.ride;
     let shape = shape_in(text, &shapes, 0);
     let e = from - 1;
     let r = value(text, &shapes, shape, part, lead, e, place, deeper, out, g);
@@ -97,21 +98,22 @@ pub(crate) fn basic_variant(
     lead: usize,
     from: usize,
     place: usize,
-    context: Context,
+    ride: usize,
     out: &mut [u64],
     n: usize,
 ) -> Answer
-    requires { ⌜ Inside (length (now part)) place context × HoldsBasic (now part) lead from kind ⌝ }
-    ensures { λ r. ⌜ From (insideOf context variantTree place (now (part .entry)) lead) (now (part .entry)) lead n (now (out .entry)) (now (out .exit)) r ⌝ }
+    requires { ⌜ Inside (length (now part)) place (contextOf ride) × HoldsBasic (now part) lead from kind ⌝ }
+    ensures { λ r. ⌜ From (insideOf (contextOf ride) variantTree place (now (part .entry)) lead) (now (part .entry)) lead n (now (out .entry)) (now (out .exit)) r ⌝ }
 {
     let m = emit(out, n, VARIANT_LETTER, place + lead, 0);
     let g = emit(out, m, SIGNATURE_LETTER, place + from, 1);
-    let inner = in_variant(context);
+    let inner = in_variant(ride);
     let refusal = inner.refusal;
     if refusal != 0 {
         return refused(refusal, 0, g);
     }
-    let r = child_key(kind, part, lead, from - 1, place, inner.context, out, g);
+    let context = context_of(inner.ride);
+    let r = child_key(kind, part, lead, from - 1, place, context, out, g);
     close_variant(r, part, lead, place, out)
 }
 

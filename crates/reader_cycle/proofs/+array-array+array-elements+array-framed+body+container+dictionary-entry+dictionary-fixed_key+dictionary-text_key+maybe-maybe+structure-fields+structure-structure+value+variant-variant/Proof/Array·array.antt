@@ -45,7 +45,9 @@ array·array-callees t = (
 )
 
 array·array-in-array-requires : (t : ℕ) → array·array-lts.Need-in-array-requires (array·array-callees t) (array·array-at t) array·array.Post
-array·array-in-array-requires t c κs = search needs
+array·array-in-array-requires t c κs =
+    let start = c .before .before .before .before in
+    start .pre .1 .2 .shallow
 
 array·array-refused-requires : (t : ℕ) → array·array-lts.Need-refused-requires (array·array-callees t) (array·array-at t) array·array.Post
 array·array-refused-requires t c κs = search needs
@@ -65,7 +67,7 @@ array·array-item-kind-requires t c κs = search needs
 
 array·array-add-emit : (t : ℕ) → array·array-lts.Need-add-emit (array·array-callees t) (array·array-at t) array·array.Post
 array·array-add-emit t c =
-    let start = c .before .before .before .before .before .before .before .before .before .before .before in
+    let start = c .before .before .before .before .before .before .before .before .before .before in
     omega (arith, start .pre .1 .2 .in-frame, start .pre .1 .3)
 
 array·array-emit-requires : (t : ℕ) → array·array-lts.Need-emit-requires (array·array-callees t) (array·array-at t) array·array.Post
@@ -75,7 +77,7 @@ array·array-elements-requires : (t : ℕ) → array·array-lts.Need-elements-re
 array·array-elements-requires t c κs =
     let at-if2 = c .before .before .before .before .before in
     let at-item-of = at-if2 .before .before in
-    let at-if1 = at-item-of .before .before in
+    let at-if1 = at-item-of .before in
     let at-in-array = at-if1 .before in
     let start = at-in-array .before .before .before .before .before in (
       omega (arith, level-falls (at-in-array .in-array .ensures .deeper (at-if1 .if1 .left)), start .pre .0),
@@ -90,13 +92,13 @@ array·array-elements-requires t c κs =
 
 array·array-add-close : (t : ℕ) → array·array-lts.Need-add-close (array·array-callees t) (array·array-at t) array·array.Post
 array·array-add-close t c =
-    let start = c .before .before .before .before .before .before .before .before .before .before .before .before .before .before .before .before .before .before in
+    let start = c .before .before .before .before .before .before .before .before .before .before .before .before .before .before .before .before .before in
     omega (arith, start .pre .1 .2 .in-frame, start .pre .1 .3)
 
 array·array-close-requires : (t : ℕ) → array·array-lts.Need-close-requires (array·array-callees t) (array·array-at t) array·array.Post
 array·array-close-requires t c κs =
     let at-elements = c .before .before .before in
-    let start = at-elements .before .before .before .before .before .before .before .before .before .before .before .before .before .before .before .before in
+    let start = at-elements .before .before .before .before .before .before .before .before .before .before .before .before .before .before .before in
     omega (arith, at-elements .elements .ensures .fits, start .pre .1 .2 .in-frame, start .pre .1 .3)
 
 array·array-same-length : (t : ℕ) → array·array-lts.Need-same-length (array·array-callees t) (array·array-at t) array·array.Post
@@ -110,7 +112,7 @@ array·array-returns-2 t c =
     let at-if2 = at-emit .before .before in
     let at-item-kind = at-if2 .before in
     let at-item-of = at-item-kind .before in
-    let at-if1 = at-item-of .before .before in
+    let at-if1 = at-item-of .before in
     let at-in-array = at-if1 .before in
     let start = at-in-array .before .before .before .before .before in
     array-fixed (item-at _ _ _ (start .pre .1 .0) (start .pre .1 .1) _ (at-item-of .item-of .ensures)) _ _ _ _ _ _
@@ -138,7 +140,7 @@ array·array-returns-3 t c =
     let at-from-encoded-array = at-if3 .before .before in
     let at-if2 = at-from-encoded-array .before .before in
     let at-item-of = at-if2 .before .before in
-    let at-if1 = at-item-of .before .before in
+    let at-if1 = at-item-of .before in
     let at-in-array = at-if1 .before in
     let start = at-in-array .before .before .before .before .before in
     told (c .refused2 .ensures) (array-no-table (item-at _ _ _ (start .pre .1 .0) (start .pre .1 .1) _ (at-item-of .item-of .ensures)) _ _ _ _ _ _
@@ -147,7 +149,7 @@ array·array-returns-3 t c =
 
 array·array-add-emit-2 : (t : ℕ) → array·array-lts.Need-add-emit-2 (array·array-callees t) (array·array-at t) array·array.Post
 array·array-add-emit-2 t c =
-    let start = c .before .before .before .before .before .before .before .before .before .before .before .before .before .before .before in
+    let start = c .before .before .before .before .before .before .before .before .before .before .before .before .before .before in
     omega (arith, start .pre .1 .2 .in-frame, start .pre .1 .3)
 
 array·array-emit-requires-2 : (t : ℕ) → array·array-lts.Need-emit-requires-2 (array·array-callees t) (array·array-at t) array·array.Post
@@ -159,7 +161,7 @@ array·array-framed-requires t c κs =
     let at-from-encoded-array = at-if3 .before .before in
     let at-if2 = at-from-encoded-array .before .before in
     let at-item-of = at-if2 .before .before in
-    let at-if1 = at-item-of .before .before in
+    let at-if1 = at-item-of .before in
     let at-in-array = at-if1 .before in
     let start = at-in-array .before .before .before .before .before in (
       omega (arith, level-falls (at-in-array .in-array .ensures .deeper (at-if1 .if1 .left)), start .pre .0),
@@ -176,13 +178,13 @@ array·array-framed-requires t c κs =
 
 array·array-add-close-2 : (t : ℕ) → array·array-lts.Need-add-close-2 (array·array-callees t) (array·array-at t) array·array.Post
 array·array-add-close-2 t c =
-    let start = c .before .before .before .before .before .before .before .before .before .before .before .before .before .before .before .before .before .before .before .before .before .before in
+    let start = c .before .before .before .before .before .before .before .before .before .before .before .before .before .before .before .before .before .before .before .before .before in
     omega (arith, start .pre .1 .2 .in-frame, start .pre .1 .3)
 
 array·array-close-requires-2 : (t : ℕ) → array·array-lts.Need-close-requires-2 (array·array-callees t) (array·array-at t) array·array.Post
 array·array-close-requires-2 t c κs =
     let at-framed = c .before .before .before in
-    let start = at-framed .before .before .before .before .before .before .before .before .before .before .before .before .before .before .before .before .before .before .before .before in
+    let start = at-framed .before .before .before .before .before .before .before .before .before .before .before .before .before .before .before .before .before .before .before in
     omega (arith, at-framed .framed .ensures .fits, start .pre .1 .2 .in-frame, start .pre .1 .3)
 
 array·array-same-length-2 : (t : ℕ) → array·array-lts.Need-same-length-2 (array·array-callees t) (array·array-at t) array·array.Post
@@ -198,7 +200,7 @@ array·array-returns-4 t c =
     let at-if2 = at-from-encoded-array .before .before in
     let at-item-kind = at-if2 .before in
     let at-item-of = at-item-kind .before in
-    let at-if1 = at-item-of .before .before in
+    let at-if1 = at-item-of .before in
     let at-in-array = at-if1 .before in
     let start = at-in-array .before .before .before .before .before in
     array-framed (item-at _ _ _ (start .pre .1 .0) (start .pre .1 .1) _ (at-item-of .item-of .ensures)) _ _ _ _ _ _

@@ -8,6 +8,8 @@ use Rattle.reader_cycle.proofs.Deepening.{arrived, told}
 use Rattle.reader_cycle.proofs.Entries.{step-child}
 use Rattle.reader_cycle.proofs.ItemLaws.{plain-numbers}
 use Rattle.reader_cycle.specs.Places.{stepIn}
+use Rattle.reader_cycle.specs.Rides.{contextOf}
+use Rattle.reader_cycle.proofs.Rides.{inside-as, numbers-as}
 use borrow.Author.Needs.{needs}
 use lib.ListN.{length}
 use mathlib.Core.Logic.{⊎-elim}
@@ -22,10 +24,13 @@ use Rattle.reader_basic.proofs.numbers.numbers.Reads as numbers-reads
 use cycle.Lts-array-elements as array·elements-lts
 use of.array.elements.Reads as array·elements
 use of.dictionary.entry.Reads as dictionary·entry
+use of.ride.context_of.Reads as context-of-reads
 use of.value.Reads as value
 
 abbrev array·elements-callees : ℕ → array·elements-lts.Claims
 array·elements-callees t = (
+  context-of-reads.Asked,
+  context-of-reads.Learnt,
   numbers-reads.Asked,
   numbers-reads.Learnt,
   dictionary·entry-below t,
@@ -39,21 +44,24 @@ array·elements-callees t = (
 )
 
 abbrev array·elements-Inv-loop : array·elements-lts.InvT-loop
-array·elements-Inv-loop text shapes item part lead place context out₀ n is-entry child b u₀ m₀ out u m =
-    ElementsLeft (stepIn context text item place part (length part)) part lead n out₀ u m out
+array·elements-Inv-loop text shapes item part lead place ride out₀ n is-entry child b u₀ m₀ out u m =
+    ElementsLeft (stepIn (contextOf ride) text item place part (length part)) part lead n out₀ u m out
 
 abbrev array·elements-μ-loop : array·elements-lts.MeasureT-loop
-array·elements-μ-loop text shapes item part lead place context out₀ n is-entry child b u₀ m₀ out u m =
+array·elements-μ-loop text shapes item part lead place ride out₀ n is-entry child b u₀ m₀ out u m =
     length part - (lead + u)
 
 array·elements-enum-known-plain : (t : ℕ) → array·elements-lts.Need-enum-known-plain (array·elements-callees t) (array·elements-at t) array·elements.Post array·elements-Inv-loop array·elements-μ-loop
 array·elements-enum-known-plain t c = search needs
 
+array·elements-context-of-requires : (t : ℕ) → array·elements-lts.Need-context-of-requires (array·elements-callees t) (array·elements-at t) array·elements.Post array·elements-Inv-loop array·elements-μ-loop
+array·elements-context-of-requires t c κs = search needs
+
 array·elements-numbers-requires : (t : ℕ) → array·elements-lts.Need-numbers-requires (array·elements-callees t) (array·elements-at t) array·elements.Post array·elements-Inv-loop array·elements-μ-loop
 array·elements-numbers-requires t c κs =
-    let at-plain = c .before .before in
+    let at-plain = c .before .before .before in
     let start = at-plain .before .before .before .before .before .before in
-    (start .pre .1 .2, start .pre .1 .3, start .pre .1 .0 .number _ _ (at-plain .plain .given .1) .aligned)
+    (inside-as (c .before .context-of .ensures) (start .pre .1 .2), start .pre .1 .3, start .pre .1 .0 .number _ _ (at-plain .plain .given .1) .aligned)
 
 array·elements-same-length : (t : ℕ) → array·elements-lts.Need-same-length (array·elements-callees t) (array·elements-at t) array·elements.Post array·elements-Inv-loop array·elements-μ-loop
 array·elements-same-length t c = search needs
@@ -61,11 +69,11 @@ array·elements-same-length t c = search needs
 array·elements-returns : (t : ℕ) → array·elements-lts.Need-returns (array·elements-callees t) (array·elements-at t) array·elements.Post array·elements-Inv-loop array·elements-μ-loop
 array·elements-returns t c =
     let at-numbers = c .before .before in
-    let at-plain = at-numbers .before .before .before in
+    let at-plain = at-numbers .before .before .before .before in
     let start = at-plain .before .before .before .before .before .before in
-    plain-numbers _ _ _ _ (start .pre .1 .0 .number _ _ (at-plain .plain .given .1)) (start .args .context .position) (start .args .context .big)
-    (start .args .context .depths .variant) (depthsOf (start .args .context .depths)) (start .args .place) (start .args .part .now)
-    (length (start .args .part .now)) (start .args .lead) _ _ _ _ _ _ (start .pre .1 .1) (at-numbers .numbers .ensures)
+    plain-numbers _ _ _ _ (start .pre .1 .0 .number _ _ (at-plain .plain .given .1)) (contextOf (start .args .ride) .position) (contextOf (start .args .ride) .big)
+    (contextOf (start .args .ride) .depths .variant) (depthsOf (contextOf (start .args .ride) .depths)) (start .args .place) (start .args .part .now)
+    (length (start .args .part .now)) (start .args .lead) _ _ _ _ _ _ (start .pre .1 .1) (numbers-as (at-numbers .before .before .context-of .ensures) (at-plain .plain .given .1) (start .args .place) (start .args .part .now) (start .args .lead) (at-numbers .numbers .ensures))
 
 array·elements-loop-holds : (t : ℕ) → array·elements-lts.Need-loop-holds (array·elements-callees t) (array·elements-at t) array·elements.Post array·elements-Inv-loop array·elements-μ-loop
 array·elements-loop-holds t c =
@@ -98,7 +106,7 @@ array·elements-value-requires t c κs =
 
 -- what one turn reads: an element, or an entry
 array·elements-turn : (t : ℕ) (c : array·elements-lts.Joined1 (array·elements-callees t) (array·elements-at t) array·elements.Post array·elements-Inv-loop array·elements-μ-loop)
-    → Between (stepIn (c .before .before .before .before .before .before .before .before .before .args .context)
+    → Between (stepIn (contextOf (c .before .before .before .before .before .before .before .before .before .args .ride))
     (c .before .before .before .before .before .before .before .before .before .args .text .now)
     (c .before .before .before .before .before .before .before .before .before .args .item)
     (c .before .before .before .before .before .before .before .before .before .args .place)
@@ -114,7 +122,7 @@ array·elements-turn t c =
     let at-loop = c .before .before in
     let start = at-loop .before .before .before .before .before .before .before in
     ⊎-elim (λ x. arrived (x .5) (x .6) (x .2 .ensures))
-    (λ x. arrived (x .5) (x .6) (step-child (start .args .context) (start .args .text .now) (start .args .item) (start .args .place)
+    (λ x. arrived (x .5) (x .6) (step-child (contextOf (start .args .ride)) (start .args .text .now) (start .args .item) (start .args .place)
     (start .args .part .now) (length (start .args .part .now)) (start .args .lead + at-loop .loop .u) (length (start .args .part .now)) _ _ _ _
     (x .0 .left) (x .2 .ensures)))
     (c .if1 .came)
@@ -185,6 +193,7 @@ array·elements-spec t =
     array·elements-Inv-loop
     array·elements-μ-loop
     (array·elements-enum-known-plain t)
+    (array·elements-context-of-requires t)
     (array·elements-numbers-requires t)
     (array·elements-same-length t)
     (array·elements-returns t)

@@ -8,6 +8,8 @@ use Rattle.reader_cycle.proofs.Deepening.{arrived, told}
 use Rattle.reader_cycle.proofs.Entries.{step-child}
 use Rattle.reader_cycle.proofs.ItemLaws.{held-numbers, held-texts}
 use Rattle.reader_cycle.specs.Places.{stepIn}
+use Rattle.reader_cycle.specs.Rides.{contextOf}
+use Rattle.reader_cycle.proofs.Rides.{inside-as, readings-as}
 use borrow.Author.Needs.{needs}
 use lib.ListN.{drop, length-drop}
 use mathlib.Core.Bool.{false≢true}
@@ -26,10 +28,13 @@ use cycle.Lts-array-framed as array·framed-lts
 use of.array.element_kind.Reads as element-kind-reads
 use of.array.framed.Reads as array·framed
 use of.dictionary.entry.Reads as dictionary·entry
+use of.ride.context_of.Reads as context-of-reads
 use of.value.Reads as value
 
 abbrev array·framed-callees : ℕ → array·framed-lts.Claims
 array·framed-callees t = (
+  context-of-reads.Asked,
+  context-of-reads.Learnt,
   readings-reads.Asked,
   readings-reads.Learnt,
   element-kind-reads.Asked,
@@ -49,21 +54,24 @@ array·framed-callees t = (
 )
 
 abbrev array·framed-Inv-loop : array·framed-lts.InvT-loop
-array·framed-Inv-loop text shapes item offsets part lead place context out₀ n is-entry child table many b i₀ u₀ m₀ out i u m =
-    FramedLeft (stepIn context text item place part (lead + offsets .start)) part lead (lead + offsets .start) n out₀ (endsOf (tableIn offsets) (drop lead part)) i u m out
+array·framed-Inv-loop text shapes item offsets part lead place ride out₀ n is-entry child table many b i₀ u₀ m₀ out i u m =
+    FramedLeft (stepIn (contextOf ride) text item place part (lead + offsets .start)) part lead (lead + offsets .start) n out₀ (endsOf (tableIn offsets) (drop lead part)) i u m out
 
 abbrev array·framed-μ-loop : array·framed-lts.MeasureT-loop
-array·framed-μ-loop text shapes item offsets part lead place context out₀ n is-entry child table many b i₀ u₀ m₀ out i u m =
+array·framed-μ-loop text shapes item offsets part lead place ride out₀ n is-entry child table many b i₀ u₀ m₀ out i u m =
     offsets .count - i
 
 array·framed-enum-known-held : (t : ℕ) → array·framed-lts.Need-enum-known-held (array·framed-callees t) (array·framed-at t) array·framed.Post array·framed-Inv-loop array·framed-μ-loop
 array·framed-enum-known-held t c = search needs
 
+array·framed-context-of-requires : (t : ℕ) → array·framed-lts.Need-context-of-requires (array·framed-callees t) (array·framed-at t) array·framed.Post array·framed-Inv-loop array·framed-μ-loop
+array·framed-context-of-requires t c κs = search needs
+
 array·framed-readings-requires : (t : ℕ) → array·framed-lts.Need-readings-requires (array·framed-callees t) (array·framed-at t) array·framed.Post array·framed-Inv-loop array·framed-μ-loop
 array·framed-readings-requires t c κs =
-    let at-held = c .before .before in
+    let at-held = c .before .before .before in
     let start = at-held .before .before .before .before .before .before in
-    (start .pre .1 .2, record { begins = start .pre .1 .3; stands = start .pre .1 .4 }, start .pre .1 .0 .number _ _ (at-held .held .given .1) .aligned)
+    (inside-as (c .before .context-of .ensures) (start .pre .1 .2), record { begins = start .pre .1 .3; stands = start .pre .1 .4 }, start .pre .1 .0 .number _ _ (at-held .held .given .1) .aligned)
 
 array·framed-same-length : (t : ℕ) → array·framed-lts.Need-same-length (array·framed-callees t) (array·framed-at t) array·framed.Post array·framed-Inv-loop array·framed-μ-loop
 array·framed-same-length t c = search needs
@@ -71,9 +79,9 @@ array·framed-same-length t c = search needs
 array·framed-returns : (t : ℕ) → array·framed-lts.Need-returns (array·framed-callees t) (array·framed-at t) array·framed.Post array·framed-Inv-loop array·framed-μ-loop
 array·framed-returns t c =
     let at-readings = c .before .before in
-    let at-held = at-readings .before .before .before in
+    let at-held = at-readings .before .before .before .before in
     let start = at-held .before .before .before .before .before .before in
-    held-numbers _ _ _ _ (start .pre .1 .0 .number _ _ (at-held .held .given .1)) _ _ _ _ _ _ _ _ _ _ _ _ _ _ _ _ (start .pre .1 .1) (at-readings .readings .ensures)
+    held-numbers _ _ _ _ (start .pre .1 .0 .number _ _ (at-held .held .given .1)) _ _ _ _ _ _ _ _ _ _ _ _ _ _ _ _ (start .pre .1 .1) (readings-as (at-readings .before .before .context-of .ensures) _ _ _ _ _ _ (start .args .offsets) (at-readings .readings .ensures))
 
 array·framed-element-kind-requires : (t : ℕ) → array·framed-lts.Need-element-kind-requires (array·framed-callees t) (array·framed-at t) array·framed.Post array·framed-Inv-loop array·framed-μ-loop
 array·framed-element-kind-requires t c κs = search needs
@@ -95,7 +103,7 @@ array·framed-returns-2 t c =
     let at-plain = at-texts .before .before .before in
     let at-element-kind = at-plain .before .before in
     let start = at-element-kind .before .before .before .before .before .before in
-    held-texts (start .args .context) (start .args .text .now) (start .args .shapes .now) (start .args .item) _ (start .pre .1 .0)
+    held-texts (contextOf (start .args .ride)) (start .args .text .now) (start .args .shapes .now) (start .args .item) _ (start .pre .1 .0)
     (sym (at-plain .plain .given .1) ∙ at-element-kind .element-kind .ensures) (start .args .offsets) (start .args .place) (start .args .part .now)
     (start .args .lead) _ _ _ _ _ _ (at-texts .texts .ensures)
 
@@ -177,7 +185,7 @@ array·framed-value-requires t c κs =
 
 -- what one turn reads: an element, or an entry
 array·framed-turn : (t : ℕ) (c : array·framed-lts.Joined1 (array·framed-callees t) (array·framed-at t) array·framed.Post array·framed-Inv-loop array·framed-μ-loop)
-    → Between (stepIn (c .before .before .before .before .before .before .before .before .before .before .before .before .before .before .before .args .context)
+    → Between (stepIn (contextOf (c .before .before .before .before .before .before .before .before .before .before .before .before .before .before .before .args .ride))
     (c .before .before .before .before .before .before .before .before .before .before .before .before .before .before .before .args .text .now) (c .before .before .before .before .before .before .before .before .before .before .before .before .before .before .before .args .item)
     (c .before .before .before .before .before .before .before .before .before .before .before .before .before .before .before .args .place) (c .before .before .before .before .before .before .before .before .before .before .before .before .before .before .before .args .part .now)
     (c .before .before .before .before .before .before .before .before .before .before .before .before .before .before .before .args .lead + c .before .before .before .before .before .before .before .before .before .before .before .before .before .before .before .args .offsets .start)
@@ -192,7 +200,7 @@ array·framed-turn t c =
     let at-loop = at-next .before .before in
     let start = at-loop .before .before .before .before .before .before .before .before .before .before .before in
     ⊎-elim (λ x. arrived (x .5) (x .6) (x .2 .ensures))
-    (λ x. arrived (x .5) (x .6) (step-child (start .args .context) (start .args .text .now) (start .args .item) (start .args .place)
+    (λ x. arrived (x .5) (x .6) (step-child (contextOf (start .args .ride)) (start .args .text .now) (start .args .item) (start .args .place)
     (start .args .part .now) (start .args .lead + start .args .offsets .start) (start .args .lead + at-loop .loop .u)
     (start .args .lead + at-next .next .result .value) _ _ _ _ (x .0 .left) (x .2 .ensures)))
     (c .if1 .came)
@@ -287,6 +295,7 @@ array·framed-spec t =
     array·framed-Inv-loop
     array·framed-μ-loop
     (array·framed-enum-known-held t)
+    (array·framed-context-of-requires t)
     (array·framed-readings-requires t)
     (array·framed-same-length t)
     (array·framed-returns t)

@@ -2,6 +2,8 @@
 use Prim.Native.Nat.{ℕ}
 use Rattle.reader_cycle.proofs.Deepening.{told}
 use Rattle.reader_cycle.proofs.Entries.{entry-padded, entry-within, step-keyed, step-text, step-unpadded}
+use Rattle.reader_cycle.specs.Rides.{contextOf}
+use Rattle.reader_cycle.proofs.Rides.{padding-as}
 use borrow.Author.Needs.{needs}
 use native.Mathlib.Omega.{arith}
 use Rattle.reader_cycle.proofs as of
@@ -14,9 +16,12 @@ use cycle.Lts-dictionary-entry as dictionary·entry-lts
 use of.dictionary.entry.Reads as dictionary·entry
 use of.dictionary.fixed_key.Reads as dictionary·fixed-key
 use of.dictionary.text_key.Reads as dictionary·text-key
+use of.ride.position_of.Reads as position-of-reads
 
 abbrev dictionary·entry-callees : ℕ → dictionary·entry-lts.Claims
 dictionary·entry-callees t = (
+  position-of-reads.Asked,
+  position-of-reads.Learnt,
   parse-padding-reads.Asked,
   parse-padding-reads.Learnt,
   refused-reads.Asked,
@@ -29,10 +34,13 @@ dictionary·entry-callees t = (
   dictionary·text-key.Post,
 )
 
+dictionary·entry-position-of-requires : (t : ℕ) → dictionary·entry-lts.Need-position-of-requires (dictionary·entry-callees t) (dictionary·entry-at t) dictionary·entry.Post
+dictionary·entry-position-of-requires t c κs = search needs
+
 dictionary·entry-add-parse-padding : (t : ℕ) → dictionary·entry-lts.Need-add-parse-padding (dictionary·entry-callees t) (dictionary·entry-at t) dictionary·entry.Post
 dictionary·entry-add-parse-padding t c =
     let start = c .before .before .before .before .before in
-    omega (arith, start .pre .1 .2 .in-frame, start .pre .1 .2 .near)
+    omega (arith, c .position-of .ensures, start .pre .1 .2 .in-frame, start .pre .1 .2 .near)
 
 dictionary·entry-parse-padding-requires : (t : ℕ) → dictionary·entry-lts.Need-parse-padding-requires (dictionary·entry-callees t) (dictionary·entry-at t) dictionary·entry.Post
 dictionary·entry-parse-padding-requires t c κs = search needs
@@ -45,13 +53,13 @@ dictionary·entry-returns t c =
     let at-if1 = c .before in
     let at-parse-padding = at-if1 .before in
     let start = at-parse-padding .before .before .before .before .before .before in
-    told (c .refused .ensures) (step-unpadded (entry-padded (start .args .context) (start .args .part .now) _ _ (start .pre .1 .0) (start .pre .1 .1) (start .pre .1 .2) (start .pre .1 .3) (at-parse-padding .parse-padding .ensures)) _ _ _ _ (at-if1 .if1 .taken))
+    told (c .refused .ensures) (step-unpadded (entry-padded (contextOf (start .args .ride)) (start .args .part .now) _ _ (start .pre .1 .0) (start .pre .1 .1) (start .pre .1 .2) (start .pre .1 .3) (padding-as _ _ _ _ (at-parse-padding .before .position-of .ensures) (at-parse-padding .parse-padding .ensures))) _ _ _ _ (at-if1 .if1 .taken))
 
 dictionary·entry-add-from : (t : ℕ) → dictionary·entry-lts.Need-add-from (dictionary·entry-callees t) (dictionary·entry-at t) dictionary·entry.Post
 dictionary·entry-add-from t c =
     let at-parse-padding = c .before in
     let start = at-parse-padding .before .before .before .before .before .before in
-    omega (arith, entry-within (entry-padded (start .args .context) (start .args .part .now) _ _ (start .pre .1 .0) (start .pre .1 .1) (start .pre .1 .2) (start .pre .1 .3) (at-parse-padding .parse-padding .ensures)), start .pre .1 .2 .in-frame)
+    omega (arith, entry-within (entry-padded (contextOf (start .args .ride)) (start .args .part .now) _ _ (start .pre .1 .0) (start .pre .1 .1) (start .pre .1 .2) (start .pre .1 .3) (padding-as _ _ _ _ (at-parse-padding .before .position-of .ensures) (at-parse-padding .parse-padding .ensures))), start .pre .1 .2 .in-frame)
 
 dictionary·entry-fixed-key-requires : (t : ℕ) → dictionary·entry-lts.Need-fixed-key-requires (dictionary·entry-callees t) (dictionary·entry-at t) dictionary·entry.Post
 dictionary·entry-fixed-key-requires t c κs =
@@ -62,8 +70,8 @@ dictionary·entry-fixed-key-requires t c κs =
         start .pre .1 .0,
         start .pre .1 .2,
         entry-within
-            (entry-padded (start .args .context) (start .args .part .now) _ _ (start .pre .1 .0) (start .pre .1 .1) (start .pre .1 .2) (start .pre .1 .3)
-            (at-parse-padding .parse-padding .ensures)),
+            (entry-padded (contextOf (start .args .ride)) (start .args .part .now) _ _ (start .pre .1 .0) (start .pre .1 .1) (start .pre .1 .2) (start .pre .1 .3)
+            (padding-as _ _ _ _ (at-parse-padding .before .position-of .ensures) (at-parse-padding .parse-padding .ensures))),
         omega (arith, start .pre .1 .4, start .pre .1 .5),
         start .pre .1 .6,
       ),
@@ -74,7 +82,7 @@ dictionary·entry-behind-requires t c κs =
     let at-fixed-key = c .before .before in
     let at-parse-padding = at-fixed-key .before .before .before .before in
     let start = at-parse-padding .before .before .before .before .before .before in
-    omega (arith, at-fixed-key .fixed-key .ensures 0 .fits, entry-within (entry-padded (start .args .context) (start .args .part .now) _ _ (start .pre .1 .0) (start .pre .1 .1) (start .pre .1 .2) (start .pre .1 .3) (at-parse-padding .parse-padding .ensures)), start .pre .1 .2 .in-frame)
+    omega (arith, at-fixed-key .fixed-key .ensures 0 .fits, entry-within (entry-padded (contextOf (start .args .ride)) (start .args .part .now) _ _ (start .pre .1 .0) (start .pre .1 .1) (start .pre .1 .2) (start .pre .1 .3) (padding-as _ _ _ _ (at-parse-padding .before .position-of .ensures) (at-parse-padding .parse-padding .ensures))), start .pre .1 .2 .in-frame)
 
 dictionary·entry-same-length : (t : ℕ) → dictionary·entry-lts.Need-same-length (dictionary·entry-callees t) (dictionary·entry-at t) dictionary·entry.Post
 dictionary·entry-same-length t c = search needs
@@ -86,8 +94,8 @@ dictionary·entry-returns-2 t c =
     let at-if1 = at-if2 .before in
     let at-parse-padding = at-if1 .before in
     let start = at-parse-padding .before .before .before .before .before .before in
-    told (c .behind .ensures) (step-keyed (entry-padded (start .args .context) (start .args .part .now) _ _ (start .pre .1 .0) (start .pre .1 .1)
-    (start .pre .1 .2) (start .pre .1 .3) (at-parse-padding .parse-padding .ensures)) _ _ _ _ (at-if1 .if1 .left) _ _ (at-if2 .if2 .taken)
+    told (c .behind .ensures) (step-keyed (entry-padded (contextOf (start .args .ride)) (start .args .part .now) _ _ (start .pre .1 .0) (start .pre .1 .1)
+    (start .pre .1 .2) (start .pre .1 .3) (padding-as _ _ _ _ (at-parse-padding .before .position-of .ensures) (at-parse-padding .parse-padding .ensures))) _ _ _ _ (at-if1 .if1 .left) _ _ (at-if2 .if2 .taken)
     (at-fixed-key .fixed-key .ensures _))
 
 dictionary·entry-text-key-requires : (t : ℕ) → dictionary·entry-lts.Need-text-key-requires (dictionary·entry-callees t) (dictionary·entry-at t) dictionary·entry.Post
@@ -99,8 +107,8 @@ dictionary·entry-text-key-requires t c κs =
         start .pre .1 .0,
         start .pre .1 .2,
         entry-within
-            (entry-padded (start .args .context) (start .args .part .now) _ _ (start .pre .1 .0) (start .pre .1 .1) (start .pre .1 .2) (start .pre .1 .3)
-            (at-parse-padding .parse-padding .ensures)),
+            (entry-padded (contextOf (start .args .ride)) (start .args .part .now) _ _ (start .pre .1 .0) (start .pre .1 .1) (start .pre .1 .2) (start .pre .1 .3)
+            (padding-as _ _ _ _ (at-parse-padding .before .position-of .ensures) (at-parse-padding .parse-padding .ensures))),
         start .pre .1 .4,
         start .pre .1 .5,
       ),
@@ -111,7 +119,7 @@ dictionary·entry-behind-requires-2 t c κs =
     let at-text-key = c .before .before in
     let at-parse-padding = at-text-key .before .before .before .before in
     let start = at-parse-padding .before .before .before .before .before .before in
-    omega (arith, at-text-key .text-key .ensures .fits, entry-within (entry-padded (start .args .context) (start .args .part .now) _ _ (start .pre .1 .0) (start .pre .1 .1) (start .pre .1 .2) (start .pre .1 .3) (at-parse-padding .parse-padding .ensures)), start .pre .1 .2 .in-frame)
+    omega (arith, at-text-key .text-key .ensures .fits, entry-within (entry-padded (contextOf (start .args .ride)) (start .args .part .now) _ _ (start .pre .1 .0) (start .pre .1 .1) (start .pre .1 .2) (start .pre .1 .3) (padding-as _ _ _ _ (at-parse-padding .before .position-of .ensures) (at-parse-padding .parse-padding .ensures))), start .pre .1 .2 .in-frame)
 
 dictionary·entry-same-length-2 : (t : ℕ) → dictionary·entry-lts.Need-same-length-2 (dictionary·entry-callees t) (dictionary·entry-at t) dictionary·entry.Post
 dictionary·entry-same-length-2 t c = search needs
@@ -123,13 +131,14 @@ dictionary·entry-returns-3 t c =
     let at-if1 = at-if2 .before in
     let at-parse-padding = at-if1 .before in
     let start = at-parse-padding .before .before .before .before .before .before in
-    told (c .behind2 .ensures) (step-text (entry-padded (start .args .context) (start .args .part .now) _ _ (start .pre .1 .0) (start .pre .1 .1)
-    (start .pre .1 .2) (start .pre .1 .3) (at-parse-padding .parse-padding .ensures)) _ _ _ _ (at-if1 .if1 .left) _ _ (at-if2 .if2 .left)
+    told (c .behind2 .ensures) (step-text (entry-padded (contextOf (start .args .ride)) (start .args .part .now) _ _ (start .pre .1 .0) (start .pre .1 .1)
+    (start .pre .1 .2) (start .pre .1 .3) (padding-as _ _ _ _ (at-parse-padding .before .position-of .ensures) (at-parse-padding .parse-padding .ensures))) _ _ _ _ (at-if1 .if1 .left) _ _ (at-if2 .if2 .left)
     (at-text-key .text-key .ensures))
 
 pub dictionary·entry-spec : {M : Type 1} (t : ℕ) → dictionary·entry-lts.Closed (dictionary·entry-callees t) (dictionary·entry-at t) dictionary·entry.Post M
 dictionary·entry-spec t =
     dictionary·entry-lts.spec (dictionary·entry-callees t) (dictionary·entry-at t) dictionary·entry.Post
+    (dictionary·entry-position-of-requires t)
     (dictionary·entry-add-parse-padding t)
     (dictionary·entry-parse-padding-requires t)
     (dictionary·entry-refused-requires t)

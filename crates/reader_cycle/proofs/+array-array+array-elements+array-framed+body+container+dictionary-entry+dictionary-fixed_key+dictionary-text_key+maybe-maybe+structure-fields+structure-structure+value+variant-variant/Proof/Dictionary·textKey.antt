@@ -4,6 +4,8 @@ use Rattle.container_depths.specs.Opening.{depthsOf}
 use Rattle.reader_cycle.proofs.Deepening.{told}
 use Rattle.reader_cycle.proofs.Entries.{key-there, text-key-missing, text-key-narrow, text-key-stop, text-key-value}
 use Rattle.reader_cycle.proofs.Structures.{width-small}
+use Rattle.reader_cycle.specs.Rides.{contextOf}
+use Rattle.reader_cycle.proofs.Rides.{inside-as, key-as}
 use borrow.Author.Needs.{needs}
 use lib.ListN.{length}
 use native.Mathlib.Omega.{arith}
@@ -17,6 +19,7 @@ use cycle.Lts-dictionary-text_key as dictionary·text-key-lts
 use of.dictionary.key_ends.Reads as key-ends-reads
 use of.dictionary.text_key.Reads as dictionary·text-key
 use of.ends.past.Reads as past-reads
+use of.ride.context_of.Reads as context-of-reads
 use of.value.Reads as value
 
 abbrev dictionary·text-key-callees : ℕ → dictionary·text-key-lts.Claims
@@ -25,6 +28,8 @@ dictionary·text-key-callees t = (
   key-ends-reads.Learnt,
   refused-reads.Asked,
   refused-reads.Learnt,
+  context-of-reads.Asked,
+  context-of-reads.Learnt,
   child-key-reads.Asked,
   child-key-reads.Learnt,
   value-below t,
@@ -49,10 +54,13 @@ dictionary·text-key-returns t c =
     let at-key-ends = at-if1 .before in
     told (c .refused .ensures) (text-key-missing _ _ _ _ _ (at-key-ends .key-ends .ensures) _ _ _ _ _ _ _ _ _ (at-if1 .if1 .taken))
 
+dictionary·text-key-context-of-requires : (t : ℕ) → dictionary·text-key-lts.Need-context-of-requires (dictionary·text-key-callees t) (dictionary·text-key-at t) dictionary·text-key.Post
+dictionary·text-key-context-of-requires t c κs = search needs
+
 dictionary·text-key-child-key-requires : (t : ℕ) → dictionary·text-key-lts.Need-child-key-requires (dictionary·text-key-callees t) (dictionary·text-key-at t) dictionary·text-key.Post
 dictionary·text-key-child-key-requires t c κs =
-    let start = c .before .before .before .before .before .before .before in
-    (start .pre .1 .1, start .pre .1 .2, start .pre .1 .0 .key)
+    let start = c .before .before .before .before .before .before .before .before in
+    (inside-as (c .before .context-of .ensures) (start .pre .1 .1), start .pre .1 .2, start .pre .1 .0 .key)
 
 dictionary·text-key-same-length : (t : ℕ) → dictionary·text-key-lts.Need-same-length (dictionary·text-key-callees t) (dictionary·text-key-at t) dictionary·text-key.Post
 dictionary·text-key-same-length t c = search needs
@@ -60,26 +68,26 @@ dictionary·text-key-same-length t c = search needs
 dictionary·text-key-returns-2 : (t : ℕ) → dictionary·text-key-lts.Need-returns-2 (dictionary·text-key-callees t) (dictionary·text-key-at t) dictionary·text-key.Post
 dictionary·text-key-returns-2 t c =
     let at-child-key = c .before .before .before in
-    let at-if1 = at-child-key .before .before in
+    let at-if1 = at-child-key .before .before .before in
     let at-key-ends = at-if1 .before in
     let start = at-key-ends .before .before .before .before .before in
-    text-key-stop _ _ _ _ _ _ _ (key-there _ _ _ _ _ (at-key-ends .key-ends .ensures) (at-if1 .if1 .left)) _ _ (start .pre .1 .3) (start .pre .1 .4) _ _ (at-child-key .child-key .ensures _) (c .if2 .taken)
+    text-key-stop _ _ _ _ _ _ _ (key-there _ _ _ _ _ (at-key-ends .key-ends .ensures) (at-if1 .if1 .left)) _ _ (start .pre .1 .3) (start .pre .1 .4) _ _ (key-as (at-child-key .before .before .context-of .ensures) (start .args .item .key) (start .args .place) (start .args .j) (at-key-ends .key-ends .result .child) (start .args .part .now) (at-child-key .child-key .ensures) (depthsOf (contextOf (start .args .ride) .depths))) (c .if2 .taken)
 
 dictionary·text-key-add-from : (t : ℕ) → dictionary·text-key-lts.Need-add-from (dictionary·text-key-callees t) (dictionary·text-key-at t) dictionary·text-key.Post
 dictionary·text-key-add-from t c =
     let at-child-key = c .before .before .before in
-    let start = at-child-key .before .before .before .before .before .before .before .before in
-    omega (arith, at-child-key .child-key .ensures (depthsOf (start .args .context .depths)) .fits, start .pre .1 .1 .in-frame, start .pre .1 .2)
+    let start = at-child-key .before .before .before .before .before .before .before .before .before in
+    omega (arith, at-child-key .child-key .ensures (depthsOf (contextOf (start .args .ride) .depths)) .fits, start .pre .1 .1 .in-frame, start .pre .1 .2)
 
 dictionary·text-key-add-if3 : (t : ℕ) → dictionary·text-key-lts.Need-add-if3 (dictionary·text-key-callees t) (dictionary·text-key-at t) dictionary·text-key.Post
 dictionary·text-key-add-if3 t c =
     let at-child-key = c .before .before .before .before in
-    let at-if1 = at-child-key .before .before in
+    let at-if1 = at-child-key .before .before .before in
     let at-key-ends = at-if1 .before in
     let start = at-key-ends .before .before .before .before .before in
     omega (
       arith,
-      at-child-key .child-key .ensures (depthsOf (start .args .context .depths)) .fits,
+      at-child-key .child-key .ensures (depthsOf (contextOf (start .args .ride) .depths)) .fits,
       start .pre .1 .1 .in-frame,
       start .pre .1 .2,
       (key-there _ _ _ _ _ (at-key-ends .key-ends .ensures) (at-if1 .if1 .left)) .width,
@@ -98,10 +106,10 @@ dictionary·text-key-returns-3 t c =
     let at-if3 = c .before in
     let at-if2 = at-if3 .before .before in
     let at-child-key = at-if2 .before .before .before in
-    let at-if1 = at-child-key .before .before in
+    let at-if1 = at-child-key .before .before .before in
     let at-key-ends = at-if1 .before in
     let start = at-key-ends .before .before .before .before .before in
-    told (c .refused2 .ensures) (text-key-narrow _ _ _ _ _ _ _ (key-there _ _ _ _ _ (at-key-ends .key-ends .ensures) (at-if1 .if1 .left)) _ _ (start .pre .1 .3) (start .pre .1 .4) _ _ (at-child-key .child-key .ensures _) (at-if2 .if2 .left) (at-if3 .if3 .taken))
+    told (c .refused2 .ensures) (text-key-narrow _ _ _ _ _ _ _ (key-there _ _ _ _ _ (at-key-ends .key-ends .ensures) (at-if1 .if1 .left)) _ _ (start .pre .1 .3) (start .pre .1 .4) _ _ (key-as (at-child-key .before .before .context-of .ensures) (start .args .item .key) (start .args .place) (start .args .j) (at-key-ends .key-ends .result .child) (start .args .part .now) (at-child-key .child-key .ensures) (depthsOf (contextOf (start .args .ride) .depths))) (at-if2 .if2 .left) (at-if3 .if3 .taken))
 
 dictionary·text-key-sub-end : (t : ℕ) → dictionary·text-key-lts.Need-sub-end (dictionary·text-key-callees t) (dictionary·text-key-at t) dictionary·text-key.Post
 dictionary·text-key-sub-end t c = omega (arith, c .before .before .if3 .left)
@@ -109,13 +117,13 @@ dictionary·text-key-sub-end t c = omega (arith, c .before .before .if3 .left)
 dictionary·text-key-value-requires : (t : ℕ) → dictionary·text-key-lts.Need-value-requires (dictionary·text-key-callees t) (dictionary·text-key-at t) dictionary·text-key.Post
 dictionary·text-key-value-requires t c κs =
     let at-child-key = c .before .before .before .before .before .before .before .before in
-    let start = at-child-key .before .before .before .before .before .before .before .before in
-    (omega (arith, start .pre .0), (start .pre .1 .0 .child, start .pre .1 .1, omega (arith, at-child-key .child-key .ensures (depthsOf (start .args .context .depths)) .fits, start .pre .1 .2)))
+    let start = at-child-key .before .before .before .before .before .before .before .before .before in
+    (omega (arith, start .pre .0), (start .pre .1 .0 .child, start .pre .1 .1, omega (arith, at-child-key .child-key .ensures (depthsOf (contextOf (start .args .ride) .depths)) .fits, start .pre .1 .2)))
 
 dictionary·text-key-past-requires : (t : ℕ) → dictionary·text-key-lts.Need-past-requires (dictionary·text-key-callees t) (dictionary·text-key-at t) dictionary·text-key.Post
 dictionary·text-key-past-requires t c κs =
     let at-value = c .before .before in
-    let at-if1 = at-value .before .before .before .before .before .before .before .before .before .before .before in
+    let at-if1 = at-value .before .before .before .before .before .before .before .before .before .before .before .before in
     let at-key-ends = at-if1 .before in
     let start = at-key-ends .before .before .before .before .before in
     omega (arith, at-value .value .ensures .fits, start .pre .1 .1 .in-frame, (key-there _ _ _ _ _ (at-key-ends .key-ends .ensures) (at-if1 .if1 .left)) .width, width-small (start .args .e - start .args .j) (omega (arith, start .pre .1 .1 .in-frame, start .pre .1 .3, start .pre .1 .4)))
@@ -125,10 +133,10 @@ dictionary·text-key-behind-requires t c κs =
     let at-value = c .before .before .before in
     let at-if3 = at-value .before .before .before .before in
     let at-child-key = at-if3 .before .before .before .before .before in
-    let start = at-child-key .before .before .before .before .before .before .before .before in
+    let start = at-child-key .before .before .before .before .before .before .before .before .before in
     omega (
       arith,
-      at-child-key .child-key .ensures (depthsOf (start .args .context .depths)) .fits,
+      at-child-key .child-key .ensures (depthsOf (contextOf (start .args .ride) .depths)) .fits,
       c .past .ensures _
           (start .args .e - (start .args .j + at-child-key .child-key .result .used)) _
           (length (start .args .part .now) - (start .args .j + at-child-key .child-key .result .used)) _ _ _
@@ -148,11 +156,11 @@ dictionary·text-key-returns-4 t c =
     let at-if3 = at-value .before .before .before .before in
     let at-if2 = at-if3 .before .before in
     let at-child-key = at-if2 .before .before .before in
-    let at-if1 = at-child-key .before .before in
+    let at-if1 = at-child-key .before .before .before in
     let at-key-ends = at-if1 .before in
     let start = at-key-ends .before .before .before .before .before in
     told (c .behind .ensures) (text-key-value _ _ _ _ _ _ _ (key-there _ _ _ _ _ (at-key-ends .key-ends .ensures) (at-if1 .if1 .left)) _ _
-    (start .pre .1 .3) (start .pre .1 .4) _ _ (at-child-key .child-key .ensures _) (at-if2 .if2 .left) (at-if3 .if3 .left) _ _ _
+    (start .pre .1 .3) (start .pre .1 .4) _ _ (key-as (at-child-key .before .before .context-of .ensures) (start .args .item .key) (start .args .place) (start .args .j) (at-key-ends .key-ends .result .child) (start .args .part .now) (at-child-key .child-key .ensures) (depthsOf (contextOf (start .args .ride) .depths))) (at-if2 .if2 .left) (at-if3 .if3 .left) _ _ _
     (at-value .value .ensures) (at-past .past .ensures))
 
 pub dictionary·text-key-spec : {M : Type 1} (t : ℕ) → dictionary·text-key-lts.Closed (dictionary·text-key-callees t) (dictionary·text-key-at t) dictionary·text-key.Post M
@@ -161,6 +169,7 @@ dictionary·text-key-spec t =
     (dictionary·text-key-key-ends-requires t)
     (dictionary·text-key-refused-requires t)
     (dictionary·text-key-returns t)
+    (dictionary·text-key-context-of-requires t)
     (dictionary·text-key-child-key-requires t)
     (dictionary·text-key-same-length t)
     (dictionary·text-key-returns-2 t)

@@ -62,7 +62,9 @@ maybe·maybe-returns t c =
     told (c .done .ensures) (maybe-none (start .pre .1 .0 .typed) (start .pre .1 .1) _ _ _ _ _ _ _ _ (at-if1 .if1 .taken) (at-emit .emit .ensures .0) (at-emit .emit .ensures .1))
 
 maybe·maybe-in-maybe-requires : (t : ℕ) → maybe·maybe-lts.Need-in-maybe-requires (maybe·maybe-callees t) (maybe·maybe-at t) maybe·maybe.Post
-maybe·maybe-in-maybe-requires t c κs = search needs
+maybe·maybe-in-maybe-requires t c κs =
+    let start = c .before .before .before .before .before in
+    start .pre .1 .2 .shallow
 
 maybe·maybe-refused-requires : (t : ℕ) → maybe·maybe-lts.Need-refused-requires (maybe·maybe-callees t) (maybe·maybe-at t) maybe·maybe.Post
 maybe·maybe-refused-requires t c κs = search needs
@@ -77,7 +79,7 @@ maybe·maybe-returns-2 t c =
 
 maybe·maybe-add-emit-2 : (t : ℕ) → maybe·maybe-lts.Need-add-emit-2 (maybe·maybe-callees t) (maybe·maybe-at t) maybe·maybe.Post
 maybe·maybe-add-emit-2 t c =
-    let start = c .before .before .before .before .before .before .before .before .before in
+    let start = c .before .before .before .before .before .before .before .before in
     omega (arith, start .pre .1 .2 .in-frame, start .pre .1 .3)
 
 maybe·maybe-emit-requires-2 : (t : ℕ) → maybe·maybe-lts.Need-emit-requires-2 (maybe·maybe-callees t) (maybe·maybe-at t) maybe·maybe.Post
@@ -85,7 +87,7 @@ maybe·maybe-emit-requires-2 t c κs = search needs
 
 maybe·maybe-add-shape-in : (t : ℕ) → maybe·maybe-lts.Need-add-shape-in (maybe·maybe-callees t) (maybe·maybe-at t) maybe·maybe.Post
 maybe·maybe-add-shape-in t c =
-    let start = c .before .before .before .before .before .before .before .before .before .before .before .before .before in
+    let start = c .before .before .before .before .before .before .before .before .before .before .before .before in
     omega (arith, cut (start .args .text .now) (start .args .shape .at) Maybe 109 (start .pre .1 .1) refl .within, start .pre .1 .0 .typed .short)
 
 maybe·maybe-shape-in-requires : (t : ℕ) → maybe·maybe-lts.Need-shape-in-requires (maybe·maybe-callees t) (maybe·maybe-at t) maybe·maybe.Post
@@ -94,7 +96,7 @@ maybe·maybe-shape-in-requires t c κs = search needs
 maybe·maybe-value-requires : (t : ℕ) → maybe·maybe-lts.Need-value-requires (maybe·maybe-callees t) (maybe·maybe-at t) maybe·maybe.Post
 maybe·maybe-value-requires t c κs =
     let at-shape-in = c .before .before in
-    let at-if2 = at-shape-in .before .before .before .before .before .before .before in
+    let at-if2 = at-shape-in .before .before .before .before .before .before in
     let at-in-maybe = at-if2 .before in
     let start = at-in-maybe .before .before .before .before .before .before in (
       omega (arith, level-falls (at-in-maybe .in-maybe .ensures .deeper (at-if2 .if2 .left)), start .pre .0),
@@ -114,7 +116,7 @@ maybe·maybe-returns-3 t c =
     let at-if3 = at-value .before .before in
     let at-shape-in = at-if3 .before in
     let at-emit2 = at-shape-in .before .before .before .before in
-    let at-if2 = at-emit2 .before .before .before in
+    let at-if2 = at-emit2 .before .before in
     let at-in-maybe = at-if2 .before in
     let at-if1 = at-in-maybe .before in
     let start = at-if1 .before .before .before .before .before in
@@ -129,7 +131,7 @@ maybe·maybe-sub-stop t c = omega arith
 maybe·maybe-value-requires-2 : (t : ℕ) → maybe·maybe-lts.Need-value-requires-2 (maybe·maybe-callees t) (maybe·maybe-at t) maybe·maybe.Post
 maybe·maybe-value-requires-2 t c κs =
     let at-shape-in = c .before .before in
-    let at-if2 = at-shape-in .before .before .before .before .before .before .before in
+    let at-if2 = at-shape-in .before .before .before .before .before .before in
     let at-in-maybe = at-if2 .before in
     let start = at-in-maybe .before .before .before .before .before .before in (
       omega (arith, level-falls (at-in-maybe .in-maybe .ensures .deeper (at-if2 .if2 .left)), start .pre .0),
@@ -143,7 +145,7 @@ maybe·maybe-value-requires-2 t c κs =
 maybe·maybe-end-byte-requires : (t : ℕ) → maybe·maybe-lts.Need-end-byte-requires (maybe·maybe-callees t) (maybe·maybe-at t) maybe·maybe.Post
 maybe·maybe-end-byte-requires t c κs =
     let at-value2 = c .before .before in
-    let at-if1 = at-value2 .before .before .before .before .before .before .before .before .before .before .before .before in
+    let at-if1 = at-value2 .before .before .before .before .before .before .before .before .before .before .before in
     let start = at-if1 .before .before .before .before .before in
     (at-if1 .if1 .left, omega (arith, start .pre .1 .2 .in-frame), at-value2 .value2 .ensures .fits, at-value2 .value2 .ensures .ends)
 
@@ -156,7 +158,7 @@ maybe·maybe-returns-4 t c =
     let at-if3 = at-value2 .before .before in
     let at-shape-in = at-if3 .before in
     let at-emit2 = at-shape-in .before .before .before .before in
-    let at-if2 = at-emit2 .before .before .before in
+    let at-if2 = at-emit2 .before .before in
     let at-in-maybe = at-if2 .before in
     let at-if1 = at-in-maybe .before in
     let start = at-if1 .before .before .before .before .before in

@@ -1,6 +1,7 @@
 -- What falls, for each member; what each is given at a measure t, and what a call of it asks below t.
 use Prim.Native.Nat.{_*_, _+_, _<_, ℕ}
 use Rattle.container_depths.proofs.Levels.{level}
+use Rattle.reader_cycle.specs.Rides.{contextOf}
 use borrow.Fn.Kinds.{In}
 use borrow.Fn.PlainCycle.{Measures, and, falls, is}
 use Rattle.reader_cycle.proofs as of
@@ -33,55 +34,55 @@ use of.variant.variant.Reads as variant·variant
 
 abbrev pub μ-array·array : Measures 4 array·array-kinds.ps ℕ
 μ-array·array κs a =
-    level (a .1 .1 .1 .1 .1 .1 .0 .depths) * 16 + 2
+    level (contextOf (a .1 .1 .1 .1 .1 .1 .0) .depths) * 16 + 2
 
 abbrev pub μ-array·elements : Measures 4 array·elements-kinds.ps ℕ
 μ-array·elements κs a =
-    level (a .1 .1 .1 .1 .1 .1 .0 .depths) * 16 + 9
+    level (contextOf (a .1 .1 .1 .1 .1 .1 .0) .depths) * 16 + 9
 
 abbrev pub μ-array·framed : Measures 4 array·framed-kinds.ps ℕ
 μ-array·framed κs a =
-    level (a .1 .1 .1 .1 .1 .1 .1 .0 .depths) * 16 + 9
+    level (contextOf (a .1 .1 .1 .1 .1 .1 .1 .0) .depths) * 16 + 9
 
 abbrev pub μ-body : Measures 4 body-kinds.ps ℕ
 μ-body κs a =
-    level (a .1 .1 .1 .1 .1 .1 .0 .depths) * 16 + 3
+    level (contextOf (a .1 .1 .1 .1 .1 .1 .0) .depths) * 16 + 3
 
 abbrev pub μ-container : Measures 4 container-kinds.ps ℕ
 μ-container κs a =
-    level (a .1 .1 .1 .1 .1 .0 .depths) * 16 + 4
+    level (contextOf (a .1 .1 .1 .1 .1 .0) .depths) * 16 + 4
 
 abbrev pub μ-dictionary·entry : Measures 4 dictionary·entry-kinds.ps ℕ
 μ-dictionary·entry κs a =
-    level (a .1 .1 .1 .1 .1 .1 .1 .1 .0 .depths) * 16 + 7
+    level (contextOf (a .1 .1 .1 .1 .1 .1 .1 .1 .0) .depths) * 16 + 7
 
 abbrev pub μ-dictionary·fixed-key : Measures 4 dictionary·fixed-key-kinds.ps ℕ
 μ-dictionary·fixed-key κs a =
-    level (a .1 .1 .1 .1 .1 .1 .1 .0 .depths) * 16 + 6
+    level (contextOf (a .1 .1 .1 .1 .1 .1 .1 .0) .depths) * 16 + 6
 
 abbrev pub μ-dictionary·text-key : Measures 4 dictionary·text-key-kinds.ps ℕ
 μ-dictionary·text-key κs a =
-    level (a .1 .1 .1 .1 .1 .1 .1 .1 .0 .depths) * 16 + 6
+    level (contextOf (a .1 .1 .1 .1 .1 .1 .1 .1 .0) .depths) * 16 + 6
 
 abbrev pub μ-maybe·maybe : Measures 4 maybe·maybe-kinds.ps ℕ
 μ-maybe·maybe κs a =
-    level (a .1 .1 .1 .1 .1 .1 .0 .depths) * 16 + 2
+    level (contextOf (a .1 .1 .1 .1 .1 .1 .0) .depths) * 16 + 2
 
 abbrev pub μ-structure·fields : Measures 4 structure·fields-kinds.ps ℕ
 μ-structure·fields κs a =
-    level (a .1 .1 .1 .1 .1 .1 .0 .depths) * 16 + 8
+    level (contextOf (a .1 .1 .1 .1 .1 .1 .0) .depths) * 16 + 8
 
 abbrev pub μ-structure·structure : Measures 4 structure·structure-kinds.ps ℕ
 μ-structure·structure κs a =
-    level (a .1 .1 .1 .1 .1 .1 .0 .depths) * 16 + 2
+    level (contextOf (a .1 .1 .1 .1 .1 .1 .0) .depths) * 16 + 2
 
 abbrev pub μ-value : Measures 4 value-kinds.ps ℕ
 μ-value κs a =
-    level (a .1 .1 .1 .1 .1 .1 .1 .0 .depths) * 16 + 5
+    level (contextOf (a .1 .1 .1 .1 .1 .1 .1 .0) .depths) * 16 + 5
 
 abbrev pub μ-variant·variant : Measures 2 variant·variant-kinds.ps ℕ
 μ-variant·variant κs a =
-    level (a .1 .1 .1 .0 .depths) * 16 + 2
+    level (contextOf (a .1 .1 .1 .0) .depths) * 16 + 2
 
 abbrev pub array·array-at : ℕ → In 4 array·array-kinds.ps
 array·array-at t =

@@ -7,6 +7,8 @@ use Rattle.reader_cycle.proofs.Structures.{FieldsLeft, ends-room, field
 use Rattle.signature.proofs.Letters.{cut}
 use Rattle.signature.proofs.TreeLaws.{described-aligned, last-field-of, next-field-of, structure-fixed, structure-rowed}
 use Rattle.signature.specs.declared.Letter.the-variants.{OpenStructure}
+use Rattle.reader_cycle.specs.Rides.{contextOf}
+use Rattle.reader_cycle.proofs.Rides.{fields-as}
 use borrow.Author.Needs.{needs}
 use lib.ListN.{length}
 use mathlib.Core.Path.{refl}
@@ -17,6 +19,7 @@ use cycle.Proof.Measures.{structure·fields-at, value-below}
 use Rattle.reader_basic.proofs.behind.Reads as behind-reads
 use Rattle.reader_basic.proofs.refused.Reads as refused-reads
 use cycle.Lts-structure-fields as structure·fields-lts
+use of.ride.position_of.Reads as position-of-reads
 use of.structure.close_fields.Reads as close-fields-reads
 use of.structure.closes_at.Reads as closes-at-reads
 use of.structure.field_ends.Reads as field-ends-reads
@@ -32,6 +35,8 @@ structure·fields-callees t = (
   closes-at-reads.Learnt,
   value-below t,
   value.Post,
+  position-of-reads.Asked,
+  position-of-reads.Learnt,
   close-fields-reads.Asked,
   close-fields-reads.Learnt,
   behind-reads.Asked,
@@ -43,11 +48,11 @@ structure·fields-callees t = (
 )
 
 abbrev structure·fields-Inv-loop : structure·fields-lts.InvT-loop
-structure·fields-Inv-loop text shapes shape part lead place context out₀ n i₀ end₀ u₀ m₀ out i end u m =
-    FieldsLeft (context .position) (context .big) (context .depths .variant) text (shape .at + 1) (shape .fixed) (shape .alignment) place part lead (encodedWidth (length part - lead)) (depthsOf (context .depths)) n out₀ i end u m out
+structure·fields-Inv-loop text shapes shape part lead place ride out₀ n i₀ end₀ u₀ m₀ out i end u m =
+    FieldsLeft (contextOf ride .position) (contextOf ride .big) (contextOf ride .depths .variant) text (shape .at + 1) (shape .fixed) (shape .alignment) place part lead (encodedWidth (length part - lead)) (depthsOf (contextOf ride .depths)) n out₀ i end u m out
 
 abbrev structure·fields-μ-loop : structure·fields-lts.MeasureT-loop
-structure·fields-μ-loop text shapes shape part lead place context out₀ n i₀ end₀ u₀ m₀ out i end u m =
+structure·fields-μ-loop text shapes shape part lead place ride out₀ n i₀ end₀ u₀ m₀ out i end u m =
     length text - i
 
 structure·fields-add-i : (t : ℕ) → structure·fields-lts.Need-add-i (structure·fields-callees t) (structure·fields-at t) structure·fields.Post structure·fields-Inv-loop structure·fields-μ-loop
@@ -81,16 +86,19 @@ structure·fields-value-requires t c κs =
     let start = at-loop .before .before .before .before .before .before in
     (omega (arith, start .pre .0), ((last-field-of _ _ _ (at-loop .loop .inv .rowed) (start .pre .1 .0 .table) _ (at-shape-in .shape-in .ensures) _ refl (at-closes-at .closes-at .ensures .there (at-if1 .if1 .taken))) .shape, start .pre .1 .2, at-loop .loop .inv .within))
 
+structure·fields-position-of-requires : (t : ℕ) → structure·fields-lts.Need-position-of-requires (structure·fields-callees t) (structure·fields-at t) structure·fields.Post structure·fields-Inv-loop structure·fields-μ-loop
+structure·fields-position-of-requires t c κs = search needs
+
 structure·fields-close-fields-requires : (t : ℕ) → structure·fields-lts.Need-close-fields-requires (structure·fields-callees t) (structure·fields-at t) structure·fields.Post structure·fields-Inv-loop structure·fields-μ-loop
 structure·fields-close-fields-requires t c κs =
-    let at-value = c .before .before in
+    let at-value = c .before .before .before in
     let at-loop = at-value .before .before .before .before .before in
     let start = at-loop .before .before .before .before .before .before in
-    (start .pre .1 .2 .in-frame, start .pre .1 .2 .near, described-aligned (start .pre .1 .0), omega (arith, at-value .value .ensures .fits, at-loop .loop .inv .within), at-loop .loop .inv .inside, at-loop .loop .inv .whole)
+    (start .pre .1 .2 .in-frame, omega (arith, c .position-of .ensures, start .pre .1 .2 .near), described-aligned (start .pre .1 .0), omega (arith, at-value .value .ensures .fits, at-loop .loop .inv .within), at-loop .loop .inv .inside, at-loop .loop .inv .whole)
 
 structure·fields-behind-requires : (t : ℕ) → structure·fields-lts.Need-behind-requires (structure·fields-callees t) (structure·fields-at t) structure·fields.Post structure·fields-Inv-loop structure·fields-μ-loop
 structure·fields-behind-requires t c κs =
-    let at-value = c .before .before .before in
+    let at-value = c .before .before .before .before in
     let at-loop = at-value .before .before .before .before .before in
     let start = at-loop .before .before .before .before .before .before in
     omega (arith, c .close-fields .ensures _ _ _ _ (at-value .value .ensures) .fits, start .pre .1 .2 .in-frame, at-loop .loop .inv .within)
@@ -101,7 +109,7 @@ structure·fields-same-length t c = search needs
 structure·fields-returns : (t : ℕ) → structure·fields-lts.Need-returns (structure·fields-callees t) (structure·fields-at t) structure·fields.Post structure·fields-Inv-loop structure·fields-μ-loop
 structure·fields-returns t c =
     let at-close-fields = c .before in
-    let at-value = at-close-fields .before .before .before in
+    let at-value = at-close-fields .before .before .before .before in
     let at-if1 = at-value .before .before in
     let at-closes-at = at-if1 .before in
     let at-shape-in = at-closes-at .before in
@@ -109,7 +117,7 @@ structure·fields-returns t c =
     let start = at-loop .before .before .before .before .before .before in
     told (c .behind .ensures) (fields-last (at-loop .loop .inv) (few-variants (start .pre .1 .2)) _ _
     (last-field-of _ _ _ (at-loop .loop .inv .rowed) (start .pre .1 .0 .table) _ (at-shape-in .shape-in .ensures) _ refl
-    (at-closes-at .closes-at .ensures .there (at-if1 .if1 .taken))) (at-close-fields .close-fields .ensures _ _ _ _ (at-value .value .ensures)))
+    (at-closes-at .closes-at .ensures .there (at-if1 .if1 .taken))) (fields-as (at-close-fields .before .position-of .ensures) _ _ _ _ _ _ _ (at-close-fields .close-fields .ensures _ _ _ _ (at-value .value .ensures))))
 
 structure·fields-field-ends-requires : (t : ℕ) → structure·fields-lts.Need-field-ends-requires (structure·fields-callees t) (structure·fields-at t) structure·fields.Post structure·fields-Inv-loop structure·fields-μ-loop
 structure·fields-field-ends-requires t c κs =
@@ -226,6 +234,7 @@ structure·fields-spec t =
     (structure·fields-add-j t)
     (structure·fields-closes-at-requires t)
     (structure·fields-value-requires t)
+    (structure·fields-position-of-requires t)
     (structure·fields-close-fields-requires t)
     (structure·fields-behind-requires t)
     (structure·fields-same-length t)

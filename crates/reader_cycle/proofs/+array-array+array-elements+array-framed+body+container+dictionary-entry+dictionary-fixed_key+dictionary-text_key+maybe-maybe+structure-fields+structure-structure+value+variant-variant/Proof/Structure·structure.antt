@@ -30,7 +30,9 @@ structure·structure-callees t = (
 )
 
 structure·structure-in-structure-requires : (t : ℕ) → structure·structure-lts.Need-in-structure-requires (structure·structure-callees t) (structure·structure-at t) structure·structure.Post
-structure·structure-in-structure-requires t c κs = search needs
+structure·structure-in-structure-requires t c κs =
+    let start = c .before .before .before .before in
+    start .pre .1 .2 .shallow
 
 structure·structure-refused-requires : (t : ℕ) → structure·structure-lts.Need-refused-requires (structure·structure-callees t) (structure·structure-at t) structure·structure.Post
 structure·structure-refused-requires t c κs = search needs
@@ -44,7 +46,7 @@ structure·structure-returns t c =
 
 structure·structure-add-emit : (t : ℕ) → structure·structure-lts.Need-add-emit (structure·structure-callees t) (structure·structure-at t) structure·structure.Post
 structure·structure-add-emit t c =
-    let start = c .before .before .before .before .before .before .before .before in
+    let start = c .before .before .before .before .before .before .before in
     omega (arith, start .pre .1 .2 .in-frame, start .pre .1 .3)
 
 structure·structure-emit-requires : (t : ℕ) → structure·structure-lts.Need-emit-requires (structure·structure-callees t) (structure·structure-at t) structure·structure.Post
@@ -52,20 +54,20 @@ structure·structure-emit-requires t c κs = search needs
 
 structure·structure-fields-requires : (t : ℕ) → structure·structure-lts.Need-fields-requires (structure·structure-callees t) (structure·structure-at t) structure·structure.Post
 structure·structure-fields-requires t c κs =
-    let at-if1 = c .before .before .before .before .before .before in
+    let at-if1 = c .before .before .before .before .before in
     let at-in-structure = at-if1 .before in
     let start = at-in-structure .before .before .before .before .before in
     (omega (arith, level-falls (at-in-structure .in-structure .ensures .deeper (at-if1 .if1 .left)), start .pre .0), (start .pre .1 .0, start .pre .1 .1, inside-deeper (at-in-structure .in-structure .ensures .deeper (at-if1 .if1 .left)) (start .pre .1 .2), start .pre .1 .3))
 
 structure·structure-add-close : (t : ℕ) → structure·structure-lts.Need-add-close (structure·structure-callees t) (structure·structure-at t) structure·structure.Post
 structure·structure-add-close t c =
-    let start = c .before .before .before .before .before .before .before .before .before .before .before .before .before .before .before in
+    let start = c .before .before .before .before .before .before .before .before .before .before .before .before .before .before in
     omega (arith, start .pre .1 .2 .in-frame, start .pre .1 .3)
 
 structure·structure-close-requires : (t : ℕ) → structure·structure-lts.Need-close-requires (structure·structure-callees t) (structure·structure-at t) structure·structure.Post
 structure·structure-close-requires t c κs =
     let at-fields = c .before .before .before in
-    let start = at-fields .before .before .before .before .before .before .before .before .before .before .before .before .before in
+    let start = at-fields .before .before .before .before .before .before .before .before .before .before .before .before in
     omega (arith, at-fields .fields .ensures .fits, start .pre .1 .2 .in-frame, start .pre .1 .3)
 
 structure·structure-same-length : (t : ℕ) → structure·structure-lts.Need-same-length (structure·structure-callees t) (structure·structure-at t) structure·structure.Post
@@ -76,7 +78,7 @@ structure·structure-returns-2 t c =
     let at-close = c .before .before in
     let at-fields = at-close .before .before .before .before in
     let at-emit = at-fields .before .before .before .before in
-    let at-if1 = at-emit .before .before .before in
+    let at-if1 = at-emit .before .before in
     let at-in-structure = at-if1 .before in
     let start = at-in-structure .before .before .before .before .before in
     structure-on (start .pre .1 .0) (start .pre .1 .1) _ _ _ _ _ _ (at-in-structure .in-structure .ensures .deeper (at-if1 .if1 .left)) _ _ _ _ (at-emit .emit .ensures .0) (at-emit .emit .ensures .1) (at-close .close .ensures _ _ _ _ _ (at-fields .fields .ensures))

@@ -4,6 +4,7 @@ use Rattle.reader_basic.proofs.Leaves.{child-before, child-past, child-there}
 use Rattle.reader_cycle.proofs.Deepening.{told}
 use Rattle.reader_cycle.proofs.Readers.{contains-by, number-aligned, value-bool, value-number, value-text, within-child}
 use Rattle.signature.proofs.TreeLaws.{described-kind}
+use Rattle.reader_cycle.proofs.Rides.{inside-as, number-as}
 use borrow.Author.Needs.{needs}
 use mathlib.Core.Bool.{false}
 use mathlib.Core.Path.{_∙_, sym}
@@ -17,6 +18,7 @@ use Rattle.reader_basic.proofs.basic.text_value.Reads as text-value-reads
 use Rattle.reader_basic.proofs.refused.Reads as refused-reads
 use cycle.Lts-value as value-lts
 use of.container.Reads as container
+use of.ride.context_of.Reads as context-of-reads
 use of.value.Reads as value
 
 abbrev value-callees : ℕ → value-lts.Claims
@@ -25,6 +27,8 @@ value-callees t = (
   refused-reads.Learnt,
   boolean-reads.Asked,
   boolean-reads.Learnt,
+  context-of-reads.Asked,
+  context-of-reads.Learnt,
   number-reads.Asked,
   number-reads.Learnt,
   text-value-reads.Asked,
@@ -69,13 +73,16 @@ value-boolean-requires t c κs = search needs
 value-enum-known-kind : (t : ℕ) → value-lts.Need-enum-known-kind (value-callees t) (value-at t) value.Post
 value-enum-known-kind t c = search needs
 
+value-context-of-requires : (t : ℕ) → value-lts.Need-context-of-requires (value-callees t) (value-at t) value.Post
+value-context-of-requires t c κs = search needs
+
 value-number-requires : (t : ℕ) → value-lts.Need-number-requires (value-callees t) (value-at t) value.Post
 value-number-requires t c κs =
-    let at-kind = c .before .before in
+    let at-kind = c .before .before .before in
     let at-if2 = at-kind .before .before .before in
     let at-if1 = at-if2 .before in
     let start = at-if1 .before .before .before .before .before in
-    (within-child _ _ _ (start .pre .1 .1) (at-if1 .if1 .left) (at-if2 .if2 .left), number-aligned _ _ (start .pre .1 .0 .typed) 0 false 0 _ _ (sym (described-kind (start .pre .1 .0)) ∙ at-kind .kind .given .1))
+    (inside-as (c .before .context-of .ensures) (within-child _ _ _ (start .pre .1 .1) (at-if1 .if1 .left) (at-if2 .if2 .left)), number-aligned _ _ (start .pre .1 .0 .typed) 0 false 0 _ _ (sym (described-kind (start .pre .1 .0)) ∙ at-kind .kind .given .1))
 
 value-enum-known-kind-2 : (t : ℕ) → value-lts.Need-enum-known-kind-2 (value-callees t) (value-at t) value.Post
 value-enum-known-kind-2 t c = search needs
@@ -109,11 +116,11 @@ value-same-length-2 t c = search needs
 value-returns-4 : (t : ℕ) → value-lts.Need-returns-4 (value-callees t) (value-at t) value.Post
 value-returns-4 t c =
     let at-number = c .before .before in
-    let at-kind = at-number .before .before .before in
+    let at-kind = at-number .before .before .before .before in
     let at-if2 = at-kind .before .before .before in
     let at-if1 = at-if2 .before in
     let start = at-if1 .before .before .before .before .before in
-    child-there _ _ _ _ _ _ _ _ _ (at-if1 .if1 .left) (at-if2 .if2 .left) (value-number _ _ (start .pre .1 .0 .typed) _ _ _ _ _ _ _ _ _ _ _ _ _ _ (sym (described-kind (start .pre .1 .0)) ∙ at-kind .kind .given .1) (at-number .number .ensures))
+    child-there _ _ _ _ _ _ _ _ _ (at-if1 .if1 .left) (at-if2 .if2 .left) (value-number _ _ (start .pre .1 .0 .typed) _ _ _ _ _ _ _ _ _ _ _ _ _ _ (sym (described-kind (start .pre .1 .0)) ∙ at-kind .kind .given .1) (number-as (at-number .before .before .context-of .ensures) _ _ _ _ (at-number .number .ensures)))
 
 value-same-length-3 : (t : ℕ) → value-lts.Need-same-length-3 (value-callees t) (value-at t) value.Post
 value-same-length-3 t c = search needs
@@ -150,6 +157,7 @@ value-spec t =
     (value-enum-told t)
     (value-boolean-requires t)
     (value-enum-known-kind t)
+    (value-context-of-requires t)
     (value-number-requires t)
     (value-enum-known-kind-2 t)
     (value-text-value-requires t)

@@ -8,6 +8,7 @@ use Rattle.reader_cycle.specs.Children.{onlyLetter}
 use Rattle.signature.proofs.ShapeLaws.{table-filled, table-refused, table-type}
 use Rattle.signature.proofs.TreeLaws.{described-as, front, front-described}
 use Rattle.signature.specs.declared.shapes.Shape.{Shape}
+use Rattle.reader_cycle.specs.Rides.{contextOf}
 use borrow.Author.Needs.{needs}
 use lib.ListN.{drop, length, length-take}
 use mathlib.Core.Path.{_∙_, ap, refl}
@@ -179,7 +180,9 @@ variant·variant-returns-4 t c =
     (table-refused _ _ _ _ refl (at-shapes-of .shapes-of .ensures) (denied (at-if4 .if4 .taken)))))
 
 variant·variant-in-variant-requires : (t : ℕ) → variant·variant-lts.Need-in-variant-requires (variant·variant-callees t) (variant·variant-at t) variant·variant.Post
-variant·variant-in-variant-requires t c κs = search needs
+variant·variant-in-variant-requires t c κs =
+    let start = c .before .before .before .before .before .before .before .before .before .before .before .before .before .before .before .before .before .before in
+    start .pre .1 .0 .shallow
 
 variant·variant-refused-requires-3 : (t : ℕ) → variant·variant-lts.Need-refused-requires-3 (variant·variant-callees t) (variant·variant-at t) variant·variant.Post
 variant·variant-refused-requires-3 t c κs = search needs
@@ -213,7 +216,7 @@ variant·variant-shape-in-requires t c κs = search needs
 
 variant·variant-sub-e : (t : ℕ) → variant·variant-lts.Need-sub-e (variant·variant-callees t) (variant·variant-at t) variant·variant.Post
 variant·variant-sub-e t c =
-    let at-if1 = c .before .before .before .before .before .before .before .before .before .before .before .before .before .before .before .before .before .before in
+    let at-if1 = c .before .before .before .before .before .before .before .before .before .before .before .before .before .before .before .before .before in
     omega (arith, at-if1 .if1 .left)
 
 variant·variant-slice-aggregate-value : (t : ℕ) → variant·variant-lts.Need-slice-aggregate-value (variant·variant-callees t) (variant·variant-at t) variant·variant.Post
@@ -222,7 +225,7 @@ variant·variant-slice-aggregate-value t c = search needs
 variant·variant-value-requires : (t : ℕ) → variant·variant-lts.Need-value-requires (variant·variant-callees t) (variant·variant-at t) variant·variant.Post
 variant·variant-value-requires t c κs =
     let at-shape-in = c .before .before in
-    let at-if5 = at-shape-in .before .before .before in
+    let at-if5 = at-shape-in .before .before in
     let at-in-variant = at-if5 .before in
     let at-if4 = at-in-variant .before in
     let at-shapes-of = at-if4 .before .before in
@@ -240,7 +243,7 @@ variant·variant-value-requires t c κs =
 
 variant·variant-close-variant-requires : (t : ℕ) → variant·variant-lts.Need-close-variant-requires (variant·variant-callees t) (variant·variant-at t) variant·variant.Post
 variant·variant-close-variant-requires t c κs =
-    let start = c .before .before .before .before .before .before .before .before .before .before .before .before .before .before .before .before .before .before .before .before .before .before .before .before .before .before .before .before .before in
+    let start = c .before .before .before .before .before .before .before .before .before .before .before .before .before .before .before .before .before .before .before .before .before .before .before .before .before .before .before .before in
     (start .pre .1 .0 .in-frame, start .pre .1 .1)
 
 variant·variant-same-length-5 : (t : ℕ) → variant·variant-lts.Need-same-length-5 (variant·variant-callees t) (variant·variant-at t) variant·variant.Post
@@ -248,7 +251,7 @@ variant·variant-same-length-5 t c =
     let at-close-variant = c .before .before in
     let at-value = at-close-variant .before .before .before .before in
     let at-shape-in = at-value .before .before .before in
-    let at-if5 = at-shape-in .before .before .before in
+    let at-if5 = at-shape-in .before .before in
     let at-in-variant = at-if5 .before in
     let at-if4 = at-in-variant .before in
     let at-shapes-of = at-if4 .before .before in
@@ -257,14 +260,14 @@ variant·variant-same-length-5 t c =
     let at-if1 = at-type-text .before .before .before .before .before .before in
     let at-separator = at-if1 .before in
     let start = at-separator .before .before .before .before in
-    kept (variant-closed (start .args .part .now) (start .args .lead) (start .args .place) (start .args .context) (start .args .n)
+    kept (variant-closed (start .args .part .now) (start .args .lead) (start .args .place) (contextOf (start .args .ride)) (start .args .n)
     (start .args .out .now) (at-separator .separator .result) (rw (tail (start .args .lead) (start .args .part .now)) at
     (at-separator .separator .ensures .0)) (at-if1 .if1 .left) _ _
     (rw (tail (start .args .lead + at-separator .separator .result) (start .args .part .now)) at (at-type-text .type-text .ensures)) (at-if3 .if3 .left)
     _ ((front _ (rw (tail (start .args .lead + at-separator .separator .result) (start .args .part .now)) at
     (table-type _ _ _ _ refl (at-shapes-of .shapes-of .ensures) (granted (at-if4 .if4 .left))))) .type)
     (at-in-variant .in-variant .ensures .deeper (at-if5 .if5 .left)) (few-variants (start .pre .1 .0)) _ _
-    (same-value (at-in-variant .in-variant .result .context) _ _ _ (tail (start .args .lead + at-separator .separator .result) (start .args .part .now))
+    (same-value (contextOf (at-in-variant .in-variant .result .ride)) _ _ _ (tail (start .args .lead + at-separator .separator .result) (start .args .part .now))
     (ap (λ (s : Shape). s .at) (at-shape-in .shape-in .ensures))) (omega (arith, at-if1 .if1 .left)) _ _
     (at-close-variant .close-variant .ensures _ _ _ _ (at-value .value .ensures)))
 
@@ -273,7 +276,7 @@ variant·variant-returns-6 t c =
     let at-close-variant = c .before .before in
     let at-value = at-close-variant .before .before .before .before in
     let at-shape-in = at-value .before .before .before in
-    let at-if5 = at-shape-in .before .before .before in
+    let at-if5 = at-shape-in .before .before in
     let at-in-variant = at-if5 .before in
     let at-if4 = at-in-variant .before in
     let at-shapes-of = at-if4 .before .before in

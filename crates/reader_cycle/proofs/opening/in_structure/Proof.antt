@@ -1,22 +1,29 @@
 -- `reader_cycle::opening::in_structure` meets its contract. Assumes nothing.
-use Rattle.reader_cycle.proofs.Deepening.{opens-by}
+use Rattle.reader_cycle.proofs.Rides.{shallow, structure-over, structure-full, structure-more, fits-more}
+use borrow.Author.Tests.{leb-true, leb-false}
+use mathlib.Core.Path.{sym, _∙_}
+use native.Mathlib.Omega.{arith}
 use borrow.Author.Needs.{needs}
 use Rattle.reader_cycle.proofs.opening.in_structure.Statement.{statement}
 use Rattle.reader_cycle.proofs.opening.in_structure.Tie as tie
 use Rattle.reader_cycle.proofs.opening.in_structure.Reads as reads
 use Rattle.reader_cycle.proofs.opening.in_structure.Lts as lts
-use Rattle.container_depths.proofs.ContainerDepths.inc_structure.Reads as inc-structure-reads
-use Rattle.reader_cycle.proofs.opening.Inner.of.Reads as of-reads
-
-inc-structure-requires : tie.Need-inc-structure-requires
-inc-structure-requires c κs = search needs
-
-of-requires : tie.Need-of-requires
-of-requires c κs = search needs
+use Rattle.reader_cycle.proofs.opening.is_full.Reads as is-full-reads
 
 returns : tie.Need-returns
-returns c =
-    opens-by _ _ _ _ (c .of .ensures) (c .before .inc-structure .ensures)
+returns c = structure-over _ (shallow _ (c .before .pre)) (c .if1 .taken)
+
+is-full-requires : tie.Need-is-full-requires
+is-full-requires c κs = search needs
+
+returns-2 : tie.Need-returns-2
+returns-2 c = structure-full _ (shallow _ (c .before .before .before .pre)) (c .before .before .if1 .left) (leb-true 64 _ (sym (c .before .is-full .ensures) ∙ c .if2 .taken))
+
+add-t2 : tie.Need-add-t2
+add-t2 c = omega (arith, fits-more _ 4294967296 (omega arith) (omega arith) (shallow _ (c .before .before .before .pre)))
+
+returns-3 : tie.Need-returns-3
+returns-3 c = structure-more _ (shallow _ (c .before .before .before .pre)) (c .before .before .if1 .left) (leb-false 64 _ (sym (c .before .is-full .ensures) ∙ c .if2 .left))
 
 pub in-structure-spec : {M : Type 1} → statement M
-in-structure-spec = tie.close (tie.spec inc-structure-requires of-requires returns)
+in-structure-spec = tie.close (tie.spec returns is-full-requires returns-2 add-t2 returns-3)

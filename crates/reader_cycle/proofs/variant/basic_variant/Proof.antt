@@ -1,6 +1,10 @@
 -- `reader_cycle::variant::basic_variant` meets its contract. Assumes nothing.
 use Rattle.reader_cycle.proofs.Variants.{basic-deep, basic-closed, basic-type, basic-aligned}
 use Rattle.reader_cycle.proofs.Deepening.{told, inside-deeper, few-variants}
+use Rattle.reader_cycle.proofs.Rides.{inside-as, key-as}
+use Prim.Native.Nat.{_-_}
+use Rattle.container_depths.specs.Opening.{depthsOf}
+use Rattle.reader_cycle.specs.Rides.{contextOf}
 use native.Mathlib.Omega.{arith}
 use borrow.Author.Needs.{needs}
 use Rattle.reader_cycle.proofs.variant.basic_variant.Statement.{statement}
@@ -26,7 +30,12 @@ emit-requires-2 : tie.Need-emit-requires-2
 emit-requires-2 c κs = search needs
 
 in-variant-requires : tie.Need-in-variant-requires
-in-variant-requires c κs = search needs
+in-variant-requires c κs =
+    let start = c .before .before .before .before .before .before .before .before .before .before in
+    start .pre .0 .shallow
+
+context-of-requires : tie.Need-context-of-requires
+context-of-requires c κs = search needs
 
 refused-requires : tie.Need-refused-requires
 refused-requires c κs = search needs
@@ -48,9 +57,10 @@ sub-child-key c = search needs
 
 child-key-requires : tie.Need-child-key-requires
 child-key-requires c κs =
-    let at-in-variant = c .before .before in
+    let at-if1 = c .before .before in
+    let at-in-variant = at-if1 .before in
     let start = at-in-variant .before .before .before .before .before .before .before .before .before .before .before in (
-      inside-deeper (at-in-variant .in-variant .ensures .deeper (c .before .if1 .left)) (start .pre .0),
+      inside-as (c .before .context-of .ensures) (inside-deeper (at-in-variant .in-variant .ensures .deeper (at-if1 .if1 .left)) (start .pre .0)),
       omega
           (arith, start .pre .1 .there, start .pre .1 .inside),
       basic-aligned (basic-type _ _ (start .pre .1 .one) (start .pre .1 .basic)),
@@ -58,7 +68,7 @@ child-key-requires c κs =
 
 close-variant-requires : tie.Need-close-variant-requires
 close-variant-requires c κs =
-    let start = c .before .before .before .before .before .before .before .before .before .before .before .before .before .before .before .before .before in
+    let start = c .before .before .before .before .before .before .before .before .before .before .before .before .before .before .before .before .before .before in
     (start .pre .0 .in-frame, omega (arith, start .pre .1 .there, start .pre .1 .inside))
 
 same-length-2 : tie.Need-same-length-2
@@ -68,14 +78,14 @@ returns-2 : tie.Need-returns-2
 returns-2 c =
     let at-close-variant = c .before .before in
     let at-child-key = at-close-variant .before .before .before .before in
-    let at-if1 = at-child-key .before .before in
+    let at-if1 = at-child-key .before .before .before in
     let at-in-variant = at-if1 .before in
     let at-emit2 = at-in-variant .before .before .before in
     let at-emit = at-emit2 .before .before .before .before in
     let start = at-emit .before .before .before .before in
     basic-closed _ _ _ _ _ _ _ _ (start .pre .1) _ _ (at-emit .emit .ensures .0) (at-emit .emit .ensures .1) _ _ (at-emit2 .emit2 .ensures .0)
     (at-emit2 .emit2 .ensures .1) (at-in-variant .in-variant .ensures .deeper (at-if1 .if1 .left)) (few-variants (start .pre .0)) _ _
-    (at-close-variant .close-variant .ensures _ _ _ _ (at-child-key .child-key .ensures _))
+    (at-close-variant .close-variant .ensures _ _ _ _ (key-as (at-child-key .before .before .context-of .ensures) (start .args .kind) (start .args .place) (start .args .lead) (start .args .from - 1) (start .args .part .now) (at-child-key .child-key .ensures) (depthsOf (contextOf (at-in-variant .in-variant .result .ride) .depths))))
 
 pub basic-variant-spec : {M : Type 1} → statement M
 basic-variant-spec =
@@ -89,6 +99,7 @@ basic-variant-spec =
     refused-requires
     same-length
     returns
+    context-of-requires
     sub-child-key
     child-key-requires
     close-variant-requires

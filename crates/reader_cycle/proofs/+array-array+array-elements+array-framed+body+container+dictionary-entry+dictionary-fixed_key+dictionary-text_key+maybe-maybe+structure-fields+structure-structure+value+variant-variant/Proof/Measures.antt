@@ -1,9 +1,9 @@
 -- What falls, for each member; what each is given at a measure t, and what a call of it asks below t.
-use Prim.Native.Nat.{_*_, _+_, _<_, ℕ}
-use Rattle.container_depths.proofs.Levels.{level}
+use Prim.Native.Nat.{_*_, _+_, ℕ}
+use Rattle.container_depths.proofs.Levels.{asked, given, level}
 use Rattle.reader_cycle.specs.Rides.{contextOf}
 use borrow.Fn.Kinds.{In}
-use borrow.Fn.PlainCycle.{Measures, and, falls, is}
+use borrow.Fn.PlainCycle.{Measures}
 use Rattle.reader_cycle.proofs as of
 use of.array.array.Kinds as array·array-kinds
 use of.array.array.Reads as array·array
@@ -85,160 +85,79 @@ abbrev pub μ-variant·variant : Measures 2 variant·variant-kinds.ps ℕ
     level (contextOf (a .1 .1 .1 .0) .depths) * 16 + 2
 
 abbrev pub array·array-at : ℕ → In 4 array·array-kinds.ps
-array·array-at t =
-    and 4 array·array-kinds.ps (is 4 array·array-kinds.ps μ-array·array t) array·array.Pre
+array·array-at = given 4 array·array-kinds.ps μ-array·array array·array.Pre
 
 abbrev pub array·array-below : ℕ → In 4 array·array-kinds.ps
-array·array-below t =
-    and 4 array·array-kinds.ps (falls 4 array·array-kinds.ps _<_ μ-array·array t) array·array.Pre
+array·array-below = asked 4 array·array-kinds.ps μ-array·array array·array.Pre
 
 abbrev pub array·elements-at : ℕ → In 4 array·elements-kinds.ps
-array·elements-at t =
-    and
-    4
-    array·elements-kinds.ps
-    (is 4 array·elements-kinds.ps μ-array·elements t)
-    array·elements.Pre
+array·elements-at = given 4 array·elements-kinds.ps μ-array·elements array·elements.Pre
 
 abbrev pub array·elements-below : ℕ → In 4 array·elements-kinds.ps
-array·elements-below t =
-    and
-    4
-    array·elements-kinds.ps
-    (falls 4 array·elements-kinds.ps _<_ μ-array·elements t)
-    array·elements.Pre
+array·elements-below = asked 4 array·elements-kinds.ps μ-array·elements array·elements.Pre
 
 abbrev pub array·framed-at : ℕ → In 4 array·framed-kinds.ps
-array·framed-at t =
-    and 4 array·framed-kinds.ps (is 4 array·framed-kinds.ps μ-array·framed t) array·framed.Pre
+array·framed-at = given 4 array·framed-kinds.ps μ-array·framed array·framed.Pre
 
 abbrev pub array·framed-below : ℕ → In 4 array·framed-kinds.ps
-array·framed-below t =
-    and
-    4
-    array·framed-kinds.ps
-    (falls 4 array·framed-kinds.ps _<_ μ-array·framed t)
-    array·framed.Pre
+array·framed-below = asked 4 array·framed-kinds.ps μ-array·framed array·framed.Pre
 
 abbrev pub body-at : ℕ → In 4 body-kinds.ps
-body-at t = and 4 body-kinds.ps (is 4 body-kinds.ps μ-body t) body.Pre
+body-at = given 4 body-kinds.ps μ-body body.Pre
 
 abbrev pub body-below : ℕ → In 4 body-kinds.ps
-body-below t = and 4 body-kinds.ps (falls 4 body-kinds.ps _<_ μ-body t) body.Pre
+body-below = asked 4 body-kinds.ps μ-body body.Pre
 
 abbrev pub container-at : ℕ → In 4 container-kinds.ps
-container-at t = and 4 container-kinds.ps (is 4 container-kinds.ps μ-container t) container.Pre
+container-at = given 4 container-kinds.ps μ-container container.Pre
 
 abbrev pub container-below : ℕ → In 4 container-kinds.ps
-container-below t =
-    and 4 container-kinds.ps (falls 4 container-kinds.ps _<_ μ-container t) container.Pre
+container-below = asked 4 container-kinds.ps μ-container container.Pre
 
 abbrev pub dictionary·entry-at : ℕ → In 4 dictionary·entry-kinds.ps
-dictionary·entry-at t =
-    and
-    4
-    dictionary·entry-kinds.ps
-    (is 4 dictionary·entry-kinds.ps μ-dictionary·entry t)
-    dictionary·entry.Pre
+dictionary·entry-at = given 4 dictionary·entry-kinds.ps μ-dictionary·entry dictionary·entry.Pre
 
 abbrev pub dictionary·entry-below : ℕ → In 4 dictionary·entry-kinds.ps
-dictionary·entry-below t =
-    and
-    4
-    dictionary·entry-kinds.ps
-    (falls 4 dictionary·entry-kinds.ps _<_ μ-dictionary·entry t)
-    dictionary·entry.Pre
+dictionary·entry-below = asked 4 dictionary·entry-kinds.ps μ-dictionary·entry dictionary·entry.Pre
 
 abbrev pub dictionary·fixed-key-at : ℕ → In 4 dictionary·fixed-key-kinds.ps
-dictionary·fixed-key-at t =
-    and
-    4
-    dictionary·fixed-key-kinds.ps
-    (is 4 dictionary·fixed-key-kinds.ps μ-dictionary·fixed-key t)
-    dictionary·fixed-key.Pre
+dictionary·fixed-key-at = given 4 dictionary·fixed-key-kinds.ps μ-dictionary·fixed-key dictionary·fixed-key.Pre
 
 abbrev pub dictionary·fixed-key-below : ℕ → In 4 dictionary·fixed-key-kinds.ps
-dictionary·fixed-key-below t =
-    and
-    4
-    dictionary·fixed-key-kinds.ps
-    (falls 4 dictionary·fixed-key-kinds.ps _<_ μ-dictionary·fixed-key t)
-    dictionary·fixed-key.Pre
+dictionary·fixed-key-below = asked 4 dictionary·fixed-key-kinds.ps μ-dictionary·fixed-key dictionary·fixed-key.Pre
 
 abbrev pub dictionary·text-key-at : ℕ → In 4 dictionary·text-key-kinds.ps
-dictionary·text-key-at t =
-    and
-    4
-    dictionary·text-key-kinds.ps
-    (is 4 dictionary·text-key-kinds.ps μ-dictionary·text-key t)
-    dictionary·text-key.Pre
+dictionary·text-key-at = given 4 dictionary·text-key-kinds.ps μ-dictionary·text-key dictionary·text-key.Pre
 
 abbrev pub dictionary·text-key-below : ℕ → In 4 dictionary·text-key-kinds.ps
-dictionary·text-key-below t =
-    and
-    4
-    dictionary·text-key-kinds.ps
-    (falls 4 dictionary·text-key-kinds.ps _<_ μ-dictionary·text-key t)
-    dictionary·text-key.Pre
+dictionary·text-key-below = asked 4 dictionary·text-key-kinds.ps μ-dictionary·text-key dictionary·text-key.Pre
 
 abbrev pub maybe·maybe-at : ℕ → In 4 maybe·maybe-kinds.ps
-maybe·maybe-at t =
-    and 4 maybe·maybe-kinds.ps (is 4 maybe·maybe-kinds.ps μ-maybe·maybe t) maybe·maybe.Pre
+maybe·maybe-at = given 4 maybe·maybe-kinds.ps μ-maybe·maybe maybe·maybe.Pre
 
 abbrev pub maybe·maybe-below : ℕ → In 4 maybe·maybe-kinds.ps
-maybe·maybe-below t =
-    and 4 maybe·maybe-kinds.ps (falls 4 maybe·maybe-kinds.ps _<_ μ-maybe·maybe t) maybe·maybe.Pre
+maybe·maybe-below = asked 4 maybe·maybe-kinds.ps μ-maybe·maybe maybe·maybe.Pre
 
 abbrev pub structure·fields-at : ℕ → In 4 structure·fields-kinds.ps
-structure·fields-at t =
-    and
-    4
-    structure·fields-kinds.ps
-    (is 4 structure·fields-kinds.ps μ-structure·fields t)
-    structure·fields.Pre
+structure·fields-at = given 4 structure·fields-kinds.ps μ-structure·fields structure·fields.Pre
 
 abbrev pub structure·fields-below : ℕ → In 4 structure·fields-kinds.ps
-structure·fields-below t =
-    and
-    4
-    structure·fields-kinds.ps
-    (falls 4 structure·fields-kinds.ps _<_ μ-structure·fields t)
-    structure·fields.Pre
+structure·fields-below = asked 4 structure·fields-kinds.ps μ-structure·fields structure·fields.Pre
 
 abbrev pub structure·structure-at : ℕ → In 4 structure·structure-kinds.ps
-structure·structure-at t =
-    and
-    4
-    structure·structure-kinds.ps
-    (is 4 structure·structure-kinds.ps μ-structure·structure t)
-    structure·structure.Pre
+structure·structure-at = given 4 structure·structure-kinds.ps μ-structure·structure structure·structure.Pre
 
 abbrev pub structure·structure-below : ℕ → In 4 structure·structure-kinds.ps
-structure·structure-below t =
-    and
-    4
-    structure·structure-kinds.ps
-    (falls 4 structure·structure-kinds.ps _<_ μ-structure·structure t)
-    structure·structure.Pre
+structure·structure-below = asked 4 structure·structure-kinds.ps μ-structure·structure structure·structure.Pre
 
 abbrev pub value-at : ℕ → In 4 value-kinds.ps
-value-at t = and 4 value-kinds.ps (is 4 value-kinds.ps μ-value t) value.Pre
+value-at = given 4 value-kinds.ps μ-value value.Pre
 
 abbrev pub value-below : ℕ → In 4 value-kinds.ps
-value-below t = and 4 value-kinds.ps (falls 4 value-kinds.ps _<_ μ-value t) value.Pre
+value-below = asked 4 value-kinds.ps μ-value value.Pre
 
 abbrev pub variant·variant-at : ℕ → In 2 variant·variant-kinds.ps
-variant·variant-at t =
-    and
-    2
-    variant·variant-kinds.ps
-    (is 2 variant·variant-kinds.ps μ-variant·variant t)
-    variant·variant.Pre
+variant·variant-at = given 2 variant·variant-kinds.ps μ-variant·variant variant·variant.Pre
 
 abbrev pub variant·variant-below : ℕ → In 2 variant·variant-kinds.ps
-variant·variant-below t =
-    and
-    2
-    variant·variant-kinds.ps
-    (falls 2 variant·variant-kinds.ps _<_ μ-variant·variant t)
-    variant·variant.Pre
+variant·variant-below = asked 2 variant·variant-kinds.ps μ-variant·variant variant·variant.Pre

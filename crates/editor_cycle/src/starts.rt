@@ -2,6 +2,7 @@
 use editor_basic::elements::Elements;
 use editor_basic::fields::Row;
 use framing_offset_size::FramingOffsetSize;
+use framing_offsets::table::last_in;
 use signature::Letter;
 use strict_basic::basic::extent_of;
 use strict_basic::ends::aligned;
@@ -47,7 +48,7 @@ pub(crate) fn elements_of(part: &[u8], alignment: usize) -> Elements
 {
     let len = part.len();
     let size = FramingOffsetSize::for_encoded_container(len);
-    let last = size.read_last_offset_from_buffer(part);
+    let last = last_in(part, size);
     let from = last.value;
     let count = size.count_in(len - from);
     elements_as(alignment, size, count, from)

@@ -9,13 +9,14 @@ use native.Mathlib.Nat.{suc-mul, div-mul-le-self}
 use lib.Dec.{leb, eqb}
 use lib.ListN.{length, take, drop, length-take, length-drop}
 use borrow.Author.Tests.{le-leb, eq-eqb, ne-eqb}
+use Rattle.meaning.specs.Choice.{pick}
 use Rattle.meaning.specs.Padding.{padding}
 use Rattle.meaning.specs.Depths.{Depths}
 use Rattle.meaning_writing.specs.Shapes.{part, fixedEnd}
 use Rattle.meaning_writing.specs.Strict.{Test, allZero, childWritten, elementEnd, elementsWritten, arrayWritten}
 use Rattle.meaning.proofs.PaddingLaws.{by1, padding-none}
 use Rattle.meaning_writing.proofs.Parts.{part-none, length-part}
-use Rattle.strict_basic.specs.Ends.{extent, textWritten, textTest, mayOpen, readingOf, readingTest, endOf, StartAt, start}
+use Rattle.strict_basic.specs.Ends.{extent, textWritten, textTest, mayOpen, bytesHeld, readingOf, readingTest, endOf, StartAt, start}
 use Rattle.strict_basic.specs.Items.{Known, Alike}
 use Rattle.strict_basic.specs.declared.ends.Extent.{Extent}
 use Rattle.strict_basic.specs.declared.ends.Start.{Start}
@@ -129,6 +130,23 @@ module _ (l : List ℕ) (w s m j : ℕ) where
     texts-end h d = elements-end false textTest d l w s m j (q .left d) h
 
 -- ---- readings: by the number of their bytes
+
+every : (b : Bool) → true ≡ pick b true true
+every true = refl
+every false = refl
+
+itself : (b : Bool) → b ≡ pick b true false
+itself true = refl
+itself false = refl
+
+module _ (w n : ℕ) {h : ℕ} where
+  pub reading-held : (room : Bool) → h ≡ bytesHeld room w → n ≡ h → true ≡ readingOf room w n
+  reading-held true p q = rw (eq-eqb n w (q ∙ p)) (every (eqb n 0))
+  reading-held false p q = rw (eq-eqb n 0 (q ∙ p))
+
+  pub reading-left : (room : Bool) → h ≡ bytesHeld room w → (n ≡ h → ⊥) → eqb n 0 ≡ readingOf room w n
+  reading-left true p f = rw (ne-eqb n w (λ z. f (z ∙ sym p))) (itself (eqb n 0))
+  reading-left false p f = itself (eqb n 0)
 
 module _ (l : List ℕ) (s k e n : ℕ) (r : Start) (w : StartAt l s k e n r) where
   pub reading-absent : r .there ≡ false → (room : Bool) (d : Depths) → room ≡ mayOpen d → false ≡ childWritten (readingTest n) d l s k e

@@ -8,7 +8,7 @@ use Prim.Native.Nat.{ℕ, zero, suc, _+_, _-_, _*_, _/_, _≤_, _<_}
 use native.Mathlib.Omega.{arith}
 use native.Mathlib.Nat.{div-mul-le-self, div-le-self}
 use lib.Dec.{leb, eqb}
-use lib.ListN.{length, take, drop, getD}
+use lib.ListN.{length, take, drop, getD, length-take, length-drop}
 use lib.Seq.{drop-cons}
 use borrow.Author.Tests.{le-leb, lt-leb, eq-eqb, ne-eqb, leb-true, leb-false}
 use Rattle.meaning.specs.Choice.{pick}
@@ -23,12 +23,12 @@ use Rattle.meaning_writing.specs.Strict.{Test, testShapes, allZero, basicWritte
 use Rattle.meaning.proofs.PaddingLaws.{by1, by2, by4, by8, by-alignment}
 use Rattle.meaning.proofs.OffsetLaws.{encodedWidth-1, encodedWidth-2, encodedWidth-4}
 use Rattle.meaning.proofs.OffsetSteps.{own-width}
-use Rattle.meaning.proofs.NumberSteps.{spelled-byte}
 use Rattle.utils.specs.Checks.{passed, failed, paddingFor}
 use Rattle.utils.specs.declared.Checked.{Checked}
-use Rattle.byte_order.specs.Standing.{numberAt, numberOf}
-use Rattle.byte_order.proofs.Standings.{numberAt-is}
 use Rattle.framing_offset_size.specs.Widths.{lastOffsetIn}
+use Rattle.framing_offsets.specs.Tables.{offsetIn}
+use Rattle.framing_offsets.specs.Held.{heldTable}
+use Rattle.framing_offsets.proofs.HeldLaws.{only-held}
 use Rattle.signature.specs.declared.Letter.{Letter}
 use Rattle.signature.specs.declared.Letter.the-variants.{End, Bad, Boolean, Number, Text, Variant, Maybe, Array, OpenStructure, CloseStructure, OpenEntry, CloseEntry}
 use Rattle.signature.proofs.Letter.{the-type}
@@ -162,18 +162,21 @@ extent-bool CloseEntry h = refl
 
 -- ---- offsets
 
-pub offset-is : (l : List ℕ) (place w : ℕ) (r : Checked) → place + w ≤ length l → Aligns w → r ≡ numberOf w false l place → r .value ≡ value (part place (place + w) l)
-unfolding numberOf part
-offset-is l place w r h a q =
-    let u : place + w - place ≡ w = omega arith in
-    let e : numberOf w false l place ≡ numberAt w false l place = ap (λ (b : Bool). pick b (numberAt w false l place) (failed noValue)) (a .listed) in
-    ap (λ (x : Checked). x .value) (q ∙ e ∙ numberAt-is w false l place) ∙ rw (le-leb (place + w) (length l) h, u)
+-- a width is known by its bounds
+pub width-is : {w : ℕ} → Aligns w → (w < 2 → 1 ≡ w) × (2 ≤ w → w < 4 → 2 ≡ w) × (4 ≤ w → w < 8 → 4 ≡ w) × (8 ≤ w → 8 ≡ w)
+width-is al = (
+  by-alignment (λ y. y < 2 → 1 ≡ y) (λ a. refl) (λ a. omega arith) (λ a. omega arith) (λ a. omega arith) al,
+  by-alignment (λ y. 2 ≤ y → y < 4 → 2 ≡ y) (λ a b. omega arith) (λ a b. refl) (λ a b. omega arith) (λ a b. omega arith) al,
+  by-alignment (λ y. 4 ≤ y → y < 8 → 4 ≡ y) (λ a b. omega arith) (λ a b. omega arith) (λ a b. refl) (λ a b. omega arith) al,
+  by-alignment (λ y. 8 ≤ y → 8 ≡ y) (λ a. omega arith) (λ a. omega arith) (λ a. omega arith) (λ a. refl) al,
+)
 
-pub offset-one : (l : List ℕ) (place w r : ℕ) → place + w ≤ length l → w ≡ 1 → r ≡ getD l place 0 → r ≡ value (part place (place + w) l)
+pub offset-is : (l : List ℕ) (place s e w : ℕ) {r : Checked} → place + w ≤ length l → 0 < s → s ≡ w → e ≡ place + w
+    → r ≡ offsetIn (heldTable s (take (e - place) (drop place l))) 0 (take (e - place) (drop place l)) → r .value ≡ value (part place (place + w) l)
 unfolding part
-offset-one l place w r h e q =
-    let u : place + w - place ≡ 1 = omega arith in
-    q ∙ sym (spelled-byte false place l (omega arith)) ∙ rw u
+offset-is l place s e w h p hs he q =
+    let n : length (take (e - place) (drop place l)) ≡ s = simp (length-take, length-drop) (omega arith) in
+    only-held s (take (e - place) (drop place l)) p n q ∙ ap (λ (k : ℕ). value (take (k - place) (drop place l))) he
 
 pub element-fixed : (fx : Bool) (l : List ℕ) (w j x r : ℕ) → fx ≡ true → r ≡ x → r ≡ elementEnd fx l w j x
 unfolding elementEnd

@@ -15,7 +15,8 @@ use Rattle.meaning.specs.Padding.{padding, Aligns}
 use Rattle.meaning.specs.Depths as Depth
 use Rattle.meaning.specs.Depths.{Depths, depthRefusal, opened}
 use Rattle.meaning.specs.Offsets.{encodedWidth, writtenWidth}
-use Rattle.meaning.specs.Types.{Number as NumberType, byte, int16, uint16, int32, uint32, int64, uint64, double, numberWidth, bool, number, text, Tree, Fields, basic, variant, maybe, array, dictionary, structure, last, next, alignment, largestAlignment, fixed, allFixed, fixedSize, fieldsEnd, rounded}
+use Rattle.meaning.specs.Types.{Number as NumberType, byte, int16, uint16, int32, uint32, int64, uint64, double, numberWidth, bool, number, text, Tree, Fields, basic, variant, maybe, array, dictionary, structure, last, next}
+use Rattle.meaning.specs.Types.{alignment, largestAlignment, fixed, allFixed, fixedSize, fieldsEnd, rounded}
 use Rattle.meaning.specs.TypeText.{firstType, typeText}
 use Rattle.meaning.specs.Written.{deeper}
 use Rattle.meaning_writing.specs.Shapes.{part, oneMore, offsetCount, lastEnd, fieldEnd, offsetsLeft, fixedEnd}

@@ -91,6 +91,10 @@ isBasic CloseEntry = false
 abbrev pub mayOpen : Depths → Bool
 mayOpen d = eqb (depthRefusal (opened Depth.maybe d)) 0
 
+-- the bytes of a reading that is present; where no more maybe may be open there is none
+abbrev pub bytesHeld : Bool → ℕ → ℕ
+bytesHeld room w = pick room w 0
+
 abbrev pub readingOf : Bool → ℕ → ℕ → Bool
 readingOf room w n = pick (eqb n 0) true (room && eqb n w)
 

@@ -7,14 +7,14 @@ use signature::Letter;
 use signature::letter_at;
 use texts::text_refusal;
 ghost use mathlib.Core.Path.{_≡_};
-ghost use mathlib.Core.Bool.{true, false};
+ghost use mathlib.Core.Bool.{Bool, true, false};
 ghost use Prim.Native.Nat.{ℕ, _+_, _*_, _≤_};
 ghost use lib.ListN.{length};
 ghost use Rattle.meaning.specs.Depths.{Depths};
 ghost use Rattle.meaning.specs.Limits.{largestFrame};
 ghost use Rattle.meaning.specs.Padding.{Aligns};
 ghost use Rattle.meaning_writing.specs.Strict.{childWritten, elementsWritten};
-ghost use Rattle.strict_basic.specs.Ends.{boolWritten, textWritten, letterWritten, extent as extentAs, letterExtent, Laid, letterTest, textTest, isBasic, mayOpen, readingOf, readingTest, LoneBasic, loneVariant};
+ghost use Rattle.strict_basic.specs.Ends.{boolWritten, textWritten, letterWritten, extent as extentAs, letterExtent, Laid, letterTest, textTest, isBasic, mayOpen, bytesHeld, readingOf, readingTest, LoneBasic, loneVariant};
 
 fn boolean_written(part: &[u8]) -> bool
     ensures { λ r. ⌜ r ≡ boolWritten (now (part .entry)) ⌝ }
@@ -127,17 +127,24 @@ pub fn texts_written(part: &[u8], rows: Rows) -> bool
     place == limit
 }
 
-// A reading of so many bytes: none, or those of its number where one more maybe may be open.
-fn reading_written(len: usize, width: usize, room: bool) -> bool
-    ensures { λ r. ⌜ r ≡ readingOf room width len ⌝ }
+// How many bytes a reading has that is present; none where no more maybe may be open.
+fn bytes_held(width: usize, room: bool) -> usize
+    ensures { λ r. ⌜ r ≡ bytesHeld room width ⌝ }
 {
-    if len == 0 {
+    if room {
+        return width;
+    }
+    0
+}
+
+// A reading of so many bytes: none, or those of one that is present.
+fn reading_written(len: usize, held: usize) -> bool
+    ensures { λ r. ⌜ ((room : Bool) (width : ℕ) → held ≡ bytesHeld room width → r ≡ readingOf room width len) ⌝ }
+{
+    if len == held {
         return true;
     }
-    if room {
-        return len == width;
-    }
-    false
+    len == 0
 }
 
 // The elements of an array of readings, whose numbers have a width.
@@ -148,6 +155,7 @@ pub fn readings_written(part: &[u8], rows: Rows, number: usize, room: bool) -> b
     let limit = rows.body;
     let width = rows.width;
     let many = rows.count;
+    let held = bytes_held(number, room);
     let mut i = 0;
     let mut from = rows.from;
     let mut place = 0;
@@ -158,7 +166,7 @@ pub fn readings_written(part: &[u8], rows: Rows, number: usize, room: bool) -> b
         if !there {
             return false;
         }
-        if !reading_written(e - start.at, number, room) {
+        if !reading_written(e - start.at, held) {
             return false;
         }
         place = e;

@@ -1,6 +1,7 @@
 // Where the children of a container begin and end, what stands between them, and the offsets of a container.
-use byte_order::number_at;
 use framing_offset_size::FramingOffsetSize;
+use framing_offsets::table::last_in;
+use framing_offsets::table::next_in;
 use utils::padding_for_n_bytes;
 ghost use mathlib.Core.Path.{_≡_};
 ghost use mathlib.Core.Bool.{true, false};
@@ -13,6 +14,7 @@ ghost use Rattle.meaning.specs.Padding.{padding, Aligns};
 ghost use Rattle.meaning.specs.Offsets.{encodedWidth, writtenWidth};
 ghost use Rattle.meaning_writing.specs.Shapes.{part as partOf, oneMore, lastEnd, fieldEnd, offsetsLeft};
 ghost use Rattle.meaning_writing.specs.Strict.{allZero, elementEnd, fieldsFinished};
+ghost use Rattle.framing_offset_size.specs.Widths.{widthOf};
 ghost use Rattle.strict_basic.specs.Ends.{start as startAs, rows as rowsAs, Laid, endOf, StartAt, RowsOf, TableOf};
 
 // How a child lies among others: its alignment, whether it is fixed in size, and then its size.
@@ -102,21 +104,31 @@ pub fn fixed_end(x: Extent, place: usize) -> usize
     aligned(place, x.alignment) + x.size
 }
 
-fn wide(byte: u8) -> usize
-    ensures { λ r. ⌜ r ≡ byte ⌝ }
+// The width that is so many bytes.
+fn size_of(width: usize) -> FramingOffsetSize
+    requires { ⌜ Aligns width ⌝ }
+    ensures { λ r. ⌜ widthOf r ≡ width ⌝ }
 {
-    byte as usize
+    if width < 2 {
+        return FramingOffsetSize::U8;
+    }
+    if width < 4 {
+        return FramingOffsetSize::U16;
+    }
+    if width < 8 {
+        return FramingOffsetSize::U32;
+    }
+    FramingOffsetSize::U64
 }
 
-// The offset at a place; in small containers it is one byte.
+// The offset at a place: its own bytes are a table of one.
 pub fn offset_at(part: &[u8], place: usize, width: usize) -> usize
     requires { ⌜ (place + width ≤ length (now part)) × Aligns width ⌝ }
     ensures { λ r. ⌜ r ≡ value (partOf place (place + width) (now (part .entry))) ⌝ }
 {
-    if width == 1 {
-        return wide(part[place]);
-    }
-    let found = number_at(part, place, width, false);
+    let size = size_of(width);
+    let behind = place + size.width();
+    let found = next_in(&part[place..behind], size, 0);
     found.value
 }
 
@@ -219,7 +231,7 @@ fn table_of(part: &[u8]) -> Rows
     let len = part.len();
     let size = FramingOffsetSize::for_encoded_container(len);
     let width = size.width();
-    let last = size.read_last_offset_from_buffer(part);
+    let last = last_in(part, size);
     let body = last.value;
     if len < body {
         return rows_if(false, body, 0, width, body);

@@ -36,9 +36,11 @@ offset-at-requires c κs =
 -- src/elements.rt:49:1
 returns : tie.Need-returns
 returns c =
-    let at-due = c .before .before in
     let start = c .before .before .before .before in
-    first-of (start .args .elements) _ _ (start .pre .0) (start .pre .1) (ap (λ (n : ℕ). start .args .elements .place + n) (at-due .due .ensures .0)) (c .offset-at .ensures ∙ ap (λ (w : ℕ). value (part (start .args .elements .from) (start .args .elements .from + w) (start .args .part .now))) (c .before .width .ensures))
+    let e = start .args .elements in
+    let begins = ap (λ (n : ℕ). e .place + n) (c .before .before .due .ensures .0) in
+    let ends = c .offset-at .ensures ∙ ap (λ (w : ℕ). value (part (e .from) (e .from + w) (start .args .part .now))) (c .before .width .ensures) in
+    first-of e _ _ (start .pre .0) (start .pre .1) begins ends
 
 pub first-element-spec : {M : Type 1} → statement M
 first-element-spec =

@@ -11,14 +11,14 @@ for-encoded-container-requires : tie.Need-for-encoded-container-requires
 for-encoded-container-requires c κs = search needs
 
 -- src/starts.rt:50:9
-read-last-offset-from-buffer-requires : tie.Need-read-last-offset-from-buffer-requires
-read-last-offset-from-buffer-requires c κs = search needs
+last-in-requires : tie.Need-last-in-requires
+last-in-requires c κs = search needs
 
 -- src/starts.rt:52:31
 sub-count-in : tie.Need-sub-count-in
 sub-count-in c =
     let start = c .before .before .before in
-    omega (arith, (last-offset-is (start .args .part .now) _ _ (c .before .for-encoded-container .ensures) (c .read-last-offset-from-buffer .ensures)), start .pre)
+    omega (arith, (last-offset-is (start .args .part .now) _ _ (c .before .for-encoded-container .ensures) (c .last-in .ensures)), start .pre)
 
 -- src/starts.rt:52:9
 count-in-requires : tie.Need-count-in-requires
@@ -34,14 +34,14 @@ returns c =
     let at-for-encoded-container = c .before .before .before in
     let start = c .before .before .before .before .before in
     all-of _ (start .args .part .now) _ _ _ _ (c .elements-as .ensures) (at-for-encoded-container .for-encoded-container .ensures) (last-offset-is (start .args .part .now) _ _
-    (at-for-encoded-container .for-encoded-container .ensures) (c .before .before .read-last-offset-from-buffer .ensures)) (c .before .count-in .ensures)
+    (at-for-encoded-container .for-encoded-container .ensures) (c .before .before .last-in .ensures)) (c .before .count-in .ensures)
 
 pub elements-of-spec : {M : Type 1} → statement M
 elements-of-spec =
     tie.close
     (tie.spec
     for-encoded-container-requires
-    read-last-offset-from-buffer-requires
+    last-in-requires
     sub-count-in
     count-in-requires
     elements-as-requires

@@ -13,82 +13,99 @@ use Rattle.strict_basic.proofs.basic.readings_written.Lts as lts
 use Rattle.strict_basic.proofs.basic.reading_written.Reads as reading-written-reads
 use Rattle.strict_basic.proofs.ends.offset_at.Reads as offset-at-reads
 use Rattle.strict_basic.proofs.ends.start_of.Reads as start-of-reads
+use Rattle.strict_basic.proofs.basic.bytes_held.Reads as bytes-held-reads
 
 abbrev Inv-loop : tie.InvT-loop
-Inv-loop part number room limit width many i₀ from₀ place₀ i from place =
+Inv-loop part number room limit width many held i₀ from₀ place₀ i from place =
     ReadingsLeft room number part width limit many from₀ i from place
 
 abbrev μ-loop : tie.MeasureT-loop
-μ-loop part number room limit width many i₀ from₀ place₀ i from place =
+μ-loop part number room limit width many held i₀ from₀ place₀ i from place =
     many - i
 
--- src/basic.rt:154:5
+-- src/basic.rt:158:9
+bytes-held-requires : tie.Need-bytes-held-requires Inv-loop μ-loop
+bytes-held-requires c κs = search needs
+
+-- src/basic.rt:162:5
 loop-holds : tie.Need-loop-holds Inv-loop μ-loop
 loop-holds c =
-    readings-begin _ _ _ _ _ _ _ (c .before .pre .2)
+    readings-begin _ _ _ _ _ _ _ (c .before .before .pre .2)
 
--- src/basic.rt:155:13
+-- src/basic.rt:163:13
 offset-at-requires : tie.Need-offset-at-requires Inv-loop μ-loop
 offset-at-requires c κs =
-    (omega (arith, readings-room _ _ _ _ _ _ _ (c .before .loop .inv) (c .loop-test .taken)), c .before .before .before .pre .3)
+    (omega (arith, readings-room _ _ _ _ _ _ _ (c .before .loop .inv) (c .loop-test .taken)), c .before .before .before .before .pre .3)
 
--- src/basic.rt:156:13
+-- src/basic.rt:164:13
 start-of-requires : tie.Need-start-of-requires Inv-loop μ-loop
 start-of-requires c κs =
-    (c .before .before .loop .inv .place, c .before .before .before .before .pre .1, c .before .before .before .before .pre .0, c .before .before .before .before .pre .4)
+    (c .before .before .loop .inv .place, c .before .before .before .before .before .pre .1, c .before .before .before .before .before .pre .0, c .before .before .before .before .before .pre .4)
 
--- src/basic.rt:159:13
+-- src/basic.rt:167:13
 returns : tie.Need-returns Inv-loop μ-loop
 returns c =
     readings-stop _ _ _ _ _ _ _ (c .before .before .before .before .loop .inv) (c .before .before .before .loop-test .taken) _ (element-other _ _ _ _ _ _ refl (c .before .before .offset-at .ensures)) _
     (reading-absent _ _ _ _ _ _ (c .before .start-of .ensures) (denied (c .if1 .taken)) _) refl
 
--- src/basic.rt:161:29
+-- src/basic.rt:169:29
 sub-reading-written : tie.Need-sub-reading-written Inv-loop μ-loop
 sub-reading-written c =
     c .before .before .start-of .ensures .before (granted (c .before .if1 .left))
 
--- src/basic.rt:161:13
+-- src/basic.rt:169:13
 reading-written-requires : tie.Need-reading-written-requires Inv-loop μ-loop
 reading-written-requires c κs =
     search needs
 
--- src/basic.rt:162:13
+-- src/basic.rt:170:13
 returns-2 : tie.Need-returns-2 Inv-loop μ-loop
 returns-2 c =
-    readings-stop _ _ _ _ _ _ _ (c .before .before .before .before .before .before .before .loop .inv) (c .before .before .before .before .before .before .loop-test .taken) _
-    (element-other _ _ _ _ _ _ refl (c .before .before .before .before .before .offset-at .ensures)) _ (reading-there _ _ _ _ _ _ (c .before .before .before .before .start-of .ensures) _ _
-    (granted (c .before .before .before .if1 .left)) (c .before .before .before .before .before .before .before .before .before .pre .1) (c .before .reading-written .ensures))
-    (denied (c .if2 .taken))
+    let start = c .before .before .before .before .before .before .before .before .before .before in
+    let at-bytes-held = c .before .before .before .before .before .before .before .before in
+    let at-loop = c .before .before .before .before .before .before .before in
+    let at-loop-test = c .before .before .before .before .before .before in
+    let at-offset-at = c .before .before .before .before .before in
+    let at-start-of = c .before .before .before .before in
+    let at-if1 = c .before .before .before in
+    let written = c .before .reading-written .ensures (start .args .room) (start .args .number) (at-bytes-held .bytes-held .ensures) in
+    let there = reading-there _ _ _ _ _ _ (at-start-of .start-of .ensures) _ _ (granted (at-if1 .if1 .left)) (start .pre .1) written in
+    readings-stop _ _ _ _ _ _ _ (at-loop .loop .inv) (at-loop-test .loop-test .taken) _ (element-other _ _ _ _ _ _ refl (at-offset-at .offset-at .ensures)) _ there (denied (c .if2 .taken))
 
--- src/basic.rt:165:16
+-- src/basic.rt:173:16
 add-from : tie.Need-add-from Inv-loop μ-loop
 add-from c =
     omega (
       arith,
       readings-room _ _ _ _ _ _ _ (c .before .before .before .before .before .before .before .loop .inv) (c .before .before .before .before .before .before .loop-test .taken),
-      c .before .before .before .before .before .before .before .before .before .pre .0,
+      c .before .before .before .before .before .before .before .before .before .before .pre .0,
     )
 
--- src/basic.rt:166:13
+-- src/basic.rt:174:13
 add-i : tie.Need-add-i Inv-loop μ-loop
 add-i c =
     omega arith
 
--- src/basic.rt:154:5
+-- src/basic.rt:162:5
 loop-less : tie.Need-loop-less Inv-loop μ-loop
 loop-less c =
     omega arith
 
--- src/basic.rt:154:5
+-- src/basic.rt:162:5
 loop-again : tie.Need-loop-again Inv-loop μ-loop
 loop-again c =
-    readings-next _ _ _ _ _ _ _ (c .before .before .before .before .before .before .before .loop .inv) (c .before .before .before .before .before .before .loop-test .taken) _
-    (element-other _ _ _ _ _ _ refl (c .before .before .before .before .before .offset-at .ensures)) _ (reading-there _ _ _ _ _ _ (c .before .before .before .before .start-of .ensures) _ _
-    (granted (c .before .before .before .if1 .left)) (c .before .before .before .before .before .before .before .before .before .pre .1) (c .before .reading-written .ensures))
-    (granted (c .if2 .left)) (c .before .before .before .before .start-of .ensures .within (granted (c .before .before .before .if1 .left)))
+    let start = c .before .before .before .before .before .before .before .before .before .before in
+    let at-bytes-held = c .before .before .before .before .before .before .before .before in
+    let at-loop = c .before .before .before .before .before .before .before in
+    let at-loop-test = c .before .before .before .before .before .before in
+    let at-offset-at = c .before .before .before .before .before in
+    let at-start-of = c .before .before .before .before in
+    let at-if1 = c .before .before .before in
+    let written = c .before .reading-written .ensures (start .args .room) (start .args .number) (at-bytes-held .bytes-held .ensures) in
+    let there = reading-there _ _ _ _ _ _ (at-start-of .start-of .ensures) _ _ (granted (at-if1 .if1 .left)) (start .pre .1) written in
+    readings-next _ _ _ _ _ _ _ (at-loop .loop .inv) (at-loop-test .loop-test .taken) _ (element-other _ _ _ _ _ _ refl (at-offset-at .offset-at .ensures)) _ there (granted (c .if2 .left)) (at-start-of .start-of .ensures .within (granted (at-if1 .if1 .left)))
 
--- src/basic.rt:144:1
+-- src/basic.rt:151:1
 returns-3 : tie.Need-returns-3 Inv-loop μ-loop
 returns-3 c =
     readings-end _ _ _ _ _ _ _ (c .before .loop .inv) (c .loop-test .left)
@@ -99,6 +116,7 @@ readings-written-spec =
     (tie.spec
     Inv-loop
     μ-loop
+    bytes-held-requires
     loop-holds
     offset-at-requires
     start-of-requires

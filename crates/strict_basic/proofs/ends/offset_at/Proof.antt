@@ -1,36 +1,52 @@
--- `offset_at` meets its contract. Assumes nothing.
-use mathlib.Core.Path.{_≡_, refl, sym, ap, subst⁻¹, _∙_}
-use Rattle.strict_basic.proofs.EndLaws.{offset-is, offset-one}
+-- `offset_at` reads the offset at a place, as the one of a table. Assumes nothing.
+use mathlib.Core.Path.{ap, _∙_}
+use Prim.Native.Nat.{ℕ, _+_}
+use Rattle.framing_offset_size.proofs.WidthLaws.{width-positive}
+use Rattle.strict_basic.proofs.EndLaws.{offset-is}
 use borrow.Author.Needs.{needs}
 use Rattle.strict_basic.proofs.ends.offset_at.Statement.{statement}
 use Rattle.strict_basic.proofs.ends.offset_at.Tie as tie
 use Rattle.strict_basic.proofs.ends.offset_at.Reads as reads
 use Rattle.strict_basic.proofs.ends.offset_at.Lts as lts
-use Rattle.byte_order.proofs.number_at.Reads as number-at-reads
-use Rattle.strict_basic.proofs.ends.wide.Reads as wide-reads
+use Rattle.framing_offset_size.proofs.FramingOffsetSize.width.Reads as width-reads
+use Rattle.framing_offsets.proofs.table.next_in.Reads as next-in-reads
+use Rattle.strict_basic.proofs.ends.size_of.Reads as size-of-reads
 
--- src/ends.rt:117:21
-shared-slice-read-wide : tie.Need-shared-slice-read-wide
-shared-slice-read-wide c = search needs
+size-of-requires : tie.Need-size-of-requires
+size-of-requires c κs = search needs
 
--- src/ends.rt:117:9
-wide-requires : tie.Need-wide-requires
-wide-requires c κs = search needs
+width-requires : tie.Need-width-requires
+width-requires c κs = search needs
 
--- src/ends.rt:117:9
+add-behind : tie.Need-add-behind
+add-behind c = search needs
+
+sub-next-in : tie.Need-sub-next-in
+sub-next-in c = search needs
+
+part-next-in-start : tie.Need-part-next-in-start
+part-next-in-start c = search needs
+
+part-next-in-end : tie.Need-part-next-in-end
+part-next-in-end c = search needs
+
+next-in-requires : tie.Need-next-in-requires
+next-in-requires c κs = search needs
+
 returns : tie.Need-returns
 returns c =
-    offset-one _ _ _ _ (c .before .before .before .before .pre .0) (c .before .before .if1 .taken) (c .wide .ensures)
-
--- src/ends.rt:119:9
-number-at-requires : tie.Need-number-at-requires
-number-at-requires c κs = search needs
-
--- src/ends.rt:112:1
-returns-2 : tie.Need-returns-2
-returns-2 c =
-    offset-is _ _ _ _ (c .before .before .before .pre .0) (c .before .before .before .pre .1) (c .number-at .ensures)
+    let wide = c .before .before .width .ensures ∙ c .before .before .before .size-of .ensures in
+    offset-is _ _ _ _ _ (c .before .before .before .before .before .pre .0) (width-positive (c .before .before .before .size-of .result)) (c .before .before .before .size-of .ensures) (ap (λ (n : ℕ). c .before .before .before .before .before .args .place + n) wide) (c .next-in .ensures)
 
 pub offset-at-spec : {M : Type 1} → statement M
 offset-at-spec =
-    tie.close (tie.spec shared-slice-read-wide wide-requires returns number-at-requires returns-2)
+    tie.close
+    (tie.spec
+    size-of-requires
+    width-requires
+    add-behind
+    sub-next-in
+    part-next-in-start
+    part-next-in-end
+    next-in-requires
+    returns)

@@ -11,7 +11,7 @@ use Rattle.strict_basic.proofs.ends.table_of.Reads as reads
 use Rattle.strict_basic.proofs.ends.table_of.Lts as lts
 use Rattle.framing_offset_size.proofs.FramingOffsetSize.count_in.Reads as count-in-reads
 use Rattle.framing_offset_size.proofs.FramingOffsetSize.for_encoded_container.Reads as for-encoded-container-reads
-use Rattle.framing_offset_size.proofs.FramingOffsetSize.read_last_offset_from_buffer.Reads as read-last-offset-from-buffer-reads
+use Rattle.framing_offsets.proofs.table.last_in.Reads as last-in-reads
 use Rattle.framing_offset_size.proofs.FramingOffsetSize.width.Reads as width-reads
 use Rattle.strict_basic.proofs.ends.rows_if.Reads as rows-if-reads
 use Rattle.strict_basic.proofs.ends.smallest.Reads as smallest-reads
@@ -25,8 +25,8 @@ width-requires : tie.Need-width-requires
 width-requires c κs = search needs
 
 -- src/ends.rt:213:9
-read-last-offset-from-buffer-requires : tie.Need-read-last-offset-from-buffer-requires
-read-last-offset-from-buffer-requires c κs = search needs
+last-in-requires : tie.Need-last-in-requires
+last-in-requires c κs = search needs
 
 -- src/ends.rt:216:9
 rows-if-requires : tie.Need-rows-if-requires
@@ -36,7 +36,7 @@ rows-if-requires c κs = search needs
 returns : tie.Need-returns
 returns c =
     rows-by (c .rows-if .ensures) (table-past _ _ _ (c .before .before .before .width .ensures ∙ c .before .before .before .before .for-encoded-container .ensures)
-    (last-offset-is _ _ _ (c .before .before .before .before .for-encoded-container .ensures) (c .before .before .read-last-offset-from-buffer .ensures)) (c .before .if1 .taken))
+    (last-offset-is _ _ _ (c .before .before .before .before .for-encoded-container .ensures) (c .before .before .last-in .ensures)) (c .before .if1 .taken))
 
 -- src/ends.rt:218:9
 count-in-requires : tie.Need-count-in-requires
@@ -46,16 +46,16 @@ count-in-requires c κs = search needs
 mul-if2 : tie.Need-mul-if2
 mul-if2 c =
     let h = count-small (c .before .before .before .before .before .before .args .part .now) _ _ (c .before .before .before .width .ensures ∙ c .before .before .before .before .for-encoded-container .ensures)
-    (last-offset-is _ _ _ (c .before .before .before .before .for-encoded-container .ensures) (c .before .before .read-last-offset-from-buffer .ensures)) _ (c .count-in .ensures
-    ∙ ap (λ (w : ℕ). (length (c .before .before .before .before .before .before .args .part .now) - c .before .before .read-last-offset-from-buffer .result .value) / w) (sym
+    (last-offset-is _ _ _ (c .before .before .before .before .for-encoded-container .ensures) (c .before .before .last-in .ensures)) _ (c .count-in .ensures
+    ∙ ap (λ (w : ℕ). (length (c .before .before .before .before .before .before .args .part .now) - c .before .before .last-in .result .value) / w) (sym
     (c .before .before .before .width .ensures))) (c .before .if1 .left) in omega (arith, h .0, h .1, c .before .before .before .before .before .before .pre)
 
 -- src/ends.rt:219:8
 add-if2 : tie.Need-add-if2
 add-if2 c =
     let h = count-small (c .before .before .before .before .before .before .args .part .now) _ _ (c .before .before .before .width .ensures ∙ c .before .before .before .before .for-encoded-container .ensures)
-    (last-offset-is _ _ _ (c .before .before .before .before .for-encoded-container .ensures) (c .before .before .read-last-offset-from-buffer .ensures)) _ (c .count-in .ensures
-    ∙ ap (λ (w : ℕ). (length (c .before .before .before .before .before .before .args .part .now) - c .before .before .read-last-offset-from-buffer .result .value) / w) (sym
+    (last-offset-is _ _ _ (c .before .before .before .before .for-encoded-container .ensures) (c .before .before .last-in .ensures)) _ (c .count-in .ensures
+    ∙ ap (λ (w : ℕ). (length (c .before .before .before .before .before .before .args .part .now) - c .before .before .last-in .result .value) / w) (sym
     (c .before .before .before .width .ensures))) (c .before .if1 .left) in omega (arith, h .0, h .1, c .before .before .before .before .before .before .pre)
 
 -- src/ends.rt:220:9
@@ -66,8 +66,8 @@ rows-if-requires-2 c κs = search needs
 returns-2 : tie.Need-returns-2
 returns-2 c =
     rows-by (c .rows-if2 .ensures) (table-odd _ _ _ (c .before .before .before .before .before .width .ensures ∙ c .before .before .before .before .before .before .for-encoded-container .ensures)
-    (last-offset-is _ _ _ (c .before .before .before .before .before .before .for-encoded-container .ensures) (c .before .before .before .before .read-last-offset-from-buffer .ensures)) _
-    (c .before .before .count-in .ensures ∙ ap (λ (w : ℕ). (length (c .before .before .before .before .before .before .before .before .args .part .now) - c .before .before .before .before .read-last-offset-from-buffer .result .value) / w)
+    (last-offset-is _ _ _ (c .before .before .before .before .before .before .for-encoded-container .ensures) (c .before .before .before .before .last-in .ensures)) _
+    (c .before .before .count-in .ensures ∙ ap (λ (w : ℕ). (length (c .before .before .before .before .before .before .before .before .args .part .now) - c .before .before .before .before .last-in .result .value) / w)
     (sym (c .before .before .before .before .before .width .ensures))) (c .before .if2 .taken))
 
 -- src/ends.rt:222:9
@@ -86,8 +86,8 @@ rows-if-requires-3 c κs = search needs
 returns-3 : tie.Need-returns-3
 returns-3 c =
     rows-by (c .rows-if3 .ensures) (table-stands _ _ _ (c .before .before .before .before .before .before .width .ensures ∙ c .before .before .before .before .before .before .before .for-encoded-container .ensures)
-    (last-offset-is _ _ _ (c .before .before .before .before .before .before .before .for-encoded-container .ensures) (c .before .before .before .before .before .read-last-offset-from-buffer .ensures)) _
-    (c .before .before .before .count-in .ensures ∙ ap (λ (w : ℕ). (length (c .before .before .before .before .before .before .before .before .before .args .part .now) - c .before .before .before .before .before .read-last-offset-from-buffer .result .value) / w)
+    (last-offset-is _ _ _ (c .before .before .before .before .before .before .before .for-encoded-container .ensures) (c .before .before .before .before .before .last-in .ensures)) _
+    (c .before .before .before .count-in .ensures ∙ ap (λ (w : ℕ). (length (c .before .before .before .before .before .before .before .before .before .args .part .now) - c .before .before .before .before .before .last-in .result .value) / w)
     (sym (c .before .before .before .before .before .before .width .ensures))) _ (c .before .before .if2 .left) (c .before .smallest .ensures))
 
 pub table-of-spec : {M : Type 1} → statement M
@@ -96,7 +96,7 @@ table-of-spec =
     (tie.spec
     for-encoded-container-requires
     width-requires
-    read-last-offset-from-buffer-requires
+    last-in-requires
     rows-if-requires
     returns
     count-in-requires

@@ -12,8 +12,8 @@ use Rattle.meaning.specs.Limits.{largestFrame, mostVariants}
 use Rattle.meaning.specs.Numbers.{bytes}
 use Rattle.meaning.specs.Texts.{textRefusal}
 use Rattle.meaning.specs.Depths.{Depths, noneOpen}
-use Rattle.meaning.specs.Types.{Tree, Text, double, number, text, basic, variant}
-use Rattle.meaning.specs.Values.{Value}
+use Rattle.meaning.specs.Types.{Basic, Tree, Text, double, number, text, basic, variant, dictionary}
+use Rattle.meaning.specs.Values.{BasicValue, Value}
 use Rattle.meaning.specs.Written.{fits, basicPiece, pieceOver, piece, written}
 use Rattle.meaning.proofs.NumberLaws.{length-bytes, length-ordered}
 use Rattle.meaning_writing.proofs.WriteLaws.{written-once}
@@ -27,6 +27,12 @@ module _ (big : Bool) (n : ℕ) (t : Tree) (v w : Value n t) (d : Depths) (f : T
 pub types-apart : (big : Bool) (n : ℕ) (v w : Value (suc n) variant) (d : Depths) → T (fits (piece big (suc n) variant v) d) → T (fits (piece big (suc n) variant w) d)
     → length (written big (suc n) variant v) ≤ largestFrame → (v .0 ≡ w .0 → ⊥) → written big (suc n) variant v ≡ written big (suc n) variant w → ⊥
 types-apart big n v w d f g small apart e = apart (ap (λ (x : Value (suc n) variant). x .0) (written-once big (suc n) variant v w d f g small e))
+
+-- of dictionaries: where the entries stand in another order
+pub orders-apart : (big : Bool) (n : ℕ) (b : Basic) (t : Tree) (x y : BasicValue b × Value (suc n) t) (d : Depths)
+    → T (fits (piece big (suc n) (dictionary b t) (x ∷ y ∷ [])) d) → T (fits (piece big (suc n) (dictionary b t) (y ∷ x ∷ [])) d) → length (written big (suc n) (dictionary b t) (x ∷ y ∷ [])) ≤ largestFrame
+    → (x ≡ y → ⊥) → written big (suc n) (dictionary b t) (x ∷ y ∷ []) ≡ written big (suc n) (dictionary b t) (y ∷ x ∷ []) → ⊥
+orders-apart big n b t x y d f g small apart = no-two-alike big (suc n) (dictionary b t) (x ∷ y ∷ []) (y ∷ x ∷ []) d f g small (λ e. apart (cc))
 
 -- of floats: where the bits differ, as those of 0 and -0 do, and of one NaN and another
 pub floats-apart : (big : Bool) (a b : ℕ) → a < 256 ^ 8 → b < 256 ^ 8 → (a ≡ b → ⊥) → written big mostVariants (basic (number double)) a ≡ written big mostVariants (basic (number double)) b → ⊥

@@ -71,17 +71,8 @@ fn elements(
         let child = first_element(part, rest);
         let start = child.start;
         let end = child.end;
-        let walked = step(
-            text,
-            tables,
-            item,
-            &part[start..end],
-            place + start,
-            left,
-            aim,
-            d,
-            out,
-        );
+        let held = &part[start..end];
+        let walked = step(text, tables, item, held, place + start, left, aim, d, out);
         let found = walked.found;
         if found {
             return close_element(walked, place, start, end, part, all, rest, out);

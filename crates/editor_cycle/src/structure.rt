@@ -67,17 +67,8 @@ fn fields(
         let inner = shape_in(text, tables, row.at);
         let start = field.start;
         let stop = field.stop;
-        let walked = value(
-            text,
-            tables,
-            inner,
-            &part[start..stop],
-            place + start,
-            left,
-            aim,
-            d,
-            out,
-        );
+        let held = &part[start..stop];
+        let walked = value(text, tables, inner, held, place + start, left, aim, d, out);
         let found = walked.found;
         if found {
             return close_field(walked, place, text, tables, part, row, field, out);

@@ -58,11 +58,11 @@ array·array-is-slot-requires t c κs = search needs
 array·array-readings-requires : (t : ℕ) → array·array-lts.Need-readings-requires (array·array-callees t) (array·array-at t) array·array.Post
 array·array-readings-requires t c κs =
     let at-if2 = c .before in
-    let at-is-slot = c .before .before in
-    let at-inc-array = c .before .before .before .before in
-    let at-if1 = c .before .before .before .before .before in
-    let at-item-of = c .before .before .before .before .before .before in
-    let start = c .before .before .before .before .before .before .before .before .before .before .before in
+    let at-is-slot = at-if2 .before in
+    let at-inc-array = at-is-slot .before .before in
+    let at-if1 = at-inc-array .before in
+    let at-item-of = at-if1 .before in
+    let start = at-item-of .before .before .before .before .before in
     let item = item-is (start .args .text .now) (start .args .tables .now) (start .args .shape) (start .pre .1 .0) (start .pre .1 .1) (at-item-of .item-of .result) (at-item-of .item-of .ensures) in
     each-ready item
     (each-slot (start .args .text .now) (start .args .tables .now) (start .args .shape) (start .pre .1 .0) (start .pre .1 .1) (at-item-of .item-of .result) (at-item-of .item-of .ensures) (at-if1 .if1 .left)
@@ -75,12 +75,12 @@ array·array-same-length t c = search needs
 array·array-returns-2 : (t : ℕ) → array·array-lts.Need-returns-2 (array·array-callees t) (array·array-at t) array·array.Post
 array·array-returns-2 t c =
     let at-readings = c .before .before in
-    let at-if2 = c .before .before .before .before in
-    let at-is-slot = c .before .before .before .before .before in
-    let at-inc-array = c .before .before .before .before .before .before .before in
-    let at-if1 = c .before .before .before .before .before .before .before .before in
-    let at-item-of = c .before .before .before .before .before .before .before .before .before in
-    let start = c .before .before .before .before .before .before .before .before .before .before .before .before .before .before in
+    let at-if2 = at-readings .before .before in
+    let at-is-slot = at-if2 .before in
+    let at-inc-array = at-is-slot .before .before in
+    let at-if1 = at-inc-array .before in
+    let at-item-of = at-if1 .before in
+    let start = at-item-of .before .before .before .before .before in
     let item = item-is (start .args .text .now) (start .args .tables .now) (start .args .shape) (start .pre .1 .0) (start .pre .1 .1) (at-item-of .item-of .result) (at-item-of .item-of .ensures) in
     array-walks item (start .args .d) (at-if1 .if1 .left) (at-inc-array .inc-array .result) (at-inc-array .inc-array .ensures) (start .args .place) (start .args .part .now) (start .pre .1 .2)
     (start .args .aim .big) _ _ _ _ _

@@ -62,18 +62,18 @@ array·elements-loop-holds t c =
 array·elements-first-element-requires : (t : ℕ) → array·elements-lts.Need-first-element-requires (array·elements-callees t) (array·elements-at t) array·elements.Post array·elements-Inv-loop array·elements-μ-loop
 array·elements-first-element-requires t c κs = (c .before .before .loop .inv .0 .stands, c .if1 .taken)
 
-array·elements-sub-step : (t : ℕ) → array·elements-lts.Need-sub-step (array·elements-callees t) (array·elements-at t) array·elements.Post array·elements-Inv-loop array·elements-μ-loop
-array·elements-sub-step t c =
+array·elements-sub-held : (t : ℕ) → array·elements-lts.Need-sub-held (array·elements-callees t) (array·elements-at t) array·elements.Post array·elements-Inv-loop array·elements-μ-loop
+array·elements-sub-held t c =
     let start = c .before .before .before .before .before .before .before .before .before in
     omega (arith, c .first-element .ensures .order, c .first-element .ensures .inside, start .pre .1 .1 .near)
 
-array·elements-part-step-start : (t : ℕ) → array·elements-lts.Need-part-step-start (array·elements-callees t) (array·elements-at t) array·elements.Post array·elements-Inv-loop array·elements-μ-loop
-array·elements-part-step-start t c =
+array·elements-part-held-start : (t : ℕ) → array·elements-lts.Need-part-held-start (array·elements-callees t) (array·elements-at t) array·elements.Post array·elements-Inv-loop array·elements-μ-loop
+array·elements-part-held-start t c =
     let start = c .before .before .before .before .before .before .before .before .before in
     omega (arith, c .first-element .ensures .order, c .first-element .ensures .inside, start .pre .1 .1 .near)
 
-array·elements-part-step-end : (t : ℕ) → array·elements-lts.Need-part-step-end (array·elements-callees t) (array·elements-at t) array·elements.Post array·elements-Inv-loop array·elements-μ-loop
-array·elements-part-step-end t c =
+array·elements-part-held-end : (t : ℕ) → array·elements-lts.Need-part-held-end (array·elements-callees t) (array·elements-at t) array·elements.Post array·elements-Inv-loop array·elements-μ-loop
+array·elements-part-held-end t c =
     let start = c .before .before .before .before .before .before .before .before .before in
     omega (arith, c .first-element .ensures .order, c .first-element .ensures .inside, start .pre .1 .1 .near)
 
@@ -206,9 +206,9 @@ array·elements-spec t =
     (array·elements-elements-of-requires t)
     (array·elements-loop-holds t)
     (array·elements-first-element-requires t)
-    (array·elements-sub-step t)
-    (array·elements-part-step-start t)
-    (array·elements-part-step-end t)
+    (array·elements-sub-held t)
+    (array·elements-part-held-start t)
+    (array·elements-part-held-end t)
     (array·elements-add-step t)
     (array·elements-step-requires t)
     (array·elements-close-element-requires t)

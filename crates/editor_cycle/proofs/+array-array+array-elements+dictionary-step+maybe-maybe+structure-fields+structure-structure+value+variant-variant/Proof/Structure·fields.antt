@@ -57,20 +57,20 @@ structure·fields-first-field-requires t c κs = c .loop .inv .0 .stands
 structure·fields-shape-in-requires : (t : ℕ) → structure·fields-lts.Need-shape-in-requires (structure·fields-callees t) (structure·fields-at t) structure·fields.Post structure·fields-Inv-loop structure·fields-μ-loop
 structure·fields-shape-in-requires t c κs = search needs
 
-structure·fields-sub-value : (t : ℕ) → structure·fields-lts.Need-sub-value (structure·fields-callees t) (structure·fields-at t) structure·fields.Post structure·fields-Inv-loop structure·fields-μ-loop
-structure·fields-sub-value t c =
+structure·fields-sub-held : (t : ℕ) → structure·fields-lts.Need-sub-held (structure·fields-callees t) (structure·fields-at t) structure·fields.Post structure·fields-Inv-loop structure·fields-μ-loop
+structure·fields-sub-held t c =
     let at-first-field = c .before in
     let start = at-first-field .before .before .before .before .before .before in
     omega (arith, at-first-field .first-field .ensures .order, at-first-field .first-field .ensures .inside, start .pre .1 .1 .near)
 
-structure·fields-part-value-start : (t : ℕ) → structure·fields-lts.Need-part-value-start (structure·fields-callees t) (structure·fields-at t) structure·fields.Post structure·fields-Inv-loop structure·fields-μ-loop
-structure·fields-part-value-start t c =
+structure·fields-part-held-start : (t : ℕ) → structure·fields-lts.Need-part-held-start (structure·fields-callees t) (structure·fields-at t) structure·fields.Post structure·fields-Inv-loop structure·fields-μ-loop
+structure·fields-part-held-start t c =
     let at-first-field = c .before in
     let start = at-first-field .before .before .before .before .before .before in
     omega (arith, at-first-field .first-field .ensures .order, at-first-field .first-field .ensures .inside, start .pre .1 .1 .near)
 
-structure·fields-part-value-end : (t : ℕ) → structure·fields-lts.Need-part-value-end (structure·fields-callees t) (structure·fields-at t) structure·fields.Post structure·fields-Inv-loop structure·fields-μ-loop
-structure·fields-part-value-end t c =
+structure·fields-part-held-end : (t : ℕ) → structure·fields-lts.Need-part-held-end (structure·fields-callees t) (structure·fields-at t) structure·fields.Post structure·fields-Inv-loop structure·fields-μ-loop
+structure·fields-part-held-end t c =
     let at-first-field = c .before in
     let start = at-first-field .before .before .before .before .before .before in
     omega (arith, at-first-field .first-field .ensures .order, at-first-field .first-field .ensures .inside, start .pre .1 .1 .near)
@@ -224,9 +224,9 @@ structure·fields-spec t =
     (structure·fields-loop-holds t)
     (structure·fields-first-field-requires t)
     (structure·fields-shape-in-requires t)
-    (structure·fields-sub-value t)
-    (structure·fields-part-value-start t)
-    (structure·fields-part-value-end t)
+    (structure·fields-sub-held t)
+    (structure·fields-part-held-start t)
+    (structure·fields-part-held-end t)
     (structure·fields-add-value t)
     (structure·fields-value-requires t)
     (structure·fields-close-field-requires t)

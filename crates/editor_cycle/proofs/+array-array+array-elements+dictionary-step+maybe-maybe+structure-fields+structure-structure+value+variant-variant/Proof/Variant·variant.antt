@@ -92,7 +92,8 @@ variant·variant-shape-in-requires t c κs = search needs
 
 variant·variant-slice-aggregate-held : (t : ℕ) → variant·variant-lts.Need-slice-aggregate-held (variant·variant-callees t) (variant·variant-at t) variant·variant.Post
 variant·variant-slice-aggregate-held t c =
-    simp length-take (omega (arith, c .before .before .before .before .before .before .before .before .before .before .separator .ensures .1))
+    let at-separator = c .before .before .before .before .before .before .before .before .before .before in
+    simp length-take (omega (arith, at-separator .separator .ensures .1))
 
 variant·variant-enum-told : (t : ℕ) → variant·variant-lts.Need-enum-told (variant·variant-callees t) (variant·variant-at t) variant·variant.Post
 variant·variant-enum-told t c = search needs
@@ -100,12 +101,12 @@ variant·variant-enum-told t c = search needs
 variant·variant-variant-requires : (t : ℕ) → variant·variant-lts.Need-variant-requires (variant·variant-callees t) (variant·variant-at t) variant·variant.Post
 variant·variant-variant-requires t c κs =
     let at-enum-told = c .before in
-    let at-shape-in = c .before .before .before .before in
-    let at-if1 = c .before .before .before .before .before .before in
-    let at-tables-of = c .before .before .before .before .before .before .before .before in
-    let at-inc-variant = c .before .before .before .before .before .before .before .before .before .before .before .before in
-    let at-separator = c .before .before .before .before .before .before .before .before .before .before .before .before .before in
-    let start = c .before .before .before .before .before .before .before .before .before .before .before .before .before .before .before .before in
+    let at-shape-in = at-enum-told .before .before .before in
+    let at-if1 = at-shape-in .before .before in
+    let at-tables-of = at-if1 .before .before in
+    let at-inc-variant = at-tables-of .before .before .before .before in
+    let at-separator = at-inc-variant .before in
+    let start = at-separator .before .before .before in
     let placed = front-placed _ _ (at-tables-of .tables-of .ensures .filled (granted (at-if1 .if1 .left))) (front _ (sym (at-tables-of .tables-of .ensures .judged) ∙ granted (at-if1 .if1 .left))) _ (at-shape-in .shape-in .ensures) in
     let letter = sym (described-kind (placed .shape)) ∙ at-enum-told .enum-told .given .1 in (
       omega (
@@ -122,13 +123,13 @@ variant·variant-variant-requires t c κs =
 variant·variant-close-variant-requires : (t : ℕ) → variant·variant-lts.Need-close-variant-requires (variant·variant-callees t) (variant·variant-at t) variant·variant.Post
 variant·variant-close-variant-requires t c κs =
     let at-variant = c .before .before .before in
-    let at-enum-told = c .before .before .before .before .before in
-    let at-shape-in = c .before .before .before .before .before .before .before .before in
-    let at-if1 = c .before .before .before .before .before .before .before .before .before .before in
-    let at-tables-of = c .before .before .before .before .before .before .before .before .before .before .before .before in
-    let at-inc-variant = c .before .before .before .before .before .before .before .before .before .before .before .before .before .before .before .before in
-    let at-separator = c .before .before .before .before .before .before .before .before .before .before .before .before .before .before .before .before .before in
-    let start = c .before .before .before .before .before .before .before .before .before .before .before .before .before .before .before .before .before .before .before .before in
+    let at-enum-told = at-variant .before .before in
+    let at-shape-in = at-enum-told .before .before .before in
+    let at-if1 = at-shape-in .before .before in
+    let at-tables-of = at-if1 .before .before in
+    let at-inc-variant = at-tables-of .before .before .before .before in
+    let at-separator = at-inc-variant .before in
+    let start = at-separator .before .before .before in
     let placed = front-placed _ _ (at-tables-of .tables-of .ensures .filled (granted (at-if1 .if1 .left))) (front _ (sym (at-tables-of .tables-of .ensures .judged) ∙ granted (at-if1 .if1 .left))) _ (at-shape-in .shape-in .ensures) in
     let letter = sym (described-kind (placed .shape)) ∙ at-enum-told .enum-told .given .1 in (
       variant-fits (start .args .d) (start .args .place) (start .args .part .now) (start .pre .1) (at-separator .separator .result) (at-separator .separator .ensures .0)
@@ -188,14 +189,14 @@ variant·variant-same-length t c = search needs
 variant·variant-returns-2 : (t : ℕ) → variant·variant-lts.Need-returns-2 (variant·variant-callees t) (variant·variant-at t) variant·variant.Post
 variant·variant-returns-2 t c =
     let at-close-variant = c .before .before in
-    let at-variant = c .before .before .before .before .before .before in
-    let at-enum-told = c .before .before .before .before .before .before .before .before in
-    let at-shape-in = c .before .before .before .before .before .before .before .before .before .before .before in
-    let at-if1 = c .before .before .before .before .before .before .before .before .before .before .before .before .before in
-    let at-tables-of = c .before .before .before .before .before .before .before .before .before .before .before .before .before .before .before in
-    let at-inc-variant = c .before .before .before .before .before .before .before .before .before .before .before .before .before .before .before .before .before .before .before in
-    let at-separator = c .before .before .before .before .before .before .before .before .before .before .before .before .before .before .before .before .before .before .before .before in
-    let start = c .before .before .before .before .before .before .before .before .before .before .before .before .before .before .before .before .before .before .before .before .before .before .before in
+    let at-variant = at-close-variant .before .before .before .before in
+    let at-enum-told = at-variant .before .before in
+    let at-shape-in = at-enum-told .before .before .before in
+    let at-if1 = at-shape-in .before .before in
+    let at-tables-of = at-if1 .before .before in
+    let at-inc-variant = at-tables-of .before .before .before .before in
+    let at-separator = at-inc-variant .before in
+    let start = at-separator .before .before .before in
     let placed = front-placed _ _ (at-tables-of .tables-of .ensures .filled (granted (at-if1 .if1 .left))) (front _ (sym (at-tables-of .tables-of .ensures .judged) ∙ granted (at-if1 .if1 .left))) _ (at-shape-in .shape-in .ensures) in
     let letter = sym (described-kind (placed .shape)) ∙ at-enum-told .enum-told .given .1 in
     variant-closed (start .args .d) (start .args .place) (start .args .part .now) (start .pre .1) (at-separator .separator .result) (at-separator .separator .ensures .0)
@@ -209,13 +210,13 @@ variant·variant-same-length-2 t c = search needs
 variant·variant-returns-3 : (t : ℕ) → variant·variant-lts.Need-returns-3 (variant·variant-callees t) (variant·variant-at t) variant·variant.Post
 variant·variant-returns-3 t c =
     let at-close-variant = c .before .before in
-    let at-value = c .before .before .before .before .before .before in
-    let at-shape-in = c .before .before .before .before .before .before .before .before .before .before .before in
-    let at-if1 = c .before .before .before .before .before .before .before .before .before .before .before .before .before in
-    let at-tables-of = c .before .before .before .before .before .before .before .before .before .before .before .before .before .before .before in
-    let at-inc-variant = c .before .before .before .before .before .before .before .before .before .before .before .before .before .before .before .before .before .before .before in
-    let at-separator = c .before .before .before .before .before .before .before .before .before .before .before .before .before .before .before .before .before .before .before .before in
-    let start = c .before .before .before .before .before .before .before .before .before .before .before .before .before .before .before .before .before .before .before .before .before .before .before in
+    let at-value = at-close-variant .before .before .before .before in
+    let at-shape-in = at-value .before .before .before .before .before in
+    let at-if1 = at-shape-in .before .before in
+    let at-tables-of = at-if1 .before .before in
+    let at-inc-variant = at-tables-of .before .before .before .before in
+    let at-separator = at-inc-variant .before in
+    let start = at-separator .before .before .before in
     variant-closed (start .args .d) (start .args .place) (start .args .part .now) (start .pre .1) (at-separator .separator .result) (at-separator .separator .ensures .0)
     (at-inc-variant .inc-variant .result) (at-inc-variant .inc-variant .ensures) _ (tail (at-separator .separator .result) (start .args .part .now)) (front _ (sym (at-tables-of .tables-of .ensures .judged) ∙ granted (at-if1 .if1 .left))) _
     (ap (λ (x : Shape). x .at) (at-shape-in .shape-in .ensures)) _ refl

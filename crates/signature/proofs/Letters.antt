@@ -4,7 +4,7 @@ use mathlib.Core.Path.{_≡_, refl, sym, ap, subst, _∙_}
 use mathlib.Core.List.{List, [], _∷_}
 use mathlib.Core.Option.{Option, none, some}
 use mathlib.Core.Bool.{Bool, true, false, not}
-use Prim.Native.Nat.{ℕ, _+_, _-_, _≤_, _<_}
+use Prim.Native.Nat.{ℕ, suc, _+_, _-_, _≤_, _<_}
 use native.Mathlib.Omega.{arith}
 use mir.Val.{hasKey}
 use types.Run.{OneOf, miss}
@@ -135,6 +135,39 @@ cut l at k c h m = go (drop at l) (letterAt l at) refl (seen (drop at l)) h
     go r j e (at-mark d i x q n) p = let z : some d ≡ some c = sym q ∙ ap mark p ∙ m in let w : d ≡ c = cc in cut-at l at c x (e ∙ ap (λ (y : ℕ). y ∷ x) w)
     go r j e (at-bad d x n f) p = let z : _≡_ {A = Option ℕ} none (some c) = ap mark p ∙ m in absurd (never z)
 
+-- the character of a letter that stands for itself is not there
+pub not-cut : (l : List ℕ) (at : ℕ) (k : Letter) (c : ℕ) → mark k ≡ some c → (at < length l → getD l at 0 ≡ c → ⊥) → letterAt l at ≡ k → ⊥
+not-cut l at k c m f h =
+    let q = cut l at k c h m in
+    let d : getD l at 0 ∷ drop (suc at) l ≡ c ∷ drop (at + 1) l = sym (drop-cons l at 0 (q .within)) ∙ q .is in
+    let e : getD l at 0 ≡ c = cc in
+    f (q .within) e
+
+-- letters by their characters
+pub begins-maybe : (l : List ℕ) (at : ℕ) → (at < length l) × (getD l at 0 ≡ 109) → letterAt l at ≡ Maybe
+unfolding letterBy basicAmong
+begins-maybe l at h = letter-some l at (h .0) ∙ rw (h .1)
+
+pub begins-array : (l : List ℕ) (at : ℕ) → (at < length l) × (getD l at 0 ≡ 97) → letterAt l at ≡ Array
+unfolding letterBy basicAmong
+begins-array l at h = letter-some l at (h .0) ∙ rw (h .1)
+
+pub begins-structure : (l : List ℕ) (at : ℕ) → (at < length l) × (getD l at 0 ≡ 40) → letterAt l at ≡ OpenStructure
+unfolding letterBy basicAmong
+begins-structure l at h = letter-some l at (h .0) ∙ rw (h .1)
+
+pub closes-structure : (l : List ℕ) (at : ℕ) → (at < length l) × (getD l at 0 ≡ 41) → letterAt l at ≡ CloseStructure
+unfolding letterBy basicAmong
+closes-structure l at h = letter-some l at (h .0) ∙ rw (h .1)
+
+pub opens-entry : (l : List ℕ) (at : ℕ) → (at < length l) × (getD l at 0 ≡ 123) → letterAt l at ≡ OpenEntry
+unfolding letterBy basicAmong
+opens-entry l at h = letter-some l at (h .0) ∙ rw (h .1)
+
+pub closes-entry : (l : List ℕ) (at : ℕ) → (at < length l) × (getD l at 0 ≡ 125) → letterAt l at ≡ CloseEntry
+unfolding letterBy basicAmong
+closes-entry l at h = letter-some l at (h .0) ∙ rw (h .1)
+
 -- what is no key
 pub no-alignment : (k : Letter) → OneOf (0 ∷ 1 ∷ 5 ∷ 6 ∷ 7 ∷ 8 ∷ 9 ∷ 10 ∷ 11 ∷ []) (tagOf the-type k) → 0 ≡ keyAlignment k
 no-alignment End w = refl
@@ -252,6 +285,18 @@ no-start n OpenStructure w = absurd (miss (0 ∷ 1 ∷ 9 ∷ 10 ∷ 11 ∷ []) 8
 no-start n CloseStructure w = (refl, refl)
 no-start n OpenEntry w = (refl, refl)
 no-start n CloseEntry w = (refl, refl)
+
+-- a character that begins no type
+pub no-letter : (n c : ℕ) → eqb c 98 ≡ false → eqb c 121 ≡ false → eqb c 110 ≡ false → eqb c 113 ≡ false → eqb c 105 ≡ false → eqb c 117 ≡ false → eqb c 120 ≡ false → eqb c 116 ≡ false → eqb c 100 ≡ false → eqb c 115 ≡ false
+    → eqb c 111 ≡ false → eqb c 103 ≡ false → eqb c 118 ≡ false → eqb c 109 ≡ false → eqb c 97 ≡ false → eqb c 40 ≡ false → (loneChild n (letterOf c) ≡ noChild (letterOf c)) × (alone (letterOf c) ≡ true)
+unfolding letterBy basicAmong
+no-letter n c h₁ h₂ h₃ h₄ h₅ h₆ h₇ h₈ h₉ i₁ i₂ i₃ i₄ i₅ i₆ i₇ = rw (h₁, h₂, h₃, h₄, h₅, h₆, h₇, h₈, h₉, i₁, i₂, i₃, i₄, i₅, i₆, i₇) (go (eqb c 41) (eqb c 123) (eqb c 125))
+  where
+    go : (x y z : Bool) → (loneChild n (pick x CloseStructure (pick y OpenEntry (pick z CloseEntry Bad))) ≡ noChild (pick x CloseStructure (pick y OpenEntry (pick z CloseEntry Bad)))) × (alone (pick x CloseStructure (pick y OpenEntry (pick z CloseEntry Bad))) ≡ true)
+    go true y z = (refl, refl)
+    go false true z = (refl, refl)
+    go false false true = (refl, refl)
+    go false false false = (refl, refl)
 
 -- a closing bracket or the brace of an entry begins no type
 pub first-mark : (k : Letter) (c : ℕ) (l : List ℕ) → mark k ≡ some c → alone k ≡ true → k ≢ Variant → firstType (c ∷ l) ≡ none

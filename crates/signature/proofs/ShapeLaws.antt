@@ -15,14 +15,14 @@ use Rattle.meaning.specs.Choice.{pick}
 use Rattle.meaning.specs.Types.{Basic, bool, number, text, basicAlignment, rounded}
 use Rattle.meaning.proofs.PaddingLaws.{aligns-positive}
 use Rattle.meaning.proofs.TypeLaws.{aligns-most, basic-aligned}
-use Rattle.signature.specs.Places.{basicKind, letterAt, noChild, childAt, noEntry, entryAt, isType}
+use Rattle.signature.specs.Places.{basicKind, letterOf, letterAt, noChild, childAt, noEntry, entryAt, isType}
 use Rattle.signature.specs.Steps.{keyAlignment}
 use Rattle.signature.specs.Places.{Child}
 use Rattle.signature.specs.Places.{Entry}
 use Rattle.signature.specs.declared.Letter.{Letter}
 use Rattle.signature.specs.declared.Letter.the-variants.{End, Bad, Boolean, Number, Text, Variant, Maybe, Array, OpenStructure, CloseStructure, OpenEntry, CloseEntry}
 use Rattle.signature.proofs.Letter.{the-type}
-use Rattle.signature.proofs.Letters.{letter-end, mark, cut, key-at, alone, loneChild, child-lone}
+use Rattle.signature.proofs.Letters.{letter-end, letter-some, mark, cut, key-at, alone, loneChild, child-lone}
 use Rattle.signature.proofs.Children.{heldBy, dictionaryBy, child-maybe, child-array, child-dictionary, child-found, Stands, entry-whole, Fielding, fields-begin, fields-missing, fields-next, fields-last}
 use Rattle.signature.proofs.Answers.{judge-missing, judge-found, judged-type, child-long}
 use Rattle.signature.specs.Shapes.{packed, shapeOf, shapeAt, Filled, Shaped, Answered, unpacked, shapeIn, shape, ShapedFrom}
@@ -94,6 +94,9 @@ absent l at s e z = go (childAt l at .found) refl
 
 pub shape-lone : (l : List ℕ) (at : ℕ) (k : Letter) → length l ≤ 255 → letterAt l at ≡ k → alone k ≡ true → shapeOf (loneChild (at + 1) k) ≡ shapeAt l at
 shape-lone l at k n h a = sym (ap shapeOf (child-lone l at k n h a))
+
+pub shape-code : (l : List ℕ) (at c : ℕ) (k : Letter) → length l ≤ 255 → at < length l → getD l at 0 ≡ c → letterOf c ≡ k → alone k ≡ true → shapeOf (loneChild (at + 1) k) ≡ shapeAt l at
+shape-code l at c k n h e q a = shape-lone l at k n (letter-some l at h ∙ ap letterOf e ∙ q) a
 
 pub shape-end : (l : List ℕ) (at : ℕ) → length l ≤ 255 → length l ≤ at → 0 ≡ shapeAt l at
 unfolding shapeOf

@@ -1,7 +1,7 @@
 -- The shapes of a type text: what a table beside the text has at each place. Assumes nothing: these are definitions.
 use mathlib.Core.Path.{_≡_}
 use mathlib.Core.List.{List}
-use mathlib.Core.Bool.{Bool, _&&_}
+use mathlib.Core.Bool.{Bool, true, false, _&&_}
 use Prim.Native.Nat.{ℕ, _+_, _*_, _/_, _%_, _≤_, _<_}
 use lib.Dec.{leb}
 use lib.ListN.{length, getD}
@@ -26,6 +26,11 @@ shapeAt l at = shapeOf (childAt l at)
 -- a table has the shapes of a text, from a place on
 abbrev pub ShapedFrom : ℕ → List ℕ → List ℕ → Type 0
 ShapedFrom from l t = (k : ℕ) → from ≤ k → k < length l → getD t k 0 ≡ shapeAt l k
+
+-- whether a character stands at a place
+pub record CharacterAt (l : List ℕ) (at c : ℕ) (r : Bool) : Type 0 where
+  pub here : r ≡ true → (at < length l) × (getD l at 0 ≡ c)
+  pub not : r ≡ false → at < length l → getD l at 0 ≡ c → ⊥
 
 -- a place inside a text of at most 255 characters, and a table with the shapes behind it
 pub record Behind (l : List ℕ) (at : ℕ) (t : List ℕ) : Type 0 where

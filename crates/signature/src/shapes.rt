@@ -15,7 +15,7 @@ ghost use Prim.Native.Nat.{ℕ, _+_, _-_, _*_, _%_, _/_, _≤_, _<_, max};
 ghost use lib.Dec.{leb};
 ghost use lib.ListN.{length, set};
 ghost use Rattle.signature.specs.Places.{letterAt};
-ghost use Rattle.signature.specs.Shapes.{packed, shapeAt, ShapedFrom, Behind, Filled, Answered, unpacked, shapeIn};
+ghost use Rattle.signature.specs.Shapes.{packed, shapeAt, CharacterAt, ShapedFrom, Behind, Filled, Answered, unpacked, shapeIn};
 ghost use Rattle.meaning.specs.Limits.{longestType};
 
 // What a container needs of the type at a place: the place, its first letter, the place behind it (0 where no type begins), its
@@ -92,6 +92,19 @@ fn seen(text: &[u8], shapes: &[u16], at: usize) -> u16
     shapes[at]
 }
 
+// Whether a character stands at a place.
+fn stands(text: &[u8], at: usize, code: u8) -> bool
+    ensures { λ r. ⌜ CharacterAt (now (text .entry)) at code r ⌝ }
+{
+    if text.len() <= at {
+        return false;
+    }
+    if text[at] == code {
+        return true;
+    }
+    false
+}
+
 // A dictionary takes the larger alignment of its key and its value.
 fn dictionary_shape(text: &[u8], at: usize, shapes: &[u16]) -> u16
     requires { ⌜ Behind (now text) at (now shapes) × (letterAt (now text) at ≡ Letter.Array) × (letterAt (now text) (at + 1) ≡ Letter.OpenEntry) ⌝ }
@@ -108,8 +121,7 @@ fn dictionary_shape(text: &[u8], at: usize, shapes: &[u16]) -> u16
     }
     let next = next_of(value);
     let alignment = larger(first, alignment_of(value));
-    let behind = letter_at(text, next);
-    if let Letter::CloseEntry = behind {
+    if stands(text, next, b'}') {
         return pack(next + 1, alignment, false);
     }
     0
@@ -120,8 +132,7 @@ fn array_shape(text: &[u8], at: usize, shapes: &[u16]) -> u16
     requires { ⌜ Behind (now text) at (now shapes) × (letterAt (now text) at ≡ Letter.Array) ⌝ }
     ensures { λ r. ⌜ r ≡ shapeAt (now (text .entry)) at ⌝ }
 {
-    let inner = letter_at(text, at + 1);
-    if let Letter::OpenEntry = inner {
+    if stands(text, at + 1, b'{') {
         return dictionary_shape(text, at, shapes);
     }
     let element = seen(text, shapes, at + 1);
@@ -144,8 +155,7 @@ fn structure_shape(text: &[u8], at: usize, shapes: &[u16]) -> u16
         alignment = larger(alignment, alignment_of(field));
         fixed = both(fixed, fixed_of(field));
         place = next_of(field);
-        let behind = letter_at(text, place);
-        if let Letter::CloseStructure = behind {
+        if stands(text, place, b')') {
             return pack(place + 1, alignment, fixed);
         }
     }
@@ -164,15 +174,17 @@ fn shape_at(text: &[u8], at: usize, shapes: &[u16]) -> u16
     requires { ⌜ Behind (now text) at (now shapes) ⌝ }
     ensures { λ r. ⌜ r ≡ shapeAt (now (text .entry)) at ⌝ }
 {
-    let kind = letter_inside(text, at);
-    match kind {
-        Letter::Boolean => pack(at + 1, 1, true),
-        Letter::Number { code: _, width } => pack(at + 1, width, true),
-        Letter::Text { code: _ } => pack(at + 1, 1, false),
-        Letter::Variant => pack(at + 1, 8, false),
-        Letter::Maybe => loosened(seen(text, shapes, at + 1)),
-        Letter::Array => array_shape(text, at, shapes),
-        Letter::OpenStructure => structure_shape(text, at, shapes),
+    let code = text[at];
+    match code {
+        b'b' | b'y' => pack(at + 1, 1, true),
+        b'n' | b'q' => pack(at + 1, 2, true),
+        b'i' | b'u' => pack(at + 1, 4, true),
+        b'x' | b't' | b'd' => pack(at + 1, 8, true),
+        b's' | b'o' | b'g' => pack(at + 1, 1, false),
+        b'v' => pack(at + 1, 8, false),
+        b'm' => loosened(seen(text, shapes, at + 1)),
+        b'a' => array_shape(text, at, shapes),
+        b'(' => structure_shape(text, at, shapes),
         _ => 0,
     }
 }
@@ -223,6 +235,18 @@ fn fill_from(text: &[u8], at: usize, shapes: &mut [u16])
     fill_block(text, at, stop, shapes);
 }
 
+// Puts all shapes into the table. A short text is one block.
+fn fill(text: &[u8], shapes: &mut [u16])
+    requires { ⌜ (length (now text) ≤ longestType) × (length (now text) ≤ length (now shapes)) ⌝ }
+    ensures { λ r. ⌜ Filled 0 (now (text .entry)) (now (shapes .entry)) (now (shapes .exit)) ⌝ }
+{
+    if text.len() <= 16 {
+        fill_block(text, 0, text.len(), shapes);
+        return;
+    }
+    fill_from(text, 0, shapes);
+}
+
 // The shape of a text that is one letter.
 fn lone_shape(text: &[u8]) -> u16
     requires { ⌜ length (now text) ≡ 1 ⌝ }
@@ -257,7 +281,7 @@ pub fn shapes_of(text: &[u8], shapes: &mut [u16]) -> bool
         }
         return true;
     }
-    fill_from(text, 0, shapes);
+    fill(text, shapes);
     let whole = seen(text, shapes, 0);
     if whole == 0 {
         return false;

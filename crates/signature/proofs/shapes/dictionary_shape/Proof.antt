@@ -8,7 +8,7 @@ use Rattle.signature.specs.declared.Letter.the-variants.{CloseEntry}
 use mathlib.Core.Bool.{true, false}
 use Rattle.meaning.proofs.TypeLaws.{aligns-most}
 use Rattle.signature.specs.Steps.{keyAlignment}
-use Rattle.signature.proofs.Letters.{apart-from}
+use Rattle.signature.proofs.Letters.{not-cut, closes-entry}
 use Rattle.signature.proofs.Children.{entry-no-key, entry-no-value, entry-open}
 use Rattle.signature.specs.Shapes.{packed}
 use Rattle.signature.proofs.ShapeLaws.{known, absent, key-most, fits, no-dictionary, shape-dictionary}
@@ -24,6 +24,7 @@ use Rattle.signature.proofs.shapes.pack.Reads as pack-reads
 use Rattle.signature.proofs.shapes.seen.Reads as seen-reads
 use Rattle.signature.proofs.key_alignment.Reads as key-alignment-reads
 use Rattle.signature.proofs.letter_at.Reads as letter-at-reads
+use Rattle.signature.proofs.shapes.stands.Reads as stands-reads
 
 add-letter-at : tie.Need-add-letter-at
 add-letter-at c =
@@ -72,19 +73,16 @@ alignment-of-requires c κs = search needs
 larger-requires : tie.Need-larger-requires
 larger-requires c κs = search needs
 
-letter-at-requires-2 : tie.Need-letter-at-requires-2
-letter-at-requires-2 c κs = search needs
-
-enum-told : tie.Need-enum-told
-enum-told c = search needs
+stands-requires : tie.Need-stands-requires
+stands-requires c κs = search needs
 
 add-pack : tie.Need-add-pack
 add-pack c = search needs
 
 pack-requires : tie.Need-pack-requires
 pack-requires c κs =
-    let at-letter-at2 = c .before .before in
-    let at-larger = at-letter-at2 .before in
+    let at-stands = c .before in
+    let at-larger = at-stands .before in
     let at-alignment-of = at-larger .before in
     let at-next-of = at-alignment-of .before in
     let at-if2 = at-next-of .before in
@@ -99,15 +97,15 @@ pack-requires c κs =
     (λ z. (at-if1 .if1 .left) ((at-key-alignment .key-alignment .ensures ∙ ap keyAlignment (at-letter-at .letter-at .ensures)) ∙ z)) in
     let e = (at-key-alignment .key-alignment .ensures ∙ ap keyAlignment (at-letter-at .letter-at .ensures)) in (
       fits (start .args .text .now) (at-next-of .next-of .result) CloseEntry 125 (start .pre .0 .few)
-          (sym (at-letter-at2 .letter-at2 .ensures) ∙ (c .enum-told .given .1)) refl,
+          (closes-entry _ _ (at-stands .stands .ensures .here (c .if3 .taken))) refl,
       omega
           (arith, at-larger .larger .ensures, at-alignment-of .alignment-of .ensures, k .alignment, aligns-most (k .stands .aligns)),
     )
 
 returns-3 : tie.Need-returns-3
 returns-3 c =
-    let at-letter-at2 = c .before .before .before in
-    let at-larger = at-letter-at2 .before in
+    let at-stands = c .before .before in
+    let at-larger = at-stands .before in
     let at-alignment-of = at-larger .before in
     let at-next-of = at-alignment-of .before in
     let at-if2 = at-next-of .before in
@@ -122,8 +120,7 @@ returns-3 c =
     (rw (at-key-alignment .key-alignment .ensures ∙ ap keyAlignment (at-letter-at .letter-at .ensures))
     (shape-dictionary (start .args .text .now) (start .args .at) (start .pre .0 .few) (start .pre .1) (start .pre .2) (at-seen .seen .result) k
     (λ z. (at-if1 .if1 .left) ((at-key-alignment .key-alignment .ensures ∙ ap keyAlignment (at-letter-at .letter-at .ensures)) ∙ z))
-    (sym (ap (λ (x : ℕ). letterAt (start .args .text .now) x) (at-next-of .next-of .ensures)) ∙ sym (at-letter-at2 .letter-at2 .ensures) ∙
-    (c .before .enum-told .given .1))))
+    (sym (ap (λ (x : ℕ). letterAt (start .args .text .now) x) (at-next-of .next-of .ensures)) ∙ closes-entry _ _ (at-stands .stands .ensures .here (c .before .if3 .taken)))))
 
 returns-4 : tie.Need-returns-4
 returns-4 c =
@@ -139,8 +136,8 @@ returns-4 c =
     no-dictionary (start .args .text .now) (start .args .at) (start .pre .0 .few) (start .pre .1) (start .pre .2)
     (entry-open (start .args .text .now) (start .args .at) (start .pre .0 .few) (start .pre .1) (start .pre .2)
     (λ z. (at-if1 .if1 .left) ((at-key-alignment .key-alignment .ensures ∙ ap keyAlignment (at-letter-at .letter-at .ensures)) ∙ z)) (k .stands)
-    (λ q. apart-from CloseEntry (c .before .letter-at2 .result) (c .match .keys2)
-    (c .before .letter-at2 .ensures ∙ ap (λ (x : ℕ). letterAt (start .args .text .now) x) (at-next-of .next-of .ensures ∙ k .next) ∙ q)))
+    (λ q. not-cut (start .args .text .now) (at-next-of .next-of .result) CloseEntry 125 refl (c .before .stands .ensures .not (c .if3 .left))
+    (ap (λ (x : ℕ). letterAt (start .args .text .now) x) (at-next-of .next-of .ensures ∙ k .next) ∙ q)))
 
 pub dictionary-shape-spec : {M : Type 1} → statement M
 dictionary-shape-spec =
@@ -156,8 +153,7 @@ dictionary-shape-spec =
     next-of-requires
     alignment-of-requires
     larger-requires
-    letter-at-requires-2
-    enum-told
+    stands-requires
     add-pack
     pack-requires
     returns-3

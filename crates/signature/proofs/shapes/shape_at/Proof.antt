@@ -1,13 +1,16 @@
 -- `shape_at` meets its contract: a law for each letter. Assumes nothing.
-use mathlib.Core.Path.{_≡_, refl, sym, ap, _∙_}
-use Prim.Native.Nat.{ℕ, _+_, _-_, _*_, _/_, _%_, _≤_, _<_, max}
+use mathlib.Core.Path.{_≡_, refl, sym, _∙_}
+use mathlib.Core.Logic.{⊎-elim, inl, inr}
+use Prim.Native.Nat.{_+_}
 use native.Mathlib.Omega.{arith}
-use lib.ListN.{length, length-set}
-use Rattle.signature.specs.Places.{letterAt, childAt}
-use Rattle.signature.specs.declared.Letter.the-variants.{Boolean, Number, Text, Variant, Maybe, Array, OpenStructure}
-use Rattle.signature.proofs.Letters.{no-start}
-use Rattle.signature.specs.Shapes.{shapeOf, packed}
-use Rattle.signature.proofs.ShapeLaws.{shape-lone, shape-none, number-most, shape-maybe}
+use lib.ListN.{getD}
+use borrow.Author.Tests.{ne-eqb}
+use Rattle.meaning.specs.TypeText.{basicAmong}
+use Rattle.signature.specs.Places.{letterBy, letterOf}
+use Rattle.signature.specs.Shapes.{shapeOf}
+use Rattle.signature.specs.declared.Letter.the-variants.{Boolean, Number, Text, Variant}
+use Rattle.signature.proofs.Letters.{letter-some, no-letter, begins-maybe, begins-array, begins-structure}
+use Rattle.signature.proofs.ShapeLaws.{shape-code, shape-none, shape-maybe}
 use borrow.Author.Needs.{needs}
 use Rattle.signature.proofs.shapes.shape_at.Statement.{statement}
 use Rattle.signature.proofs.shapes.shape_at.Tie as tie
@@ -18,169 +21,182 @@ use Rattle.signature.proofs.shapes.loosened.Reads as loosened-reads
 use Rattle.signature.proofs.shapes.pack.Reads as pack-reads
 use Rattle.signature.proofs.shapes.seen.Reads as seen-reads
 use Rattle.signature.proofs.shapes.structure_shape.Reads as structure-shape-reads
-use Rattle.signature.proofs.shapes.letter_inside.Reads as letter-inside-reads
 
-letter-inside-requires : tie.Need-letter-inside-requires
-letter-inside-requires c κs = c .before .before .pre .inside
+-- src/shapes.rt:177:16
+shared-slice-read-code : tie.Need-shared-slice-read-code
+shared-slice-read-code c = search needs
 
-enum-told : tie.Need-enum-told
-enum-told c = search needs
-
+-- src/shapes.rt:179:29
 add-pack : tie.Need-add-pack
-add-pack c =
-    omega (arith, c .before .before .before .before .before .pre .inside, c .before .before .before .before .before .pre .few)
+add-pack c = search needs
 
+-- src/shapes.rt:179:24
 pack-requires : tie.Need-pack-requires
-pack-requires c κs =
-    omega (arith, c .before .before .before .before .before .pre .inside, c .before .before .before .before .before .pre .few)
+pack-requires c κs = search needs
 
-enum-known-kind : tie.Need-enum-known-kind
-enum-known-kind c = search needs
-
+-- src/shapes.rt:180:29
 add-pack-2 : tie.Need-add-pack-2
-add-pack-2 c =
-    omega (arith, c .before .before .before .before .before .before .pre .inside, c .before .before .before .before .before .before .pre .few)
+add-pack-2 c = search needs
 
+-- src/shapes.rt:180:24
 pack-requires-2 : tie.Need-pack-requires-2
-pack-requires-2 c κs =
-    let at-letter-inside = c .before .before .before in
-    let start = at-letter-inside .before .before .before in
-    omega (
-      arith,
-      start .pre .inside,
-      start .pre .few,
-      number-most (start .args .text .now) (start .args .at) (c .before .kind .given .0 .0)
-          (c .before .kind .given .0 .1 .0) (start .pre .few) (sym (at-letter-inside .letter-inside .ensures) ∙ (c .before .kind .given .1)),
-    )
+pack-requires-2 c κs = search needs
 
-enum-told-2 : tie.Need-enum-told-2
-enum-told-2 c = search needs
-
+-- src/shapes.rt:181:29
 add-pack-3 : tie.Need-add-pack-3
-add-pack-3 c =
-    omega (arith, c .before .before .before .before .before .pre .inside, c .before .before .before .before .before .pre .few)
+add-pack-3 c = search needs
 
+-- src/shapes.rt:181:24
 pack-requires-3 : tie.Need-pack-requires-3
-pack-requires-3 c κs =
-    omega (arith, c .before .before .before .before .before .pre .inside, c .before .before .before .before .before .pre .few)
+pack-requires-3 c κs = search needs
 
-enum-told-3 : tie.Need-enum-told-3
-enum-told-3 c = search needs
-
+-- src/shapes.rt:182:36
 add-pack-4 : tie.Need-add-pack-4
-add-pack-4 c =
-    omega (arith, c .before .before .before .before .before .pre .inside, c .before .before .before .before .before .pre .few)
+add-pack-4 c = search needs
 
+-- src/shapes.rt:182:31
 pack-requires-4 : tie.Need-pack-requires-4
-pack-requires-4 c κs =
-    omega (arith, c .before .before .before .before .before .pre .inside, c .before .before .before .before .before .pre .few)
+pack-requires-4 c κs = search needs
 
-enum-told-4 : tie.Need-enum-told-4
-enum-told-4 c = search needs
+-- src/shapes.rt:183:36
+add-pack-5 : tie.Need-add-pack-5
+add-pack-5 c = search needs
 
+-- src/shapes.rt:183:31
+pack-requires-5 : tie.Need-pack-requires-5
+pack-requires-5 c κs = search needs
+
+-- src/shapes.rt:184:22
+add-pack-6 : tie.Need-add-pack-6
+add-pack-6 c = search needs
+
+-- src/shapes.rt:184:17
+pack-requires-6 : tie.Need-pack-requires-6
+pack-requires-6 c κs = search needs
+
+-- src/shapes.rt:185:45
 add-seen : tie.Need-add-seen
-add-seen c =
-    omega (arith, c .before .before .before .before .before .pre .inside, c .before .before .before .before .before .pre .few)
+add-seen c = search needs
 
+-- src/shapes.rt:185:26
 seen-requires : tie.Need-seen-requires
-seen-requires c κs =
-    ((c .before .before .before .before .before .pre .few), (c .before .before .before .before .before .pre .room))
+seen-requires c κs = search needs
 
+-- src/shapes.rt:185:17
 loosened-requires : tie.Need-loosened-requires
 loosened-requires c κs = search needs
 
-enum-told-5 : tie.Need-enum-told-5
-enum-told-5 c = search needs
-
+-- src/shapes.rt:186:17
 array-shape-requires : tie.Need-array-shape-requires
-array-shape-requires c κs =
-    ((c .before .before .before .before .before .pre), (sym (c .before .before .letter-inside .ensures) ∙ (c .enum-told5 .given .1)))
+array-shape-requires c κs = (c .before .before .before .before .pre, begins-array _ _ (c .before .before .before .before .pre .inside, c .match .keys8))
 
-enum-told-6 : tie.Need-enum-told-6
-enum-told-6 c = search needs
-
+-- src/shapes.rt:187:17
 structure-shape-requires : tie.Need-structure-shape-requires
-structure-shape-requires c κs =
-    ((c .before .before .before .before .before .pre), (sym (c .before .before .letter-inside .ensures) ∙ (c .enum-told6 .given .1)))
+structure-shape-requires c κs = (c .before .before .before .before .pre, begins-structure _ _ (c .before .before .before .before .pre .inside, c .match .keys9))
 
+-- src/shapes.rt:173:1
 returns : tie.Need-returns
-unfolding shapeOf
+unfolding shapeOf letterBy basicAmong
 returns c =
-    let at-letter-inside = c .before .before .before in
-    let start = at-letter-inside .before .before .before in
-    c .pack .ensures ∙ shape-lone (start .args .text .now) (start .args .at) Boolean (start .pre .few)
-    (sym (at-letter-inside .letter-inside .ensures) ∙ (c .before .enum-told .given .1)) refl
+    let start = c .before .before .before .before .before in
+    c .pack .ensures ∙ (⊎-elim (λ e. shape-code (start .args .text .now) (start .args .at) 98 Boolean (start .pre .few) (start .pre .inside) e refl refl) (λ e. shape-code (start .args .text .now) (start .args .at) 121 (Number 121 1) (start .pre .few) (start .pre .inside) e refl refl) (c .before .match .keys1))
 
+-- src/shapes.rt:173:1
 returns-2 : tie.Need-returns-2
-unfolding shapeOf
+unfolding shapeOf letterBy basicAmong
 returns-2 c =
-    let at-kind = c .before .before in
-    let at-letter-inside = at-kind .before .before in
-    let start = at-letter-inside .before .before .before in
-    c .pack2 .ensures ∙ shape-lone (start .args .text .now) (start .args .at) (Number (at-kind .kind .given .0 .0) (at-kind .kind .given .0 .1 .0))
-    (start .pre .few) (sym (at-letter-inside .letter-inside .ensures) ∙ (at-kind .kind .given .1)) refl
+    let start = c .before .before .before .before .before in
+    c .pack2 .ensures ∙ (⊎-elim (λ e. shape-code (start .args .text .now) (start .args .at) 110 (Number 110 2) (start .pre .few) (start .pre .inside) e refl refl) (λ e. shape-code (start .args .text .now) (start .args .at) 113 (Number 113 2) (start .pre .few) (start .pre .inside) e refl refl) (c .before .match .keys2))
 
+-- src/shapes.rt:173:1
 returns-3 : tie.Need-returns-3
-unfolding shapeOf
+unfolding shapeOf letterBy basicAmong
 returns-3 c =
-    let at-letter-inside = c .before .before .before in
-    let start = at-letter-inside .before .before .before in
-    c .pack3 .ensures ∙ shape-lone (start .args .text .now) (start .args .at) (Text (c .before .enum-told2 .given .0 .0)) (start .pre .few)
-    (sym (at-letter-inside .letter-inside .ensures) ∙ (c .before .enum-told2 .given .1)) refl
+    let start = c .before .before .before .before .before in
+    c .pack3 .ensures ∙ (⊎-elim (λ e. shape-code (start .args .text .now) (start .args .at) 105 (Number 105 4) (start .pre .few) (start .pre .inside) e refl refl) (λ e. shape-code (start .args .text .now) (start .args .at) 117 (Number 117 4) (start .pre .few) (start .pre .inside) e refl refl) (c .before .match .keys3))
 
+-- src/shapes.rt:173:1
 returns-4 : tie.Need-returns-4
-unfolding shapeOf
+unfolding shapeOf letterBy basicAmong
 returns-4 c =
-    let at-letter-inside = c .before .before .before in
-    let start = at-letter-inside .before .before .before in
-    c .pack4 .ensures ∙ shape-lone (start .args .text .now) (start .args .at) Variant (start .pre .few)
-    (sym (at-letter-inside .letter-inside .ensures) ∙ (c .before .enum-told3 .given .1)) refl
+    let start = c .before .before .before .before .before in
+    c .pack4 .ensures ∙ (⊎-elim (λ e. shape-code (start .args .text .now) (start .args .at) 100 (Number 100 8) (start .pre .few) (start .pre .inside) e refl refl)
+    (λ w. ⊎-elim (λ e. shape-code (start .args .text .now) (start .args .at) 116 (Number 116 8) (start .pre .few) (start .pre .inside) e refl refl) (λ e. shape-code (start .args .text .now) (start .args .at) 120 (Number 120 8) (start .pre .few) (start .pre .inside) e refl refl) w) (c .before .match .keys4))
 
+-- src/shapes.rt:173:1
 returns-5 : tie.Need-returns-5
+unfolding shapeOf letterBy basicAmong
 returns-5 c =
-    let at-enum-told4 = c .before .before in
-    let at-letter-inside = at-enum-told4 .before .before in
-    let start = at-letter-inside .before .before .before in
-    c .loosened .ensures ∙ shape-maybe (start .args .text .now) (start .args .at) (c .before .seen .result) (start .pre .few)
-    (sym (at-letter-inside .letter-inside .ensures) ∙ (at-enum-told4 .enum-told4 .given .1))
-    (c .before .seen .ensures (start .args .at + 1) (omega arith) (start .pre .table))
+    let start = c .before .before .before .before .before in
+    c .pack5 .ensures ∙ (⊎-elim (λ e. shape-code (start .args .text .now) (start .args .at) 103 (Text 103) (start .pre .few) (start .pre .inside) e refl refl)
+    (λ w. ⊎-elim (λ e. shape-code (start .args .text .now) (start .args .at) 111 (Text 111) (start .pre .few) (start .pre .inside) e refl refl) (λ e. shape-code (start .args .text .now) (start .args .at) 115 (Text 115) (start .pre .few) (start .pre .inside) e refl refl) w) (c .before .match .keys5))
 
+-- src/shapes.rt:173:1
 returns-6 : tie.Need-returns-6
-returns-6 c = search needs
+unfolding shapeOf letterBy basicAmong
+returns-6 c =
+    let start = c .before .before .before .before .before in
+    c .pack6 .ensures ∙ shape-code (start .args .text .now) (start .args .at) 118 Variant (start .pre .few) (start .pre .inside) (c .before .match .keys6) refl refl
 
+-- src/shapes.rt:173:1
 returns-7 : tie.Need-returns-7
-returns-7 c = search needs
+returns-7 c =
+    let start = c .before .before .before .before .before .before in
+    c .loosened .ensures ∙ shape-maybe (start .args .text .now) (start .args .at) (c .before .seen .result) (start .pre .few)
+    (begins-maybe _ _ (start .pre .inside, c .before .before .match .keys7)) (c .before .seen .ensures (start .args .at + 1) (omega arith) (start .pre .table))
 
+-- src/shapes.rt:173:1
 returns-8 : tie.Need-returns-8
-returns-8 c =
+returns-8 c = search needs
+
+-- src/shapes.rt:173:1
+returns-9 : tie.Need-returns-9
+returns-9 c = search needs
+
+-- src/shapes.rt:173:1
+returns-10 : tie.Need-returns-10
+returns-10 c =
     let start = c .before .before .before .before in
-    shape-none (start .args .text .now) (start .args .at) (c .before .letter-inside .result) (start .pre .few) (c .before .letter-inside .ensures)
-    (no-start (start .args .at + 1) (c .before .letter-inside .result) (c .match .keys8))
+    let code = getD (start .args .text .now) (start .args .at) 0 in
+    shape-none (start .args .text .now) (start .args .at) (letterOf code) (start .pre .few) (sym (letter-some (start .args .text .now) (start .args .at) (start .pre .inside)))
+    (no-letter (start .args .at + 1) code (ne-eqb code 98 (λ e. c .match .rest .0 .0 .0 .0 .0 .0 .0 .0 .1 (inl e)))
+    (ne-eqb code 121 (λ e. c .match .rest .0 .0 .0 .0 .0 .0 .0 .0 .1 (inr e)))
+    (ne-eqb code 110 (λ e. c .match .rest .0 .0 .0 .0 .0 .0 .0 .1 (inl e)))
+    (ne-eqb code 113 (λ e. c .match .rest .0 .0 .0 .0 .0 .0 .0 .1 (inr e)))
+    (ne-eqb code 105 (λ e. c .match .rest .0 .0 .0 .0 .0 .0 .1 (inl e)))
+    (ne-eqb code 117 (λ e. c .match .rest .0 .0 .0 .0 .0 .0 .1 (inr e)))
+    (ne-eqb code 120 (λ e. c .match .rest .0 .0 .0 .0 .0 .1 (inr (inr e))))
+    (ne-eqb code 116 (λ e. c .match .rest .0 .0 .0 .0 .0 .1 (inr (inl e))))
+    (ne-eqb code 100 (λ e. c .match .rest .0 .0 .0 .0 .0 .1 (inl e)))
+    (ne-eqb code 115 (λ e. c .match .rest .0 .0 .0 .0 .1 (inr (inr e))))
+    (ne-eqb code 111 (λ e. c .match .rest .0 .0 .0 .0 .1 (inr (inl e))))
+    (ne-eqb code 103 (λ e. c .match .rest .0 .0 .0 .0 .1 (inl e)))
+    (ne-eqb code 118 (c .match .rest .0 .0 .0 .1))
+    (ne-eqb code 109 (c .match .rest .0 .0 .1))
+    (ne-eqb code 97 (c .match .rest .0 .1))
+    (ne-eqb code 40 (c .match .rest .1)))
 
 pub shape-at-spec : {M : Type 1} → statement M
 shape-at-spec =
     tie.close
     (tie.spec
-    letter-inside-requires
-    enum-told
+    shared-slice-read-code
     add-pack
     pack-requires
-    enum-known-kind
     add-pack-2
     pack-requires-2
-    enum-told-2
     add-pack-3
     pack-requires-3
-    enum-told-3
     add-pack-4
     pack-requires-4
-    enum-told-4
+    add-pack-5
+    pack-requires-5
+    add-pack-6
+    pack-requires-6
     add-seen
     seen-requires
     loosened-requires
-    enum-told-5
     array-shape-requires
-    enum-told-6
     structure-shape-requires
     returns
     returns-2
@@ -189,4 +205,6 @@ shape-at-spec =
     returns-5
     returns-6
     returns-7
-    returns-8)
+    returns-8
+    returns-9
+    returns-10)

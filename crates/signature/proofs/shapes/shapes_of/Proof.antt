@@ -6,7 +6,7 @@ use Rattle.signature.proofs.shapes.shapes_of.Statement.{statement}
 use Rattle.signature.proofs.shapes.shapes_of.Tie as tie
 use Rattle.signature.proofs.shapes.shapes_of.Reads as reads
 use Rattle.signature.proofs.shapes.shapes_of.Lts as lts
-use Rattle.signature.proofs.shapes.fill_from.Reads as fill-from-reads
+use Rattle.signature.proofs.shapes.fill.Reads as fill-reads
 use Rattle.signature.proofs.shapes.lone_shape.Reads as lone-shape-reads
 use Rattle.signature.proofs.shapes.next_of.Reads as next-of-reads
 use Rattle.signature.proofs.shapes.seen.Reads as seen-reads
@@ -54,8 +54,8 @@ returns-4 c =
     (c .before .lone-shape .ensures) (c .if4 .left)
 
 -- src/shapes.rt:242:5
-fill-from-requires : tie.Need-fill-from-requires
-fill-from-requires c κs = search needs
+fill-requires : tie.Need-fill-requires
+fill-requires c κs = search needs
 
 -- src/shapes.rt:243:9
 seen-requires : tie.Need-seen-requires
@@ -71,8 +71,8 @@ returns-5 c =
     let at-fill = c .before .before .before .before .before in
     let at-if2 = at-fill .before .before .before in
     let start = at-if2 .before .before .before .before in
-    answered-none (start .args .text .now) (start .args .shapes .now) (at-fill .fill-from .last .1 .1 .0) (c .before .seen .result) (at-if2 .before .if1 .left) (at-if2 .if2 .left)
-    (at-fill .fill-from .ensures) (c .before .seen .ensures 0 (omega arith) (at-fill .fill-from .ensures .each)) (c .if5 .taken)
+    answered-none (start .args .text .now) (start .args .shapes .now) (at-fill .fill .last .1 .0) (c .before .seen .result) (at-if2 .before .if1 .left) (at-if2 .if2 .left)
+    (at-fill .fill .ensures) (c .before .seen .ensures 0 (omega arith) (at-fill .fill .ensures .each)) (c .if5 .taken)
 
 -- src/shapes.rt:247:5
 next-of-requires : tie.Need-next-of-requires
@@ -89,8 +89,8 @@ returns-6 c =
     let at-fill = at-seen .before .before .before .before in
     let at-if2 = at-fill .before .before .before in
     let start = at-if2 .before .before .before .before in
-    answered-found (start .args .text .now) (start .args .shapes .now) (at-fill .fill-from .last .1 .1 .0) (at-seen .seen .result) (at-if2 .before .if1 .left) (at-if2 .if2 .left)
-    (at-fill .fill-from .ensures) (at-seen .seen .ensures 0 (omega arith) (at-fill .fill-from .ensures .each)) (c .before .if5 .left) (c .next-of .result) (c .next-of .ensures)
+    answered-found (start .args .text .now) (start .args .shapes .now) (at-fill .fill .last .1 .0) (at-seen .seen .result) (at-if2 .before .if1 .left) (at-if2 .if2 .left)
+    (at-fill .fill .ensures) (at-seen .seen .ensures 0 (omega arith) (at-fill .fill .ensures .each)) (c .before .if5 .left) (c .next-of .result) (c .next-of .ensures)
 
 pub shapes-of-spec : {M : Type 1} → statement M
 shapes-of-spec =
@@ -104,7 +104,7 @@ shapes-of-spec =
     returns-3
     same-length-2
     returns-4
-    fill-from-requires
+    fill-requires
     seen-requires
     same-length-3
     returns-5

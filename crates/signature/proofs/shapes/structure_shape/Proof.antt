@@ -7,7 +7,7 @@ use Rattle.signature.specs.Places.{letterAt, childAt}
 use Rattle.signature.specs.declared.Letter.the-variants.{CloseStructure}
 use mathlib.Core.Bool.{Bool, true, false, _&&_}
 use borrow.Author.Needs.{needs}
-use Rattle.signature.proofs.Letters.{apart-from}
+use Rattle.signature.proofs.Letters.{not-cut, closes-structure}
 use Rattle.signature.proofs.ShapeLaws.{Fielded, fielded-begin, fielded-missing, fielded-next, fielded-last, fielded-most, fielded-onward, known, fits}
 use Rattle.signature.proofs.shapes.structure_shape.Statement.{statement}
 use Rattle.signature.proofs.shapes.structure_shape.Tie as tie
@@ -20,7 +20,7 @@ use Rattle.signature.proofs.shapes.larger.Reads as larger-reads
 use Rattle.signature.proofs.shapes.next_of.Reads as next-of-reads
 use Rattle.signature.proofs.shapes.pack.Reads as pack-reads
 use Rattle.signature.proofs.shapes.seen.Reads as seen-reads
-use Rattle.signature.proofs.letter_at.Reads as letter-at-reads
+use Rattle.signature.proofs.shapes.stands.Reads as stands-reads
 
 abbrev Inv-loop : tie.InvT-loop
 Inv-loop text at shapes place₀ alignment₀ fixed₀ place alignment fixed = Fielded text at place alignment fixed
@@ -68,29 +68,25 @@ next-of-requires : tie.Need-next-of-requires Inv-loop μ-loop
 next-of-requires c κs =
     search needs
 
-letter-at-requires : tie.Need-letter-at-requires Inv-loop μ-loop
-letter-at-requires c κs =
-    search needs
-
-enum-told : tie.Need-enum-told Inv-loop μ-loop
-enum-told c =
+stands-requires : tie.Need-stands-requires Inv-loop μ-loop
+stands-requires c κs =
     search needs
 
 add-pack : tie.Need-add-pack Inv-loop μ-loop
 add-pack c =
-    let at-letter-at = c .before .before in
-    let at-next-of = at-letter-at .before in
+    let at-stands = c .before in
+    let at-next-of = at-stands .before in
     let start = at-next-of .before .before .before .before .before .before .before .before .before .before in
     omega (
       arith,
       fits (start .args .text .now) (at-next-of .next-of .result) CloseStructure 41 (start .pre .0 .few)
-          (sym (at-letter-at .letter-at .ensures) ∙ (c .enum-told .given .1)) refl,
+          (closes-structure _ _ (at-stands .stands .ensures .here (c .if2 .taken))) refl,
     )
 
 pack-requires : tie.Need-pack-requires Inv-loop μ-loop
 pack-requires c κs =
-    let at-letter-at = c .before .before in
-    let at-next-of = at-letter-at .before in
+    let at-stands = c .before in
+    let at-next-of = at-stands .before in
     let at-both = at-next-of .before in
     let at-fixed-of = at-both .before in
     let at-larger = at-fixed-of .before in
@@ -100,7 +96,7 @@ pack-requires c κs =
     let at-loop = at-seen .before in
     let start = at-loop .before .before .before in (
       fits (start .args .text .now) (at-next-of .next-of .result) CloseStructure 41 (start .pre .0 .few)
-          (sym (at-letter-at .letter-at .ensures) ∙ (c .enum-told .given .1)) refl,
+          (closes-structure _ _ (at-stands .stands .ensures .here (c .if2 .taken))) refl,
       fielded-most (start .args .text .now) (start .args .at)
           (at-loop .loop .place) (at-loop .loop .alignment) (at-loop .loop .fixed) (start .pre .0 .few) (at-loop .loop .inv) (at-seen .seen .result)
           (known (start .args .text .now) (at-loop .loop .place) (at-seen .seen .result)
@@ -112,8 +108,8 @@ pack-requires c κs =
 
 returns-2 : tie.Need-returns-2 Inv-loop μ-loop
 returns-2 c =
-    let at-letter-at = c .before .before .before in
-    let at-next-of = at-letter-at .before in
+    let at-stands = c .before .before in
+    let at-next-of = at-stands .before in
     let at-both = at-next-of .before in
     let at-fixed-of = at-both .before in
     let at-larger = at-fixed-of .before in
@@ -129,7 +125,7 @@ returns-2 c =
     (at-next-of .next-of .result) (at-larger .larger .result) (at-both .both .result) (at-next-of .next-of .ensures)
     (at-larger .larger .ensures ∙ ap (λ (x : ℕ). max (at-loop .loop .alignment) x) (at-alignment-of .alignment-of .ensures))
     (at-both .both .ensures ∙ ap (λ (x : Bool). (at-loop .loop .fixed) && x) (at-fixed-of .fixed-of .ensures))
-    (sym (at-letter-at .letter-at .ensures) ∙ (c .before .enum-told .given .1))
+    (closes-structure _ _ (at-stands .stands .ensures .here (c .before .if2 .taken)))
 
 loop-less : tie.Need-loop-less Inv-loop μ-loop
 loop-less c =
@@ -170,7 +166,7 @@ loop-again c =
     (at-next-of .next-of .result) (at-larger .larger .result) (at-both .both .result) (at-next-of .next-of .ensures)
     (at-larger .larger .ensures ∙ ap (λ (x : ℕ). max (at-loop .loop .alignment) x) (at-alignment-of .alignment-of .ensures))
     (at-both .both .ensures ∙ ap (λ (x : Bool). (at-loop .loop .fixed) && x) (at-fixed-of .fixed-of .ensures))
-    (λ q. apart-from CloseStructure (c .before .letter-at .result) (c .match .keys2) (c .before .letter-at .ensures ∙ q))
+    (not-cut _ _ CloseStructure 41 refl (c .before .stands .ensures .not (c .if2 .left)))
 
 pub structure-shape-spec : {M : Type 1} → statement M
 structure-shape-spec =
@@ -187,8 +183,7 @@ structure-shape-spec =
     fixed-of-requires
     both-requires
     next-of-requires
-    letter-at-requires
-    enum-told
+    stands-requires
     add-pack
     pack-requires
     returns-2

@@ -3,14 +3,14 @@ use mathlib.Core.Logic.{_≢_}
 use mathlib.Core.Path.{_≡_, refl, sym, ap, subst, _∙_}
 use mathlib.Core.List.{List, [], _∷_}
 use mathlib.Core.Option.{Option, none, some}
-use mathlib.Core.Bool.{Bool, true, false, not}
+use mathlib.Core.Bool.{Bool, true, false, not, false≢true}
 use Prim.Native.Nat.{ℕ, suc, _+_, _-_, _≤_, _<_}
 use native.Mathlib.Omega.{arith}
 use mir.Val.{hasKey}
 use types.Run.{OneOf, miss}
 use denote.Enum.Declared.{tagOf}
 use lib.Dec.{T, leb, eqb}
-use borrow.Author.Tests.{eqb-true, le-leb, leb-true, leb-false}
+use borrow.Author.Tests.{eqb-true, eqb-false, le-leb, leb-true, leb-false}
 use lib.ListN.{length, getD, drop, drop-of-length-le, length-drop}
 use lib.Seq.{drop-cons, drop-drop}
 use Rattle.meaning.specs.Choice.{pick}
@@ -19,7 +19,7 @@ use Rattle.meaning.specs.Letters.{basicLetter}
 use Rattle.meaning.specs.TypeText.{typeText, basicAmong, basicOf, Found, basicTree, entryBy, entryBegun, typeBegun, firstType}
 use Rattle.meaning.proofs.TypeLaws.{number-positive}
 use Rattle.meaning.proofs.TypeTextLaws.{basic-of, firstType-none, firstType-cons, firstType-typeText}
-use Rattle.signature.specs.Places.{basicKind, letterBy, letterOf, letterIn, letterAt, childOf, noChild, childBy, childAt, typeAt}
+use Rattle.signature.specs.Places.{basicKind, letterBy, letterOf, letterIn, letterAt, childOf, noChild, childBy, childAt, typeAt, ClosesAt}
 use Rattle.signature.specs.Steps.{keyAlignment, keyFixed}
 use Rattle.signature.specs.Places.{Child}
 use Rattle.signature.specs.declared.Letter.{Letter}
@@ -361,3 +361,24 @@ inside l at k h g = go (leb (length l) at) refl
     go : (q : Bool) → leb (length l) at ≡ q → at < length l
     go true p = absurd (g (sym h ∙ letter-end l at (leb-true (length l) at p)))
     go false p = leb-false (length l) at p
+
+-- where a structure's type ends
+module _ (l : List ℕ) (at : ℕ) where
+  pub closes-past : length l ≤ at → ClosesAt l at false
+  closes-past h = record {
+    there = λ z. absurd (false≢true z);
+    missing = λ z. not-cut l at CloseStructure 41 refl (λ w e. omega arith);
+  }
+
+  pub closes-by : at < length l → ClosesAt l at (eqb (getD l at 0) 41)
+  unfolding letterBy basicAmong
+  closes-by h = record {
+    there = λ z. letter-some l at h ∙ ap letterOf (eqb-true (getD l at 0) 41 z);
+    missing = λ z. not-cut l at CloseStructure 41 refl (λ w e. eqb-false (getD l at 0) 41 z e);
+  }
+
+pub closes-once : (l : List ℕ) (at : ℕ) (r s : Bool) → ClosesAt l at r → ClosesAt l at s → r ≡ s
+closes-once l at true true p q = refl
+closes-once l at true false p q = absurd (q .missing refl (p .there refl))
+closes-once l at false true p q = absurd (p .missing refl (q .there refl))
+closes-once l at false false p q = refl

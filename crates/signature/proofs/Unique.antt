@@ -5,6 +5,9 @@ use Rattle.signature.proofs.judge.Kinds as judge-kinds
 use Rattle.signature.proofs.judge.Reads as judge
 use Rattle.signature.proofs.letter_at.Kinds as letter-at-kinds
 use Rattle.signature.proofs.letter_at.Reads as letter-at
+use Rattle.signature.proofs.Letters.{closes-once}
+use Rattle.signature.proofs.closes_at.Kinds as closes-at-kinds
+use Rattle.signature.proofs.closes_at.Reads as closes-at
 use Rattle.signature.proofs.key_alignment.Kinds as key-alignment-kinds
 use Rattle.signature.proofs.key_alignment.Reads as key-alignment
 use Rattle.signature.proofs.key_fixed.Kinds as key-fixed-kinds
@@ -28,6 +31,9 @@ judge-unique κs a z z′ w w′ p q = (p ∙ sym q, refl)
 
 pub letter-at-unique : OneAnswer letter-at-kinds.ps letter-at-kinds.r letter-at.Learnt
 letter-at-unique κs a z z′ w w′ p q = (p ∙ sym q, refl)
+
+pub closes-at-unique : OneAnswer closes-at-kinds.ps closes-at-kinds.r closes-at.Learnt
+closes-at-unique κs a z z′ w w′ p q = (closes-once _ _ _ _ p q, refl)
 
 pub key-alignment-unique : OneAnswer key-alignment-kinds.ps key-alignment-kinds.r key-alignment.Learnt
 key-alignment-unique κs a z z′ w w′ p q = (p ∙ sym q, refl)

@@ -1,4 +1,5 @@
 -- What stands at a place of a type text. Assumes nothing: these are definitions.
+use mathlib.Core.Path.{_≡_}
 use mathlib.Core.List.{List, [], _∷_}
 use mathlib.Core.Option.{Option, none, some}
 use mathlib.Core.Bool.{Bool, true, false, _&&_}
@@ -76,6 +77,11 @@ childBy k len (some g) = childOf k true (len - length (g .behind)) (alignment (g
 
 unfoldable pub childAt : List ℕ → ℕ → Child
 childAt l at = childBy (letterAt l at) (length l) (typeAt l at)
+
+-- whether a structure's type ends at a place
+pub record ClosesAt (l : List ℕ) (at : ℕ) (r : Bool) : Type 0 where
+  pub there : r ≡ true → letterAt l at ≡ CloseStructure
+  pub missing : r ≡ false → letterAt l at ≡ CloseStructure → ⊥
 
 -- the field at a place is the last where `)` stands behind it
 unfoldable pub closedBy : Found Tree → Bool

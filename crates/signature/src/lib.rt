@@ -6,7 +6,7 @@ pub mod shapes;
 use crate::shapes::shapes_of;
 use meaning::limits::LONGEST_TYPE;
 ghost use mathlib.Core.Path.{_≡_};
-ghost use Rattle.signature.specs.Places.{isType, letterAt, letterOf};
+ghost use Rattle.signature.specs.Places.{isType, letterAt, letterOf, ClosesAt};
 ghost use Rattle.signature.specs.Steps.{keyAlignment, keyFixed};
 
 // Is a text one complete type?
@@ -62,6 +62,16 @@ pub fn letter_at(text: &[u8], at: usize) -> Letter
         return Letter::End;
     }
     letter_of(text[at])
+}
+
+// Whether a structure's type ends at a place.
+pub fn closes_at(text: &[u8], at: usize) -> bool
+    ensures { λ r. ⌜ ClosesAt (now (text .entry)) at r ⌝ }
+{
+    if text.len() <= at {
+        return false;
+    }
+    text[at] == b')'
 }
 
 // The alignment of a key, 0 for what is none.

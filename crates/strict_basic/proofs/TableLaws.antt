@@ -3,17 +3,17 @@ use types.Run.{OneOf, miss}
 use denote.Enum.Declared.{tagOf}
 use mathlib.Core.Path.{_≡_, refl, sym, ap, subst, subst⁻¹, _∙_}
 use mathlib.Core.List.{List, [], _∷_}
-use mathlib.Core.Bool.{Bool, true, false, _&&_, false≢true}
+use mathlib.Core.Bool.{Bool, true, false, _&&_}
 use Prim.Native.Nat.{ℕ, zero, suc, _+_, _-_, _*_, _/_, _%_, _≤_, _<_}
 use native.Mathlib.Omega.{arith}
 use lib.Dec.{leb, eqb}
 use lib.ListN.{length, drop, getD, set, length-set, length-append}
-use lib.Seq.{getD-set-same, getD-set-other, drop-cons}
+use lib.Seq.{getD-set-same, getD-set-other}
 use borrow.Author.Tests.{le-leb, eq-eqb, ne-eqb, eqb-true, eqb-false, leb-true}
 use Rattle.meaning.specs.Choice.{pick}
 use Rattle.meaning.specs.Padding.{padding, Aligns}
 use Rattle.meaning.specs.Types.{Number as NumberType, Basic, bool, number, text, Tree, Fields, basic, variant, maybe, array, dictionary, structure, last, next, numberWidth, alignment, largestAlignment, fixed, allFixed, fixedSize, fieldsEnd, rounded}
-use Rattle.meaning.specs.TypeText.{firstType, typeText, fieldsText, basicAmong}
+use Rattle.meaning.specs.TypeText.{firstType, typeText, fieldsText}
 use Rattle.meaning_writing.specs.Shapes.{oneMore, offsetCount}
 use Rattle.meaning_writing.specs.Strict.{testShapes}
 use Rattle.meaning.proofs.Tests.{both-true}
@@ -21,20 +21,19 @@ use Rattle.meaning.proofs.TypeLaws.{aligns-most, aligned, fields-aligned, fixed
 use Rattle.meaning.proofs.PaddingLaws.{padding-below}
 use Rattle.meaning.proofs.TypeTextLaws.{fixedSize-most}
 use Rattle.meaning_writing.proofs.StrictSteps.{testsOf, test-alignment, test-fixed, test-size}
-use Rattle.signature.specs.Places.{Child, Field, basicKind, letterAt, letterBy, letterOf, childAt, fieldAt, isType}
+use Rattle.signature.specs.Places.{Child, Field, basicKind, letterAt, childAt, fieldAt, isType}
 use Rattle.signature.specs.Shapes.{shapeAt, Shaped, Answered, shapeIn}
 use Rattle.signature.specs.Trees.{treeAt, behindBy, Typed, fieldsAt, Rowed, Described}
 use Rattle.signature.specs.declared.Letter.{Letter}
-use Rattle.signature.specs.declared.Letter.the-variants.{Boolean, Number, Text, Variant, Maybe, Array, OpenStructure, CloseStructure}
+use Rattle.signature.specs.declared.Letter.the-variants.{Boolean, Number, Text, Variant, Maybe, Array, OpenStructure}
 use Rattle.signature.specs.declared.shapes.Shape.{Shape}
 use Rattle.signature.proofs.Letter.{the-type}
-use Rattle.signature.proofs.Letters.{cut, letter-some}
 use Rattle.signature.proofs.Children.{child-is, child-found, Stands, type-inside}
 use Rattle.signature.proofs.Answers.{judged-type}
 use Rattle.signature.proofs.Dispatch.{Shown, shown, is-boolean, is-number, is-last, is-next}
 use Rattle.signature.proofs.ShapeLaws.{Known, known}
 use Rattle.signature.proofs.TreeLaws.{typed-by, tree-by, described-by, described-as, described-alignment, described-aligned, described-fixed, structure-tree, structure-rowed, structure-fixed, structure-alignment, LastField, NextField, last-field-of, next-field-of}
-use Rattle.strict_basic.specs.Sizes.{anyBytes, anyFields, offsetsIn, offsetsFor, sizeAndAny, measureOf, Behind, Tabled, Tabling, extentIn, anyIn, offsetsBy, ClosesAt}
+use Rattle.strict_basic.specs.Sizes.{anyBytes, anyFields, offsetsIn, offsetsFor, sizeAndAny, measureOf, Behind, Tabled, Tabling, extentIn, anyIn, offsetsBy}
 use Rattle.strict_basic.specs.Items as items
 use Rattle.strict_basic.specs.Items.{Placed, Alike, treeTest}
 use Rattle.strict_basic.proofs.SizeLaws.{any-fixed, any-alike, close-together, offsets-count, offsets-free}
@@ -56,26 +55,6 @@ measure-fixed t h = rw h
 measure-other : (t : Tree) → fixed t ≡ false → measureOf t ≡ offsetsFor t
 unfolding measureOf
 measure-other t h = rw h
-
--- ---- where a structure's type ends
-
-module _ (text : List ℕ) (at : ℕ) where
-  pub closes-past : length text ≤ at → ClosesAt text at false
-  closes-past h = record {
-    there = λ z. absurd (false≢true z);
-    missing = λ z q. let w = cut text at CloseStructure 41 q refl .within in absurd (omega arith);
-  }
-
-  pub closes-by : at < length text → ClosesAt text at (eqb (getD text at 0) 41)
-  unfolding letterBy basicAmong
-  closes-by h = record {
-    there = λ z. letter-some text at h ∙ ap letterOf (eqb-true (getD text at 0) 41 z);
-    missing = λ z q.
-        let c = cut text at CloseStructure 41 q refl .is in
-        let d = drop-cons text at 0 h in
-        let e : getD text at 0 ≡ 41 = cc in
-        eqb-false (getD text at 0) 41 z e;
-  }
 
 -- ---- how large a type is in its text
 

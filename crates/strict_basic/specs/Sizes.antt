@@ -11,10 +11,9 @@ use Rattle.meaning.specs.Limits.{longestType}
 use Rattle.meaning.specs.Padding.{padding}
 use Rattle.meaning.specs.Types.{bool, number, text, Tree, Fields, basic, variant, maybe, array, dictionary, structure, last, next, alignment, largestAlignment, fixed, fixedSize, fieldsEnd, rounded}
 use Rattle.meaning_writing.specs.Shapes.{oneMore}
-use Rattle.signature.specs.Places.{isType, letterAt}
+use Rattle.signature.specs.Places.{isType}
 use Rattle.signature.specs.Shapes.{Shaped}
 use Rattle.signature.specs.Trees.{treeAt, Typed}
-use Rattle.signature.specs.declared.Letter.the-variants.{CloseStructure}
 use Rattle.signature.specs.declared.shapes.Shape.{Shape}
 use Rattle.strict_basic.specs.Ends.{extent}
 use Rattle.strict_basic.specs.declared.ends.Extent.{Extent}
@@ -87,8 +86,3 @@ anyIn t s = s .fixed && eqb (getD t (longestType + s .at) 0 % 2) 1
 
 abbrev pub offsetsBy : List ℕ → Shape → ℕ
 offsetsBy t s = pick (s .fixed) 0 (getD t (longestType + s .at) 0)
-
--- whether a structure's type ends at a place
-pub record ClosesAt (text : List ℕ) (at : ℕ) (r : Bool) : Type 0 where
-  pub there : r ≡ true → letterAt text at ≡ CloseStructure
-  pub missing : r ≡ false → letterAt text at ≡ CloseStructure → ⊥

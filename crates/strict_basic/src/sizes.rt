@@ -7,6 +7,7 @@ use crate::ends::aligned;
 use crate::ends::one_more;
 use meaning::limits::LONGEST_TYPE;
 use signature::Letter;
+use signature::closes_at;
 use signature::letter_at;
 use signature::shapes::Shape;
 use signature::shapes::shape_in;
@@ -21,7 +22,7 @@ ghost use Rattle.meaning.specs.Choice.{pick};
 ghost use Rattle.meaning.specs.Types.{allFixed, largestAlignment, fixedSize, structure};
 ghost use Rattle.signature.specs.Places.{letterAt};
 ghost use Rattle.signature.specs.Trees.{treeAt, Typed, fieldsAt, Rowed};
-ghost use Rattle.strict_basic.specs.Sizes.{tableLength, sizeAndAny, anyBytes, offsetsIn, measureOf, Behind, Tabling, extentIn, anyIn, offsetsBy, ClosesAt};
+ghost use Rattle.strict_basic.specs.Sizes.{tableLength, sizeAndAny, anyBytes, offsetsIn, measureOf, Behind, Tabling, extentIn, anyIn, offsetsBy};
 
 // Two numbers for each character of the longest type.
 pub const TABLE: usize = 510;
@@ -57,16 +58,6 @@ fn both(a: bool, b: bool) -> bool
         return b;
     }
     false
-}
-
-// Whether a structure's type ends at a place of the text.
-pub fn closes_at(text: &[u8], at: usize) -> bool
-    ensures { λ r. ⌜ ClosesAt (now (text .entry)) at r ⌝ }
-{
-    if text.len() <= at {
-        return false;
-    }
-    text[at] == b')'
 }
 
 // The fields of a structure that is fixed, from its first on: its size, and whether any bytes will do.

@@ -2,6 +2,7 @@
 use crate::child;
 use container_depths::ContainerDepths;
 use signature::Letter;
+use signature::closes_at;
 use signature::shapes::Shape;
 use signature::shapes::shape_in;
 use strict_basic::ends::Extent;
@@ -12,7 +13,6 @@ use strict_basic::ends::last_end;
 use strict_basic::ends::offsets_left;
 use strict_basic::ends::rows_behind;
 use strict_basic::ends::start_of;
-use strict_basic::sizes::closes_at;
 use strict_basic::sizes::extent_in;
 use strict_basic::sizes::offsets_in;
 ghost use mathlib.Core.Path.{_≡_};

@@ -19,7 +19,7 @@ use Rattle.strict_basic.proofs.ends.aligned.Reads as aligned-reads
 use Rattle.strict_basic.proofs.sizes.both.Reads as both-reads
 use Rattle.strict_basic.proofs.sizes.measure_at.Reads as measure-at-reads
 use Rattle.strict_basic.proofs.sizes.pack.Reads as pack-reads
-use Rattle.strict_basic.proofs.sizes.closes_at.Reads as closes-at-reads
+use Rattle.signature.proofs.closes_at.Reads as closes-at-reads
 
 abbrev Inv-loop : tie.InvT-loop
 Inv-loop text tables at alignment i₀ end₀ any₀ i end any =

@@ -12,7 +12,7 @@ use Rattle.strict_basic.proofs.sizes.offsets_of.Reads as reads
 use Rattle.strict_basic.proofs.sizes.offsets_of.Lts as lts
 use Rattle.signature.proofs.shapes.shape_in.Reads as shape-in-reads
 use Rattle.strict_basic.proofs.ends.one_more.Reads as one-more-reads
-use Rattle.strict_basic.proofs.sizes.closes_at.Reads as closes-at-reads
+use Rattle.signature.proofs.closes_at.Reads as closes-at-reads
 
 abbrev Inv-loop : tie.InvT-loop
 Inv-loop text tables at i₀ count₀ i count =

@@ -19,7 +19,7 @@ use Rattle.signature.proofs.shapes.shape_in.Reads as shape-in-reads
 use Rattle.strict_basic.proofs.ends.field_end.Reads as field-end-reads
 use Rattle.strict_basic.proofs.ends.offsets_left.Reads as offsets-left-reads
 use Rattle.strict_basic.proofs.ends.start_of.Reads as start-of-reads
-use Rattle.strict_basic.proofs.sizes.closes_at.Reads as closes-at-reads
+use Rattle.signature.proofs.closes_at.Reads as closes-at-reads
 use Rattle.strict_basic.proofs.sizes.extent_in.Reads as extent-in-reads
 use cycle.Lts-structure-fields as structure·fields-lts
 use of.child.Reads as child

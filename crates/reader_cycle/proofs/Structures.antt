@@ -41,7 +41,7 @@ use Rattle.reader_basic.specs.declared.Context.{Context}
 use Rattle.reader_basic.proofs.Answers.{answer, refusing, stopped, after-event}
 use Rattle.reader_basic.proofs.Rests.{Rest, rest-all, rest-on, rest-as, rest-chain, rest-end}
 use Rattle.reader_cycle.proofs.Entries.{child-ordered, Padded, Passed}
-use Rattle.reader_cycle.proofs.Deepening.{too-deep, within-open}
+use Rattle.reader_cycle.proofs.Deepening.{told, too-deep, within-open}
 use Rattle.reader_basic.proofs.Loops.{kept}
 
 -- ---- the readers of fields
@@ -400,3 +400,10 @@ module _ {text shapes : List ℕ} {s : Shape} (t : Described text shapes s) (e :
         ← d .big,
       )
       (after-event _ _ n m l l₁ l′ (opening 40 (place + lead)) _ a p q g))
+
+  -- a refusal among the fields closes nothing
+  pub structure-stop : {c′ : Context} → Deeper Depth.structure c c′ → (m : ℕ) (l₁ l′ : List ℕ) (a b : Answer) → m ≡ nextEvent n → l₁ ≡ put l n (event 40 (place + lead) 0) → a ≡ b → (b .refusal ≡ 0 → ⊥)
+      → From (fieldsOf c′ text s place part lead) part lead m l₁ l′ b → From (insideOf c (treeAt text (s .at)) place part lead) part lead n l l′ a
+  structure-stop {c′} d m l₁ l′ a b p q e z g =
+      let len = length part - lead in
+      structure-on d m l₁ l′ a p q (told e (stopped len len len len m l₁ l′ (fieldsOf c′ text s place part lead) (closingAt (place + lead)) b z (omega arith) g))

@@ -30,10 +30,11 @@ ghost use Rattle.signature.specs.Places.{letterAt};
 ghost use Rattle.signature.specs.Trees.{treeAt, Described};
 ghost use Rattle.reader_basic.specs.Answers.{From, Between};
 ghost use Rattle.reader_basic.specs.Parts.{Inside};
-ghost use Rattle.reader_cycle.specs.Places.{insideOf, fieldsOf};
+ghost use Rattle.reader_cycle.specs.Places.{insideOf};
 ghost use Rattle.reader_cycle.specs.Children.{fieldEnds, ClosesAt};
 ghost use Rattle.reader_cycle.specs.Rides.{contextOf};
 
+// A structure, in one function with the loop over its fields. A field that is neither fixed nor last takes its end from the back of the table.
 pub(crate) fn structure(
     text: &[u8],
     shapes: &[u16],
@@ -49,43 +50,24 @@ pub(crate) fn structure(
     ensures { λ r. ⌜ From (insideOf (contextOf ride) (treeAt (now (text .entry)) (shape .at)) place (now (part .entry)) lead) (now (part .entry)) lead n (now (out .entry)) (now (out .exit)) r ⌝ }
 {
     let inner = in_structure(ride);
-    let refusal = inner.refusal;
-    if refusal != 0 {
-        return refused(refusal, 0, n);
+    let deep = inner.refusal;
+    if deep != 0 {
+        return refused(deep, 0, n);
     }
     let deeper = inner.ride;
-    let m = emit(out, n, STRUCTURE_LETTER, place + lead, 0);
-    let r = fields(text, shapes, shape, part, lead, place, deeper, out, m);
-    close(r, place + lead, out)
-}
-
-// The fields of a structure. One that is neither fixed nor last takes its end from the back of the table.
-pub(crate) fn fields(
-    text: &[u8],
-    shapes: &[u16],
-    shape: Shape,
-    part: &[u8],
-    lead: usize,
-    place: usize,
-    ride: usize,
-    out: &mut [u64],
-    n: usize,
-) -> Answer
-    requires { ⌜ Described (now text) (now shapes) shape × (letterAt (now text) (shape .at) ≡ Letter.OpenStructure) × Inside (length (now part)) place (contextOf ride) × (lead ≤ length (now part)) ⌝ }
-    ensures { λ r. ⌜ From (fieldsOf (contextOf ride) (now (text .entry)) shape place (now (part .entry)) lead) (now (part .entry)) lead n (now (out .entry)) (now (out .exit)) r ⌝ }
-{
+    let mut m = emit(out, n, STRUCTURE_LETTER, place + lead, 0);
     let mut i = shape.at + 1;
     let mut end = part.len();
     let mut u = 0;
-    let mut m = n;
     loop {
         let field = shape_in(text, shapes, i);
         let j = lead + u;
         if closes_at(text, field.next) {
-            let r = value(text, shapes, field, part, j, end, place, ride, out, m);
-            let position = position_of(ride);
+            let r = value(text, shapes, field, part, j, end, place, deeper, out, m);
+            let position = position_of(deeper);
             let s = close_fields(shape, part, j, end, place, position, r);
-            return behind(u, s);
+            let all = behind(u, s);
+            return close(all, place + lead, out);
         }
         let ends = field_ends(part, lead, field.fixed, end);
         let fault = ends.refusal;
@@ -93,7 +75,7 @@ pub(crate) fn fields(
             return refused(fault, u, m);
         }
         let e = ends.child;
-        let r = value(text, shapes, field, part, j, e, place, ride, out, m);
+        let r = value(text, shapes, field, part, j, e, place, deeper, out, m);
         let refusal = r.refusal;
         if refusal != 0 {
             return behind(u, r);

@@ -3,14 +3,14 @@ use Prim.Native.Nat.{_+_, _-_, ℕ}
 use Rattle.container_depths.specs.Opening.{depthsOf}
 use Rattle.reader_cycle.proofs.Deepening.{told}
 use Rattle.reader_cycle.proofs.Entries.{key-there, text-key-missing, text-key-narrow, text-key-stop, text-key-value}
+use Rattle.reader_cycle.proofs.Rides.{inside-as, key-as}
 use Rattle.reader_cycle.proofs.Structures.{width-small}
 use Rattle.reader_cycle.specs.Rides.{contextOf}
-use Rattle.reader_cycle.proofs.Rides.{inside-as, key-as}
 use borrow.Author.Needs.{needs}
 use lib.ListN.{length}
 use native.Mathlib.Omega.{arith}
 use Rattle.reader_cycle.proofs as of
-use Rattle.reader_cycle.proofs.+array-array+array-elements+array-framed+body+container+dictionary-entry+dictionary-fixed_key+dictionary-text_key+maybe-maybe+structure-fields+structure-structure+value+variant-variant as cycle
+use Rattle.reader_cycle.proofs.+array-array+array-elements+array-framed+body+container+dictionary-entry+dictionary-fixed_key+dictionary-text_key+maybe-maybe+structure-structure+value+variant-variant as cycle
 use cycle.Proof.Measures.{dictionary·text-key-at, value-below}
 use Rattle.reader_basic.proofs.basic.child_key.Reads as child-key-reads
 use Rattle.reader_basic.proofs.behind.Reads as behind-reads
@@ -59,8 +59,9 @@ dictionary·text-key-context-of-requires t c κs = search needs
 
 dictionary·text-key-child-key-requires : (t : ℕ) → dictionary·text-key-lts.Need-child-key-requires (dictionary·text-key-callees t) (dictionary·text-key-at t) dictionary·text-key.Post
 dictionary·text-key-child-key-requires t c κs =
-    let start = c .before .before .before .before .before .before .before .before in
-    (inside-as (c .before .context-of .ensures) (start .pre .1 .1), start .pre .1 .2, start .pre .1 .0 .key)
+    let at-context-of = c .before in
+    let start = at-context-of .before .before .before .before .before .before .before in
+    (inside-as (at-context-of .context-of .ensures) (start .pre .1 .1), start .pre .1 .2, start .pre .1 .0 .key)
 
 dictionary·text-key-same-length : (t : ℕ) → dictionary·text-key-lts.Need-same-length (dictionary·text-key-callees t) (dictionary·text-key-at t) dictionary·text-key.Post
 dictionary·text-key-same-length t c = search needs
@@ -68,10 +69,11 @@ dictionary·text-key-same-length t c = search needs
 dictionary·text-key-returns-2 : (t : ℕ) → dictionary·text-key-lts.Need-returns-2 (dictionary·text-key-callees t) (dictionary·text-key-at t) dictionary·text-key.Post
 dictionary·text-key-returns-2 t c =
     let at-child-key = c .before .before .before in
-    let at-if1 = at-child-key .before .before .before in
+    let at-context-of = at-child-key .before .before in
+    let at-if1 = at-context-of .before in
     let at-key-ends = at-if1 .before in
     let start = at-key-ends .before .before .before .before .before in
-    text-key-stop _ _ _ _ _ _ _ (key-there _ _ _ _ _ (at-key-ends .key-ends .ensures) (at-if1 .if1 .left)) _ _ (start .pre .1 .3) (start .pre .1 .4) _ _ (key-as (at-child-key .before .before .context-of .ensures) (start .args .item .key) (start .args .place) (start .args .j) (at-key-ends .key-ends .result .child) (start .args .part .now) (at-child-key .child-key .ensures) (depthsOf (contextOf (start .args .ride) .depths))) (c .if2 .taken)
+    text-key-stop _ _ _ _ _ _ _ (key-there _ _ _ _ _ (at-key-ends .key-ends .ensures) (at-if1 .if1 .left)) _ _ (start .pre .1 .3) (start .pre .1 .4) _ _ (key-as (at-context-of .context-of .ensures) (start .args .item .key) (start .args .place) (start .args .j) (at-key-ends .key-ends .result .child) (start .args .part .now) (at-child-key .child-key .ensures) (depthsOf (contextOf (start .args .ride) .depths))) (c .if2 .taken)
 
 dictionary·text-key-add-from : (t : ℕ) → dictionary·text-key-lts.Need-add-from (dictionary·text-key-callees t) (dictionary·text-key-at t) dictionary·text-key.Post
 dictionary·text-key-add-from t c =
@@ -106,10 +108,11 @@ dictionary·text-key-returns-3 t c =
     let at-if3 = c .before in
     let at-if2 = at-if3 .before .before in
     let at-child-key = at-if2 .before .before .before in
-    let at-if1 = at-child-key .before .before .before in
+    let at-context-of = at-child-key .before .before in
+    let at-if1 = at-context-of .before in
     let at-key-ends = at-if1 .before in
     let start = at-key-ends .before .before .before .before .before in
-    told (c .refused2 .ensures) (text-key-narrow _ _ _ _ _ _ _ (key-there _ _ _ _ _ (at-key-ends .key-ends .ensures) (at-if1 .if1 .left)) _ _ (start .pre .1 .3) (start .pre .1 .4) _ _ (key-as (at-child-key .before .before .context-of .ensures) (start .args .item .key) (start .args .place) (start .args .j) (at-key-ends .key-ends .result .child) (start .args .part .now) (at-child-key .child-key .ensures) (depthsOf (contextOf (start .args .ride) .depths))) (at-if2 .if2 .left) (at-if3 .if3 .taken))
+    told (c .refused2 .ensures) (text-key-narrow _ _ _ _ _ _ _ (key-there _ _ _ _ _ (at-key-ends .key-ends .ensures) (at-if1 .if1 .left)) _ _ (start .pre .1 .3) (start .pre .1 .4) _ _ (key-as (at-context-of .context-of .ensures) (start .args .item .key) (start .args .place) (start .args .j) (at-key-ends .key-ends .result .child) (start .args .part .now) (at-child-key .child-key .ensures) (depthsOf (contextOf (start .args .ride) .depths))) (at-if2 .if2 .left) (at-if3 .if3 .taken))
 
 dictionary·text-key-sub-end : (t : ℕ) → dictionary·text-key-lts.Need-sub-end (dictionary·text-key-callees t) (dictionary·text-key-at t) dictionary·text-key.Post
 dictionary·text-key-sub-end t c = omega (arith, c .before .before .if3 .left)
@@ -156,11 +159,12 @@ dictionary·text-key-returns-4 t c =
     let at-if3 = at-value .before .before .before .before in
     let at-if2 = at-if3 .before .before in
     let at-child-key = at-if2 .before .before .before in
-    let at-if1 = at-child-key .before .before .before in
+    let at-context-of = at-child-key .before .before in
+    let at-if1 = at-context-of .before in
     let at-key-ends = at-if1 .before in
     let start = at-key-ends .before .before .before .before .before in
     told (c .behind .ensures) (text-key-value _ _ _ _ _ _ _ (key-there _ _ _ _ _ (at-key-ends .key-ends .ensures) (at-if1 .if1 .left)) _ _
-    (start .pre .1 .3) (start .pre .1 .4) _ _ (key-as (at-child-key .before .before .context-of .ensures) (start .args .item .key) (start .args .place) (start .args .j) (at-key-ends .key-ends .result .child) (start .args .part .now) (at-child-key .child-key .ensures) (depthsOf (contextOf (start .args .ride) .depths))) (at-if2 .if2 .left) (at-if3 .if3 .left) _ _ _
+    (start .pre .1 .3) (start .pre .1 .4) _ _ (key-as (at-context-of .context-of .ensures) (start .args .item .key) (start .args .place) (start .args .j) (at-key-ends .key-ends .result .child) (start .args .part .now) (at-child-key .child-key .ensures) (depthsOf (contextOf (start .args .ride) .depths))) (at-if2 .if2 .left) (at-if3 .if3 .left) _ _ _
     (at-value .value .ensures) (at-past .past .ensures))
 
 pub dictionary·text-key-spec : {M : Type 1} (t : ℕ) → dictionary·text-key-lts.Closed (dictionary·text-key-callees t) (dictionary·text-key-at t) dictionary·text-key.Post M

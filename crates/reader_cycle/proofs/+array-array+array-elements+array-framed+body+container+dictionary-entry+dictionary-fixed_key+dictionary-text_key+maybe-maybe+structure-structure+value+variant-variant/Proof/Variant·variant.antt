@@ -5,16 +5,16 @@ use Rattle.reader_basic.proofs.Loops.{kept, tail}
 use Rattle.reader_cycle.proofs.Deepening.{few-variants, inside-deeper, level-falls, told}
 use Rattle.reader_cycle.proofs.Variants.{holds-basic, same-value, variant-closed, variant-deep, variant-none, variant-text, variant-type}
 use Rattle.reader_cycle.specs.Children.{onlyLetter}
+use Rattle.reader_cycle.specs.Rides.{contextOf}
 use Rattle.signature.proofs.ShapeLaws.{table-filled, table-refused, table-type}
 use Rattle.signature.proofs.TreeLaws.{described-as, front, front-described}
 use Rattle.signature.specs.declared.shapes.Shape.{Shape}
-use Rattle.reader_cycle.specs.Rides.{contextOf}
 use borrow.Author.Needs.{needs}
 use lib.ListN.{drop, length, length-take}
 use mathlib.Core.Path.{_∙_, ap, refl}
 use native.Mathlib.Omega.{arith}
 use Rattle.reader_cycle.proofs as of
-use Rattle.reader_cycle.proofs.+array-array+array-elements+array-framed+body+container+dictionary-entry+dictionary-fixed_key+dictionary-text_key+maybe-maybe+structure-fields+structure-structure+value+variant-variant as cycle
+use Rattle.reader_cycle.proofs.+array-array+array-elements+array-framed+body+container+dictionary-entry+dictionary-fixed_key+dictionary-text_key+maybe-maybe+structure-structure+value+variant-variant as cycle
 use cycle.Proof.Measures.{value-below, variant·variant-at}
 use Rattle.reader_basic.proofs.basic.separator.Reads as separator-reads
 use Rattle.reader_basic.proofs.refused.Reads as refused-reads

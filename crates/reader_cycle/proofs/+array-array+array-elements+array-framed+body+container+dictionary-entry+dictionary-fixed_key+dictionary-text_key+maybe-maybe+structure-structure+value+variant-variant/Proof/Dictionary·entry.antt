@@ -2,12 +2,12 @@
 use Prim.Native.Nat.{ℕ}
 use Rattle.reader_cycle.proofs.Deepening.{told}
 use Rattle.reader_cycle.proofs.Entries.{entry-padded, entry-within, step-keyed, step-text, step-unpadded}
-use Rattle.reader_cycle.specs.Rides.{contextOf}
 use Rattle.reader_cycle.proofs.Rides.{padding-as}
+use Rattle.reader_cycle.specs.Rides.{contextOf}
 use borrow.Author.Needs.{needs}
 use native.Mathlib.Omega.{arith}
 use Rattle.reader_cycle.proofs as of
-use Rattle.reader_cycle.proofs.+array-array+array-elements+array-framed+body+container+dictionary-entry+dictionary-fixed_key+dictionary-text_key+maybe-maybe+structure-fields+structure-structure+value+variant-variant as cycle
+use Rattle.reader_cycle.proofs.+array-array+array-elements+array-framed+body+container+dictionary-entry+dictionary-fixed_key+dictionary-text_key+maybe-maybe+structure-structure+value+variant-variant as cycle
 use cycle.Proof.Measures.{dictionary·entry-at, dictionary·fixed-key-below, dictionary·text-key-below}
 use Rattle.de.proofs.parse_padding.Reads as parse-padding-reads
 use Rattle.reader_basic.proofs.behind.Reads as behind-reads
@@ -52,26 +52,29 @@ dictionary·entry-returns : (t : ℕ) → dictionary·entry-lts.Need-returns (di
 dictionary·entry-returns t c =
     let at-if1 = c .before in
     let at-parse-padding = at-if1 .before in
-    let start = at-parse-padding .before .before .before .before .before .before in
-    told (c .refused .ensures) (step-unpadded (entry-padded (contextOf (start .args .ride)) (start .args .part .now) _ _ (start .pre .1 .0) (start .pre .1 .1) (start .pre .1 .2) (start .pre .1 .3) (padding-as _ _ _ _ (at-parse-padding .before .position-of .ensures) (at-parse-padding .parse-padding .ensures))) _ _ _ _ (at-if1 .if1 .taken))
+    let at-position-of = at-parse-padding .before in
+    let start = at-position-of .before .before .before .before .before in
+    told (c .refused .ensures) (step-unpadded (entry-padded (contextOf (start .args .ride)) (start .args .part .now) _ _ (start .pre .1 .0) (start .pre .1 .1) (start .pre .1 .2) (start .pre .1 .3) (padding-as _ _ _ _ (at-position-of .position-of .ensures) (at-parse-padding .parse-padding .ensures))) _ _ _ _ (at-if1 .if1 .taken))
 
 dictionary·entry-add-from : (t : ℕ) → dictionary·entry-lts.Need-add-from (dictionary·entry-callees t) (dictionary·entry-at t) dictionary·entry.Post
 dictionary·entry-add-from t c =
     let at-parse-padding = c .before in
-    let start = at-parse-padding .before .before .before .before .before .before in
-    omega (arith, entry-within (entry-padded (contextOf (start .args .ride)) (start .args .part .now) _ _ (start .pre .1 .0) (start .pre .1 .1) (start .pre .1 .2) (start .pre .1 .3) (padding-as _ _ _ _ (at-parse-padding .before .position-of .ensures) (at-parse-padding .parse-padding .ensures))), start .pre .1 .2 .in-frame)
+    let at-position-of = at-parse-padding .before in
+    let start = at-position-of .before .before .before .before .before in
+    omega (arith, entry-within (entry-padded (contextOf (start .args .ride)) (start .args .part .now) _ _ (start .pre .1 .0) (start .pre .1 .1) (start .pre .1 .2) (start .pre .1 .3) (padding-as _ _ _ _ (at-position-of .position-of .ensures) (at-parse-padding .parse-padding .ensures))), start .pre .1 .2 .in-frame)
 
 dictionary·entry-fixed-key-requires : (t : ℕ) → dictionary·entry-lts.Need-fixed-key-requires (dictionary·entry-callees t) (dictionary·entry-at t) dictionary·entry.Post
 dictionary·entry-fixed-key-requires t c κs =
     let at-parse-padding = c .before .before .before in
-    let start = at-parse-padding .before .before .before .before .before .before in (
+    let at-position-of = at-parse-padding .before in
+    let start = at-position-of .before .before .before .before .before in (
       omega (arith, start .pre .0),
       (
         start .pre .1 .0,
         start .pre .1 .2,
         entry-within
             (entry-padded (contextOf (start .args .ride)) (start .args .part .now) _ _ (start .pre .1 .0) (start .pre .1 .1) (start .pre .1 .2) (start .pre .1 .3)
-            (padding-as _ _ _ _ (at-parse-padding .before .position-of .ensures) (at-parse-padding .parse-padding .ensures))),
+            (padding-as _ _ _ _ (at-position-of .position-of .ensures) (at-parse-padding .parse-padding .ensures))),
         omega (arith, start .pre .1 .4, start .pre .1 .5),
         start .pre .1 .6,
       ),
@@ -81,8 +84,9 @@ dictionary·entry-behind-requires : (t : ℕ) → dictionary·entry-lts.Need-beh
 dictionary·entry-behind-requires t c κs =
     let at-fixed-key = c .before .before in
     let at-parse-padding = at-fixed-key .before .before .before .before in
-    let start = at-parse-padding .before .before .before .before .before .before in
-    omega (arith, at-fixed-key .fixed-key .ensures 0 .fits, entry-within (entry-padded (contextOf (start .args .ride)) (start .args .part .now) _ _ (start .pre .1 .0) (start .pre .1 .1) (start .pre .1 .2) (start .pre .1 .3) (padding-as _ _ _ _ (at-parse-padding .before .position-of .ensures) (at-parse-padding .parse-padding .ensures))), start .pre .1 .2 .in-frame)
+    let at-position-of = at-parse-padding .before in
+    let start = at-position-of .before .before .before .before .before in
+    omega (arith, at-fixed-key .fixed-key .ensures 0 .fits, entry-within (entry-padded (contextOf (start .args .ride)) (start .args .part .now) _ _ (start .pre .1 .0) (start .pre .1 .1) (start .pre .1 .2) (start .pre .1 .3) (padding-as _ _ _ _ (at-position-of .position-of .ensures) (at-parse-padding .parse-padding .ensures))), start .pre .1 .2 .in-frame)
 
 dictionary·entry-same-length : (t : ℕ) → dictionary·entry-lts.Need-same-length (dictionary·entry-callees t) (dictionary·entry-at t) dictionary·entry.Post
 dictionary·entry-same-length t c = search needs
@@ -93,22 +97,24 @@ dictionary·entry-returns-2 t c =
     let at-if2 = at-fixed-key .before .before in
     let at-if1 = at-if2 .before in
     let at-parse-padding = at-if1 .before in
-    let start = at-parse-padding .before .before .before .before .before .before in
+    let at-position-of = at-parse-padding .before in
+    let start = at-position-of .before .before .before .before .before in
     told (c .behind .ensures) (step-keyed (entry-padded (contextOf (start .args .ride)) (start .args .part .now) _ _ (start .pre .1 .0) (start .pre .1 .1)
-    (start .pre .1 .2) (start .pre .1 .3) (padding-as _ _ _ _ (at-parse-padding .before .position-of .ensures) (at-parse-padding .parse-padding .ensures))) _ _ _ _ (at-if1 .if1 .left) _ _ (at-if2 .if2 .taken)
+    (start .pre .1 .2) (start .pre .1 .3) (padding-as _ _ _ _ (at-position-of .position-of .ensures) (at-parse-padding .parse-padding .ensures))) _ _ _ _ (at-if1 .if1 .left) _ _ (at-if2 .if2 .taken)
     (at-fixed-key .fixed-key .ensures _))
 
 dictionary·entry-text-key-requires : (t : ℕ) → dictionary·entry-lts.Need-text-key-requires (dictionary·entry-callees t) (dictionary·entry-at t) dictionary·entry.Post
 dictionary·entry-text-key-requires t c κs =
     let at-parse-padding = c .before .before .before in
-    let start = at-parse-padding .before .before .before .before .before .before in (
+    let at-position-of = at-parse-padding .before in
+    let start = at-position-of .before .before .before .before .before in (
       omega (arith, start .pre .0),
       (
         start .pre .1 .0,
         start .pre .1 .2,
         entry-within
             (entry-padded (contextOf (start .args .ride)) (start .args .part .now) _ _ (start .pre .1 .0) (start .pre .1 .1) (start .pre .1 .2) (start .pre .1 .3)
-            (padding-as _ _ _ _ (at-parse-padding .before .position-of .ensures) (at-parse-padding .parse-padding .ensures))),
+            (padding-as _ _ _ _ (at-position-of .position-of .ensures) (at-parse-padding .parse-padding .ensures))),
         start .pre .1 .4,
         start .pre .1 .5,
       ),
@@ -118,8 +124,9 @@ dictionary·entry-behind-requires-2 : (t : ℕ) → dictionary·entry-lts.Need-b
 dictionary·entry-behind-requires-2 t c κs =
     let at-text-key = c .before .before in
     let at-parse-padding = at-text-key .before .before .before .before in
-    let start = at-parse-padding .before .before .before .before .before .before in
-    omega (arith, at-text-key .text-key .ensures .fits, entry-within (entry-padded (contextOf (start .args .ride)) (start .args .part .now) _ _ (start .pre .1 .0) (start .pre .1 .1) (start .pre .1 .2) (start .pre .1 .3) (padding-as _ _ _ _ (at-parse-padding .before .position-of .ensures) (at-parse-padding .parse-padding .ensures))), start .pre .1 .2 .in-frame)
+    let at-position-of = at-parse-padding .before in
+    let start = at-position-of .before .before .before .before .before in
+    omega (arith, at-text-key .text-key .ensures .fits, entry-within (entry-padded (contextOf (start .args .ride)) (start .args .part .now) _ _ (start .pre .1 .0) (start .pre .1 .1) (start .pre .1 .2) (start .pre .1 .3) (padding-as _ _ _ _ (at-position-of .position-of .ensures) (at-parse-padding .parse-padding .ensures))), start .pre .1 .2 .in-frame)
 
 dictionary·entry-same-length-2 : (t : ℕ) → dictionary·entry-lts.Need-same-length-2 (dictionary·entry-callees t) (dictionary·entry-at t) dictionary·entry.Post
 dictionary·entry-same-length-2 t c = search needs
@@ -130,9 +137,10 @@ dictionary·entry-returns-3 t c =
     let at-if2 = at-text-key .before .before in
     let at-if1 = at-if2 .before in
     let at-parse-padding = at-if1 .before in
-    let start = at-parse-padding .before .before .before .before .before .before in
+    let at-position-of = at-parse-padding .before in
+    let start = at-position-of .before .before .before .before .before in
     told (c .behind2 .ensures) (step-text (entry-padded (contextOf (start .args .ride)) (start .args .part .now) _ _ (start .pre .1 .0) (start .pre .1 .1)
-    (start .pre .1 .2) (start .pre .1 .3) (padding-as _ _ _ _ (at-parse-padding .before .position-of .ensures) (at-parse-padding .parse-padding .ensures))) _ _ _ _ (at-if1 .if1 .left) _ _ (at-if2 .if2 .left)
+    (start .pre .1 .2) (start .pre .1 .3) (padding-as _ _ _ _ (at-position-of .position-of .ensures) (at-parse-padding .parse-padding .ensures))) _ _ _ _ (at-if1 .if1 .left) _ _ (at-if2 .if2 .left)
     (at-text-key .text-key .ensures))
 
 pub dictionary·entry-spec : {M : Type 1} (t : ℕ) → dictionary·entry-lts.Closed (dictionary·entry-callees t) (dictionary·entry-at t) dictionary·entry.Post M

@@ -3,14 +3,14 @@ use Prim.Native.Nat.{ℕ}
 use Rattle.reader_basic.proofs.Leaves.{child-before, child-past, child-there}
 use Rattle.reader_cycle.proofs.Deepening.{told}
 use Rattle.reader_cycle.proofs.Readers.{contains-by, number-aligned, value-bool, value-number, value-text, within-child}
-use Rattle.signature.proofs.TreeLaws.{described-kind}
 use Rattle.reader_cycle.proofs.Rides.{inside-as, number-as}
+use Rattle.signature.proofs.TreeLaws.{described-kind}
 use borrow.Author.Needs.{needs}
 use mathlib.Core.Bool.{false}
 use mathlib.Core.Path.{_∙_, sym}
 use native.Mathlib.Omega.{arith}
 use Rattle.reader_cycle.proofs as of
-use Rattle.reader_cycle.proofs.+array-array+array-elements+array-framed+body+container+dictionary-entry+dictionary-fixed_key+dictionary-text_key+maybe-maybe+structure-fields+structure-structure+value+variant-variant as cycle
+use Rattle.reader_cycle.proofs.+array-array+array-elements+array-framed+body+container+dictionary-entry+dictionary-fixed_key+dictionary-text_key+maybe-maybe+structure-structure+value+variant-variant as cycle
 use cycle.Proof.Measures.{container-below, value-at}
 use Rattle.reader_basic.proofs.basic.boolean.Reads as boolean-reads
 use Rattle.reader_basic.proofs.basic.number.Reads as number-reads
@@ -78,11 +78,12 @@ value-context-of-requires t c κs = search needs
 
 value-number-requires : (t : ℕ) → value-lts.Need-number-requires (value-callees t) (value-at t) value.Post
 value-number-requires t c κs =
-    let at-kind = c .before .before .before in
+    let at-context-of = c .before in
+    let at-kind = at-context-of .before .before in
     let at-if2 = at-kind .before .before .before in
     let at-if1 = at-if2 .before in
     let start = at-if1 .before .before .before .before .before in
-    (inside-as (c .before .context-of .ensures) (within-child _ _ _ (start .pre .1 .1) (at-if1 .if1 .left) (at-if2 .if2 .left)), number-aligned _ _ (start .pre .1 .0 .typed) 0 false 0 _ _ (sym (described-kind (start .pre .1 .0)) ∙ at-kind .kind .given .1))
+    (inside-as (at-context-of .context-of .ensures) (within-child _ _ _ (start .pre .1 .1) (at-if1 .if1 .left) (at-if2 .if2 .left)), number-aligned _ _ (start .pre .1 .0 .typed) 0 false 0 _ _ (sym (described-kind (start .pre .1 .0)) ∙ at-kind .kind .given .1))
 
 value-enum-known-kind-2 : (t : ℕ) → value-lts.Need-enum-known-kind-2 (value-callees t) (value-at t) value.Post
 value-enum-known-kind-2 t c = search needs
@@ -116,11 +117,12 @@ value-same-length-2 t c = search needs
 value-returns-4 : (t : ℕ) → value-lts.Need-returns-4 (value-callees t) (value-at t) value.Post
 value-returns-4 t c =
     let at-number = c .before .before in
-    let at-kind = at-number .before .before .before .before in
+    let at-context-of = at-number .before .before in
+    let at-kind = at-context-of .before .before in
     let at-if2 = at-kind .before .before .before in
     let at-if1 = at-if2 .before in
     let start = at-if1 .before .before .before .before .before in
-    child-there _ _ _ _ _ _ _ _ _ (at-if1 .if1 .left) (at-if2 .if2 .left) (value-number _ _ (start .pre .1 .0 .typed) _ _ _ _ _ _ _ _ _ _ _ _ _ _ (sym (described-kind (start .pre .1 .0)) ∙ at-kind .kind .given .1) (number-as (at-number .before .before .context-of .ensures) _ _ _ _ (at-number .number .ensures)))
+    child-there _ _ _ _ _ _ _ _ _ (at-if1 .if1 .left) (at-if2 .if2 .left) (value-number _ _ (start .pre .1 .0 .typed) _ _ _ _ _ _ _ _ _ _ _ _ _ _ (sym (described-kind (start .pre .1 .0)) ∙ at-kind .kind .given .1) (number-as (at-context-of .context-of .ensures) _ _ _ _ (at-number .number .ensures)))
 
 value-same-length-3 : (t : ℕ) → value-lts.Need-same-length-3 (value-callees t) (value-at t) value.Post
 value-same-length-3 t c = search needs

@@ -7,9 +7,9 @@ use Rattle.reader_basic.specs.Answers.{Between}
 use Rattle.reader_cycle.proofs.Deepening.{arrived, told}
 use Rattle.reader_cycle.proofs.Entries.{step-child}
 use Rattle.reader_cycle.proofs.ItemLaws.{held-numbers, held-texts}
+use Rattle.reader_cycle.proofs.Rides.{inside-as, readings-as}
 use Rattle.reader_cycle.specs.Places.{stepIn}
 use Rattle.reader_cycle.specs.Rides.{contextOf}
-use Rattle.reader_cycle.proofs.Rides.{inside-as, readings-as}
 use borrow.Author.Needs.{needs}
 use lib.ListN.{drop, length-drop}
 use mathlib.Core.Bool.{false≢true}
@@ -17,7 +17,7 @@ use mathlib.Core.Logic.{⊎-elim}
 use mathlib.Core.Path.{_∙_, sym}
 use native.Mathlib.Omega.{arith}
 use Rattle.reader_cycle.proofs as of
-use Rattle.reader_cycle.proofs.+array-array+array-elements+array-framed+body+container+dictionary-entry+dictionary-fixed_key+dictionary-text_key+maybe-maybe+structure-fields+structure-structure+value+variant-variant as cycle
+use Rattle.reader_cycle.proofs.+array-array+array-elements+array-framed+body+container+dictionary-entry+dictionary-fixed_key+dictionary-text_key+maybe-maybe+structure-structure+value+variant-variant as cycle
 use cycle.Proof.Measures.{array·framed-at, dictionary·entry-below, value-below}
 use Rattle.framing_offsets.proofs.next.Reads as next-reads
 use Rattle.reader_basic.proofs.behind.Reads as behind-reads
@@ -69,9 +69,10 @@ array·framed-context-of-requires t c κs = search needs
 
 array·framed-readings-requires : (t : ℕ) → array·framed-lts.Need-readings-requires (array·framed-callees t) (array·framed-at t) array·framed.Post array·framed-Inv-loop array·framed-μ-loop
 array·framed-readings-requires t c κs =
-    let at-held = c .before .before .before in
+    let at-context-of = c .before in
+    let at-held = at-context-of .before .before in
     let start = at-held .before .before .before .before .before .before in
-    (inside-as (c .before .context-of .ensures) (start .pre .1 .2), record { begins = start .pre .1 .3; stands = start .pre .1 .4 }, start .pre .1 .0 .number _ _ (at-held .held .given .1) .aligned)
+    (inside-as (at-context-of .context-of .ensures) (start .pre .1 .2), record { begins = start .pre .1 .3; stands = start .pre .1 .4 }, start .pre .1 .0 .number _ _ (at-held .held .given .1) .aligned)
 
 array·framed-same-length : (t : ℕ) → array·framed-lts.Need-same-length (array·framed-callees t) (array·framed-at t) array·framed.Post array·framed-Inv-loop array·framed-μ-loop
 array·framed-same-length t c = search needs
@@ -79,9 +80,10 @@ array·framed-same-length t c = search needs
 array·framed-returns : (t : ℕ) → array·framed-lts.Need-returns (array·framed-callees t) (array·framed-at t) array·framed.Post array·framed-Inv-loop array·framed-μ-loop
 array·framed-returns t c =
     let at-readings = c .before .before in
-    let at-held = at-readings .before .before .before .before in
+    let at-context-of = at-readings .before .before in
+    let at-held = at-context-of .before .before in
     let start = at-held .before .before .before .before .before .before in
-    held-numbers _ _ _ _ (start .pre .1 .0 .number _ _ (at-held .held .given .1)) _ _ _ _ _ _ _ _ _ _ _ _ _ _ _ _ (start .pre .1 .1) (readings-as (at-readings .before .before .context-of .ensures) _ _ _ _ _ _ (start .args .offsets) (at-readings .readings .ensures))
+    held-numbers _ _ _ _ (start .pre .1 .0 .number _ _ (at-held .held .given .1)) _ _ _ _ _ _ _ _ _ _ _ _ _ _ _ _ (start .pre .1 .1) (readings-as (at-context-of .context-of .ensures) _ _ _ _ _ _ (start .args .offsets) (at-readings .readings .ensures))
 
 array·framed-element-kind-requires : (t : ℕ) → array·framed-lts.Need-element-kind-requires (array·framed-callees t) (array·framed-at t) array·framed.Post array·framed-Inv-loop array·framed-μ-loop
 array·framed-element-kind-requires t c κs = search needs

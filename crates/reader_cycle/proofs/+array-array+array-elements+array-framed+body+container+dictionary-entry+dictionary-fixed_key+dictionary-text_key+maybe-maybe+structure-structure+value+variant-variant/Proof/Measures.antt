@@ -23,8 +23,6 @@ use of.dictionary.text_key.Kinds as dictionary·text-key-kinds
 use of.dictionary.text_key.Reads as dictionary·text-key
 use of.maybe.maybe.Kinds as maybe·maybe-kinds
 use of.maybe.maybe.Reads as maybe·maybe
-use of.structure.fields.Kinds as structure·fields-kinds
-use of.structure.fields.Reads as structure·fields
 use of.structure.structure.Kinds as structure·structure-kinds
 use of.structure.structure.Reads as structure·structure
 use of.value.Kinds as value-kinds
@@ -67,10 +65,6 @@ abbrev pub μ-dictionary·text-key : Measures 4 dictionary·text-key-kinds.ps �
 abbrev pub μ-maybe·maybe : Measures 4 maybe·maybe-kinds.ps ℕ
 μ-maybe·maybe κs a =
     level (contextOf (a .1 .1 .1 .1 .1 .1 .0) .depths) * 16 + 2
-
-abbrev pub μ-structure·fields : Measures 4 structure·fields-kinds.ps ℕ
-μ-structure·fields κs a =
-    level (contextOf (a .1 .1 .1 .1 .1 .1 .0) .depths) * 16 + 8
 
 abbrev pub μ-structure·structure : Measures 4 structure·structure-kinds.ps ℕ
 μ-structure·structure κs a =
@@ -137,12 +131,6 @@ maybe·maybe-at = given 4 maybe·maybe-kinds.ps μ-maybe·maybe maybe·maybe.Pre
 
 abbrev pub maybe·maybe-below : ℕ → In 4 maybe·maybe-kinds.ps
 maybe·maybe-below = asked 4 maybe·maybe-kinds.ps μ-maybe·maybe maybe·maybe.Pre
-
-abbrev pub structure·fields-at : ℕ → In 4 structure·fields-kinds.ps
-structure·fields-at = given 4 structure·fields-kinds.ps μ-structure·fields structure·fields.Pre
-
-abbrev pub structure·fields-below : ℕ → In 4 structure·fields-kinds.ps
-structure·fields-below = asked 4 structure·fields-kinds.ps μ-structure·fields structure·fields.Pre
 
 abbrev pub structure·structure-at : ℕ → In 4 structure·structure-kinds.ps
 structure·structure-at = given 4 structure·structure-kinds.ps μ-structure·structure structure·structure.Pre

@@ -7,16 +7,16 @@ use Rattle.reader_cycle.proofs.Arrays.{item-least}
 use Rattle.reader_cycle.proofs.Deepening.{arrived, told}
 use Rattle.reader_cycle.proofs.Entries.{step-child}
 use Rattle.reader_cycle.proofs.ItemLaws.{plain-numbers}
+use Rattle.reader_cycle.proofs.Rides.{inside-as, numbers-as}
 use Rattle.reader_cycle.specs.Places.{stepIn}
 use Rattle.reader_cycle.specs.Rides.{contextOf}
-use Rattle.reader_cycle.proofs.Rides.{inside-as, numbers-as}
 use borrow.Author.Needs.{needs}
 use lib.ListN.{length}
 use mathlib.Core.Logic.{⊎-elim}
 use mathlib.Core.Path.{_∙_, refl}
 use native.Mathlib.Omega.{arith}
 use Rattle.reader_cycle.proofs as of
-use Rattle.reader_cycle.proofs.+array-array+array-elements+array-framed+body+container+dictionary-entry+dictionary-fixed_key+dictionary-text_key+maybe-maybe+structure-fields+structure-structure+value+variant-variant as cycle
+use Rattle.reader_cycle.proofs.+array-array+array-elements+array-framed+body+container+dictionary-entry+dictionary-fixed_key+dictionary-text_key+maybe-maybe+structure-structure+value+variant-variant as cycle
 use cycle.Proof.Measures.{array·elements-at, dictionary·entry-below, value-below}
 use Rattle.reader_basic.proofs.behind.Reads as behind-reads
 use Rattle.reader_basic.proofs.done.Reads as done-reads
@@ -59,9 +59,10 @@ array·elements-context-of-requires t c κs = search needs
 
 array·elements-numbers-requires : (t : ℕ) → array·elements-lts.Need-numbers-requires (array·elements-callees t) (array·elements-at t) array·elements.Post array·elements-Inv-loop array·elements-μ-loop
 array·elements-numbers-requires t c κs =
-    let at-plain = c .before .before .before in
+    let at-context-of = c .before in
+    let at-plain = at-context-of .before .before in
     let start = at-plain .before .before .before .before .before .before in
-    (inside-as (c .before .context-of .ensures) (start .pre .1 .2), start .pre .1 .3, start .pre .1 .0 .number _ _ (at-plain .plain .given .1) .aligned)
+    (inside-as (at-context-of .context-of .ensures) (start .pre .1 .2), start .pre .1 .3, start .pre .1 .0 .number _ _ (at-plain .plain .given .1) .aligned)
 
 array·elements-same-length : (t : ℕ) → array·elements-lts.Need-same-length (array·elements-callees t) (array·elements-at t) array·elements.Post array·elements-Inv-loop array·elements-μ-loop
 array·elements-same-length t c = search needs
@@ -69,11 +70,12 @@ array·elements-same-length t c = search needs
 array·elements-returns : (t : ℕ) → array·elements-lts.Need-returns (array·elements-callees t) (array·elements-at t) array·elements.Post array·elements-Inv-loop array·elements-μ-loop
 array·elements-returns t c =
     let at-numbers = c .before .before in
-    let at-plain = at-numbers .before .before .before .before in
+    let at-context-of = at-numbers .before .before in
+    let at-plain = at-context-of .before .before in
     let start = at-plain .before .before .before .before .before .before in
     plain-numbers _ _ _ _ (start .pre .1 .0 .number _ _ (at-plain .plain .given .1)) (contextOf (start .args .ride) .position) (contextOf (start .args .ride) .big)
     (contextOf (start .args .ride) .depths .variant) (depthsOf (contextOf (start .args .ride) .depths)) (start .args .place) (start .args .part .now)
-    (length (start .args .part .now)) (start .args .lead) _ _ _ _ _ _ (start .pre .1 .1) (numbers-as (at-numbers .before .before .context-of .ensures) (at-plain .plain .given .1) (start .args .place) (start .args .part .now) (start .args .lead) (at-numbers .numbers .ensures))
+    (length (start .args .part .now)) (start .args .lead) _ _ _ _ _ _ (start .pre .1 .1) (numbers-as (at-context-of .context-of .ensures) (at-plain .plain .given .1) (start .args .place) (start .args .part .now) (start .args .lead) (at-numbers .numbers .ensures))
 
 array·elements-loop-holds : (t : ℕ) → array·elements-lts.Need-loop-holds (array·elements-callees t) (array·elements-at t) array·elements.Post array·elements-Inv-loop array·elements-μ-loop
 array·elements-loop-holds t c =

@@ -8,7 +8,7 @@ use mathlib.Core.Bool.{false}
 use mathlib.Core.List.{[]}
 use native.Mathlib.Omega.{arith}
 use Rattle.reader_cycle.proofs as of
-use Rattle.reader_cycle.proofs.+array-array+array-elements+array-framed+body+container+dictionary-entry+dictionary-fixed_key+dictionary-text_key+maybe-maybe+structure-fields+structure-structure+value+variant-variant as cycle
+use Rattle.reader_cycle.proofs.+array-array+array-elements+array-framed+body+container+dictionary-entry+dictionary-fixed_key+dictionary-text_key+maybe-maybe+structure-structure+value+variant-variant as cycle
 use cycle.Proof.Measures.{body-below, container-at}
 use Rattle.de.proofs.parse_padding.Reads as parse-padding-reads
 use Rattle.reader_basic.proofs.behind.Reads as behind-reads
@@ -50,21 +50,24 @@ container-returns : (t : ℕ) → container-lts.Need-returns (container-callees 
 container-returns t c =
     let at-if1 = c .before in
     let at-parse-padding = at-if1 .before in
-    let start = at-parse-padding .before .before .before .before .before .before in
-    told (c .refused .ensures) (container-stop _ _ _ _ _ _ _ _ _ _ _ (start .pre .1 .0) (start .pre .1 .1) (start .pre .1 .2) (padding-as _ _ _ _ (at-parse-padding .before .position-of .ensures) (at-parse-padding .parse-padding .ensures)) (at-if1 .if1 .taken))
+    let at-position-of = at-parse-padding .before in
+    let start = at-position-of .before .before .before .before .before in
+    told (c .refused .ensures) (container-stop _ _ _ _ _ _ _ _ _ _ _ (start .pre .1 .0) (start .pre .1 .1) (start .pre .1 .2) (padding-as _ _ _ _ (at-position-of .position-of .ensures) (at-parse-padding .parse-padding .ensures)) (at-if1 .if1 .taken))
 
 container-body-requires : (t : ℕ) → container-lts.Need-body-requires (container-callees t) (container-at t) container.Post
 container-body-requires t c κs =
     let at-parse-padding = c .before .before in
-    let start = at-parse-padding .before .before .before .before .before .before in
-    (omega (arith, start .pre .0), (start .pre .1 .0, start .pre .1 .1, start .pre .1 .2, lead-fits _ _ _ _ _ _ false _ 0 [] _ (start .pre .1 .0) (start .pre .1 .1) (start .pre .1 .2) (padding-as _ _ _ _ (at-parse-padding .before .position-of .ensures) (at-parse-padding .parse-padding .ensures))))
+    let at-position-of = at-parse-padding .before in
+    let start = at-position-of .before .before .before .before .before in
+    (omega (arith, start .pre .0), (start .pre .1 .0, start .pre .1 .1, start .pre .1 .2, lead-fits _ _ _ _ _ _ false _ 0 [] _ (start .pre .1 .0) (start .pre .1 .1) (start .pre .1 .2) (padding-as _ _ _ _ (at-position-of .position-of .ensures) (at-parse-padding .parse-padding .ensures))))
 
 container-behind-requires : (t : ℕ) → container-lts.Need-behind-requires (container-callees t) (container-at t) container.Post
 container-behind-requires t c κs =
     let at-body = c .before .before in
     let at-parse-padding = at-body .before .before .before in
-    let start = at-parse-padding .before .before .before .before .before .before in
-    omega (arith, lead-fits _ _ _ _ _ _ false _ 0 [] _ (start .pre .1 .0) (start .pre .1 .1) (start .pre .1 .2) (padding-as _ _ _ _ (at-parse-padding .before .position-of .ensures) (at-parse-padding .parse-padding .ensures)), at-body .body .ensures .fits, start .pre .1 .1 .in-frame)
+    let at-position-of = at-parse-padding .before in
+    let start = at-position-of .before .before .before .before .before in
+    omega (arith, lead-fits _ _ _ _ _ _ false _ 0 [] _ (start .pre .1 .0) (start .pre .1 .1) (start .pre .1 .2) (padding-as _ _ _ _ (at-position-of .position-of .ensures) (at-parse-padding .parse-padding .ensures)), at-body .body .ensures .fits, start .pre .1 .1 .in-frame)
 
 container-same-length : (t : ℕ) → container-lts.Need-same-length (container-callees t) (container-at t) container.Post
 container-same-length t c = search needs
@@ -74,8 +77,9 @@ container-returns-2 t c =
     let at-body = c .before .before .before in
     let at-if1 = at-body .before .before in
     let at-parse-padding = at-if1 .before in
-    let start = at-parse-padding .before .before .before .before .before .before in
-    told (c .behind .ensures) (container-on _ _ _ _ _ _ _ _ _ _ _ (start .pre .1 .0) (start .pre .1 .1) (start .pre .1 .2) (padding-as _ _ _ _ (at-parse-padding .before .position-of .ensures) (at-parse-padding .parse-padding .ensures)) _ _ (at-if1 .if1 .left) (at-body .body .ensures))
+    let at-position-of = at-parse-padding .before in
+    let start = at-position-of .before .before .before .before .before in
+    told (c .behind .ensures) (container-on _ _ _ _ _ _ _ _ _ _ _ (start .pre .1 .0) (start .pre .1 .1) (start .pre .1 .2) (padding-as _ _ _ _ (at-position-of .position-of .ensures) (at-parse-padding .parse-padding .ensures)) _ _ (at-if1 .if1 .left) (at-body .body .ensures))
 
 pub container-spec : {M : Type 1} (t : ℕ) → container-lts.Closed (container-callees t) (container-at t) container.Post M
 container-spec t =

@@ -115,6 +115,9 @@ block-step l p at i m n h =
 block-first : (l p : List ℕ) (at i n : ℕ) → i < length p → puts l at (take (suc n) (drop i p)) ≡ puts (set l at (getD p i 0)) (at + 1) (take n (drop (i + 1) p))
 block-first l p at i n h = rw (add-one at, add-one i, drop-cons p i 0 h) (puts-cons l at (getD p i 0) (take n (drop (suc i) p)))
 
+pub two : (l p : List ℕ) (at i : ℕ) → i + 2 ≤ length p → puts l at (take 2 (drop i p)) ≡ set (set l at (getD p i 0)) (at + 1) (getD p (i + 1) 0)
+two l p at i h = block-first l p at i 1 (omega arith) ∙ block-step _ p at i 1 0 (omega arith) ∙ puts-none _ (at + 2)
+
 pub four : (l p : List ℕ) (at i : ℕ) → i + 4 ≤ length p → puts l at (take 4 (drop i p)) ≡ set (set (set (set l at (getD p i 0)) (at + 1) (getD p (i + 1) 0)) (at + 2) (getD p (i + 2) 0)) (at + 3) (getD p (i + 3) 0)
 four l p at i h =
     block-first l p at i 3 (omega arith) ∙ block-step _ p at i 1 2 (omega arith) ∙ block-step _ p at i 2 1 (omega arith) ∙ block-step _ p at i 3 0 (omega arith) ∙ puts-none _ (at + 4)
@@ -150,6 +153,18 @@ overlap l p at j k h e =
     let y : length (take k (drop j p)) ≡ k = length-take-le k (drop j p) (omega arith) in
     ap (λ (z : List ℕ). puts z (at + j) (take k (drop j p))) (ap (puts l at) s ∙ puts-append (take j p) (take (k - j) (drop j p)) l at (at + j) (omega arith))
     ∙ puts-over (take (k - j) (drop j p)) (take k (drop j p)) (puts l at (take j p)) (at + j) (omega arith) ∙ sym (puts-append (take j p) (take k (drop j p)) l at (at + j) (omega arith)) ∙ ap (puts l at) w
+
+-- a part of one byte, and one of none
+pub puts-one : (p l : List ℕ) (at : ℕ) → length p ≡ 1 → set l at (getD p 0 0) ≡ puts l at p
+unfolding puts
+puts-one [] l at h = absurd (omega arith)
+puts-one (x ∷ []) l at h = refl
+puts-one (x ∷ y ∷ p) l at h = absurd (omega arith)
+
+pub puts-empty : (p l : List ℕ) (at : ℕ) → length p ≡ 0 → l ≡ puts l at p
+unfolding puts
+puts-empty [] l at h = refl
+puts-empty (x ∷ p) l at h = absurd (omega arith)
 
 -- a byte behind, and one in front
 pub puts-snoc : (xs l : List ℕ) (i b : ℕ) → set (puts l i xs) (i + length xs) b ≡ puts l i (xs ++ (b ∷ []))

@@ -155,7 +155,17 @@ fn copy(out: &mut [u8], at: usize, part: &[u8])
     }
 }
 
-// Four bytes of a part at once, and eight.
+// Two bytes of a part at once, four and eight.
+fn copy_two(out: &mut [u8], at: usize, part: &[u8], i: usize)
+    requires { ⌜ (at + 2 ≤ length (now out)) × (i + 2 ≤ length (now part)) ⌝ }
+    ensures { λ r. ⌜ now (out .exit) ≡ puts (now (out .entry)) at (take 2 (drop i (now (part .entry)))) ⌝ }
+{
+    let first = part[i];
+    let second = part[i + 1];
+    out[at] = first;
+    out[at + 1] = second;
+}
+
 fn copy_four(out: &mut [u8], at: usize, part: &[u8], i: usize)
     requires { ⌜ (at + 4 ≤ length (now out)) × (i + 4 ≤ length (now part)) ⌝ }
     ensures { λ r. ⌜ now (out .exit) ≡ puts (now (out .entry)) at (take 4 (drop i (now (part .entry)))) ⌝ }
@@ -192,26 +202,45 @@ fn copy_eight(out: &mut [u8], at: usize, part: &[u8], i: usize)
     out[at + 7] = eighth;
 }
 
+// All of a part of fewer than four bytes, for which there is room.
+fn copy_few(out: &mut [u8], at: usize, part: &[u8])
+    requires { ⌜ (at + length (now part) ≤ length (now out)) × (length (now part) < 4) ⌝ }
+    ensures { λ r. ⌜ now (out .exit) ≡ puts (now (out .entry)) at (now (part .entry)) ⌝ }
+{
+    if part.len() == 0 {
+        return;
+    }
+    if part.len() == 1 {
+        out[at] = part[0];
+        return;
+    }
+    let last = part.len() - 2;
+    copy_two(out, at, part, 0);
+    copy_two(out, at + last, part, last);
+}
+
 // All of a part, for which there is room. A short one by two steps, which may overlap.
 fn copy_all(out: &mut [u8], at: usize, part: &[u8])
     requires { ⌜ at + length (now part) ≤ length (now out) ⌝ }
     ensures { λ r. ⌜ now (out .exit) ≡ puts (now (out .entry)) at (now (part .entry)) ⌝ }
 {
-    if part.len() <= 16 {
-        if 8 <= part.len() {
-            let last = part.len() - 8;
-            copy_eight(out, at, part, 0);
-            copy_eight(out, at + last, part, last);
-            return;
-        }
-        if 4 <= part.len() {
-            let last = part.len() - 4;
-            copy_four(out, at, part, 0);
-            copy_four(out, at + last, part, last);
-            return;
-        }
+    if 16 < part.len() {
+        copy(out, at, part);
+        return;
     }
-    copy(out, at, part);
+    if 8 <= part.len() {
+        let last = part.len() - 8;
+        copy_eight(out, at, part, 0);
+        copy_eight(out, at + last, part, last);
+        return;
+    }
+    if 4 <= part.len() {
+        let last = part.len() - 4;
+        copy_four(out, at, part, 0);
+        copy_four(out, at + last, part, last);
+        return;
+    }
+    copy_few(out, at, part);
 }
 
 // A text and a nul behind it, where there is room for both.

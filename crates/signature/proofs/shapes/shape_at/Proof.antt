@@ -99,21 +99,24 @@ returns : tie.Need-returns
 unfolding shapeOf letterBy basicAmong
 returns c =
     let start = c .before .before .before .before .before in
-    c .pack .ensures ∙ (⊎-elim (λ e. shape-code (start .args .text .now) (start .args .at) 98 Boolean (start .pre .few) (start .pre .inside) e refl refl) (λ e. shape-code (start .args .text .now) (start .args .at) 121 (Number 121 1) (start .pre .few) (start .pre .inside) e refl refl) (c .before .match .keys1))
+    c .pack .ensures ∙ (⊎-elim (λ e. shape-code (start .args .text .now) (start .args .at) 98 Boolean (start .pre .few) (start .pre .inside) e refl refl)
+    (λ e. shape-code (start .args .text .now) (start .args .at) 121 (Number 121 1) (start .pre .few) (start .pre .inside) e refl refl) (c .before .match .keys1))
 
 -- src/shapes.rt:173:1
 returns-2 : tie.Need-returns-2
 unfolding shapeOf letterBy basicAmong
 returns-2 c =
     let start = c .before .before .before .before .before in
-    c .pack2 .ensures ∙ (⊎-elim (λ e. shape-code (start .args .text .now) (start .args .at) 110 (Number 110 2) (start .pre .few) (start .pre .inside) e refl refl) (λ e. shape-code (start .args .text .now) (start .args .at) 113 (Number 113 2) (start .pre .few) (start .pre .inside) e refl refl) (c .before .match .keys2))
+    c .pack2 .ensures ∙ (⊎-elim (λ e. shape-code (start .args .text .now) (start .args .at) 110 (Number 110 2) (start .pre .few) (start .pre .inside) e refl refl)
+    (λ e. shape-code (start .args .text .now) (start .args .at) 113 (Number 113 2) (start .pre .few) (start .pre .inside) e refl refl) (c .before .match .keys2))
 
 -- src/shapes.rt:173:1
 returns-3 : tie.Need-returns-3
 unfolding shapeOf letterBy basicAmong
 returns-3 c =
     let start = c .before .before .before .before .before in
-    c .pack3 .ensures ∙ (⊎-elim (λ e. shape-code (start .args .text .now) (start .args .at) 105 (Number 105 4) (start .pre .few) (start .pre .inside) e refl refl) (λ e. shape-code (start .args .text .now) (start .args .at) 117 (Number 117 4) (start .pre .few) (start .pre .inside) e refl refl) (c .before .match .keys3))
+    c .pack3 .ensures ∙ (⊎-elim (λ e. shape-code (start .args .text .now) (start .args .at) 105 (Number 105 4) (start .pre .few) (start .pre .inside) e refl refl)
+    (λ e. shape-code (start .args .text .now) (start .args .at) 117 (Number 117 4) (start .pre .few) (start .pre .inside) e refl refl) (c .before .match .keys3))
 
 -- src/shapes.rt:173:1
 returns-4 : tie.Need-returns-4
@@ -121,7 +124,8 @@ unfolding shapeOf letterBy basicAmong
 returns-4 c =
     let start = c .before .before .before .before .before in
     c .pack4 .ensures ∙ (⊎-elim (λ e. shape-code (start .args .text .now) (start .args .at) 100 (Number 100 8) (start .pre .few) (start .pre .inside) e refl refl)
-    (λ w. ⊎-elim (λ e. shape-code (start .args .text .now) (start .args .at) 116 (Number 116 8) (start .pre .few) (start .pre .inside) e refl refl) (λ e. shape-code (start .args .text .now) (start .args .at) 120 (Number 120 8) (start .pre .few) (start .pre .inside) e refl refl) w) (c .before .match .keys4))
+    (λ w. ⊎-elim (λ e. shape-code (start .args .text .now) (start .args .at) 116 (Number 116 8) (start .pre .few) (start .pre .inside) e refl refl)
+    (λ e. shape-code (start .args .text .now) (start .args .at) 120 (Number 120 8) (start .pre .few) (start .pre .inside) e refl refl) w) (c .before .match .keys4))
 
 -- src/shapes.rt:173:1
 returns-5 : tie.Need-returns-5
@@ -129,7 +133,8 @@ unfolding shapeOf letterBy basicAmong
 returns-5 c =
     let start = c .before .before .before .before .before in
     c .pack5 .ensures ∙ (⊎-elim (λ e. shape-code (start .args .text .now) (start .args .at) 103 (Text 103) (start .pre .few) (start .pre .inside) e refl refl)
-    (λ w. ⊎-elim (λ e. shape-code (start .args .text .now) (start .args .at) 111 (Text 111) (start .pre .few) (start .pre .inside) e refl refl) (λ e. shape-code (start .args .text .now) (start .args .at) 115 (Text 115) (start .pre .few) (start .pre .inside) e refl refl) w) (c .before .match .keys5))
+    (λ w. ⊎-elim (λ e. shape-code (start .args .text .now) (start .args .at) 111 (Text 111) (start .pre .few) (start .pre .inside) e refl refl)
+    (λ e. shape-code (start .args .text .now) (start .args .at) 115 (Text 115) (start .pre .few) (start .pre .inside) e refl refl) w) (c .before .match .keys5))
 
 -- src/shapes.rt:173:1
 returns-6 : tie.Need-returns-6

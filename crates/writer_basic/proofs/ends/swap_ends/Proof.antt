@@ -144,7 +144,15 @@ same-length c = search needs
 -- src/ends.rt:123:9
 returns-2 : tie.Need-returns-2
 returns-2 c =
-    swapped-far _ _ _ _ _ _ _ _ _ _ _ _ _ _ _ _ _ (omega arith) (omega arith) (omega arith) refl refl (c .before .before .before .before .before .before .before .before .before .before .wide-byte .ensures .0) (c .before .before .before .before .before .before .before .before .wide-byte2 .ensures .0) (c .before .before .before .before .before .before .wide-byte3 .ensures .0) (c .before .before .before .before .wide-byte4 .ensures .0) (c .before .before .before .before .before .before .before .before .before .before .wide-byte .ensures .1) (c .before .before .before .before .before .before .before .before .wide-byte2 .ensures .1) (c .before .before .before .before .before .before .wide-byte3 .ensures .1) (c .before .before .before .before .wide-byte4 .ensures .1)
+    swapped-far _ _ _ _ _ _ _ _ _ _ _ _ _ _ _ _ _ (omega arith) (omega arith) (omega arith) refl refl
+    (c .before .before .before .before .before .before .before .before .before .before .wide-byte .ensures .0)
+    (c .before .before .before .before .before .before .before .before .wide-byte2 .ensures .0)
+    (c .before .before .before .before .before .before .wide-byte3 .ensures .0)
+    (c .before .before .before .before .wide-byte4 .ensures .0)
+    (c .before .before .before .before .before .before .before .before .before .before .wide-byte .ensures .1)
+    (c .before .before .before .before .before .before .before .before .wide-byte2 .ensures .1)
+    (c .before .before .before .before .before .before .wide-byte3 .ensures .1)
+    (c .before .before .before .before .wide-byte4 .ensures .1)
     refl refl (c .before .before .before .low .ensures) (c .before .before .low2 .ensures) (c .before .low3 .ensures) (c .low4 .ensures) refl
 
 -- src/ends.rt:125:9

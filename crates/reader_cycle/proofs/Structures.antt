@@ -1,14 +1,14 @@
 -- A law for each way out of the readers of a structure and its fields, and what the loop over them keeps. Assumes nothing.
 use mathlib.Core.Path.{subst⁻¹, _≡_, refl, ap, sym, _∙_}
 use mathlib.Core.List.{List, [], _∷_, append-nil}
-use mathlib.Core.Bool.{Bool, true, false, _&&_, _||_, false≢true}
+use mathlib.Core.Bool.{Bool, true, false, _&&_, _||_}
 use Prim.Native.Nat.{ℕ, zero, suc, _+_, _-_, _^_, _≤_, _<_}
 use native.Mathlib.Omega.{arith}
 use native.Mathlib.Nat.{add-zero, add-assoc}
 use lib.Dec.{leb, eqb}
 use lib.ListN.{length, take, drop, getD}
-use lib.Seq.{getD-drop, drop-cons}
-use borrow.Author.Tests.{leb-true, leb-false, eqb-true, eqb-false}
+use lib.Seq.{getD-drop}
+use borrow.Author.Tests.{leb-true, leb-false, eqb-true}
 use Rattle.meaning.specs.Choice.{pick}
 use Rattle.meaning.specs.Depths as Depth
 use Rattle.meaning.specs.Depths.{Depths}
@@ -21,17 +21,15 @@ use Rattle.meaning.specs.Reading.{child, further, endPadding, offsetStands, fie
 use Rattle.meaning.proofs.OffsetLaws.{encodedWidth-1, encodedWidth-2, encodedWidth-4}
 use Rattle.utils.specs.Checks as leaf
 use Rattle.utils.specs.declared.Checked as leafs
-use Rattle.signature.specs.Places.{letterAt, letterBy, letterOf}
-use Rattle.meaning.specs.TypeText.{basicAmong}
-use Rattle.signature.proofs.Letters.{cut, letter-some}
-use Rattle.signature.specs.declared.Letter.the-variants.{OpenStructure, CloseStructure}
+use Rattle.signature.specs.Places.{letterAt}
+use Rattle.signature.specs.declared.Letter.the-variants.{OpenStructure}
 use Rattle.signature.specs.Trees.{treeAt, fieldsAt, Rowed, Described}
 use Rattle.signature.specs.declared.shapes.Shape.{Shape}
 use Rattle.signature.proofs.TreeLaws.{LastField, NextField, structure-tree, structure-fixed, structure-alignment}
 use Rattle.events.specs.Slices.{nextEvent, put}
 use Rattle.reader_basic.specs.Answers.{Done, From, Between}
 use Rattle.reader_cycle.specs.Openings.{Deeper, Opens}
-use Rattle.reader_cycle.specs.Children.{endsAt, endsMissing, fieldEnds, ClosesAt}
+use Rattle.reader_cycle.specs.Children.{endsAt, endsMissing, fieldEnds}
 use Rattle.reader_cycle.specs.declared.ends.Ends.{Ends}
 use Rattle.reader_cycle.specs.declared.opening.Inner.{Inner}
 use Rattle.reader_cycle.specs.Places.{readerOf, readersOf, bodyIn, insideOf, fieldsOf}
@@ -234,25 +232,6 @@ ends-room lead w end part fx o q z = go fx (leb lead end) (leb w end) (eqb end l
     go false true true false h e = let v : o .refusal ≡ 3 = ap (λ (x : Ends). x .refusal) e in absurd (omega arith)
     go false true false c h e = let v : o .refusal ≡ 3 = ap (λ (x : Ends). x .refusal) e in absurd (omega arith)
     go false false b c h e = let v : o .refusal ≡ 3 = ap (λ (x : Ends). x .refusal) e in absurd (omega arith)
-
--- whether a structure's type ends at a place
-module _ (text : List ℕ) (at : ℕ) where
-  pub closes-past : length text ≤ at → ClosesAt text at false
-  closes-past h = record {
-    there = λ z. absurd (false≢true z);
-    missing = λ z q. let w = cut text at CloseStructure 41 q refl .within in absurd (omega arith);
-  }
-
-  pub closes-by : at < length text → ClosesAt text at (eqb (getD text at 0) 41)
-  unfolding letterBy basicAmong
-  closes-by h = record {
-    there = λ z. letter-some text at h ∙ ap letterOf (eqb-true (getD text at 0) 41 z);
-    missing = λ z q.
-        let c = cut text at CloseStructure 41 q refl .is in
-        let d = drop-cons text at 0 h in
-        let e : getD text at 0 ≡ 41 = cc in
-        eqb-false (getD text at 0) 41 z e;
-  }
 
 others : (p q : Bool) → (p && q) ≡ true → q ≡ true
 others true q h = h

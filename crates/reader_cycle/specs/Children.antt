@@ -1,4 +1,4 @@
--- Where children end by an offset; where a type ends; a variant of one letter. Assumes nothing: these are definitions.
+-- Where children end by an offset; a variant of one letter. Assumes nothing: these are definitions.
 use mathlib.Core.Path.{_≡_}
 use mathlib.Core.List.{List}
 use mathlib.Core.Bool.{Bool, true, false, _&&_}
@@ -12,7 +12,7 @@ use Rattle.meaning.specs.Refusals.{outOfBounds}
 use Rattle.signature.specs.Places.{letterAt}
 use Rattle.signature.specs.Steps.{keyAlignment}
 use Rattle.signature.specs.declared.Letter.{Letter}
-use Rattle.signature.specs.declared.Letter.the-variants.{End, CloseStructure}
+use Rattle.signature.specs.declared.Letter.the-variants.{End}
 use Rattle.reader_cycle.specs.declared.ends.Ends.{Ends}
 
 abbrev pub endsAt : ℕ → ℕ → Ends
@@ -33,11 +33,6 @@ unfoldable pub fieldEnds : ℕ → ℕ → Bool → ℕ → List ℕ → Ends
 fieldEnds n w fx e l =
     pick fx (endsAt e 0)
     (pick (offsetStands n w e) (endsAt (n + fieldOffset n w e l) w) (endsMissing outOfBounds))
-
--- whether a structure's type ends at a place
-pub record ClosesAt (text : List ℕ) (at : ℕ) (r : Bool) : Type 0 where
-  pub there : r ≡ true → letterAt text at ≡ CloseStructure
-  pub missing : r ≡ false → letterAt text at ≡ CloseStructure → ⊥
 
 unfoldable pub onlyLetter : List ℕ → Letter
 onlyLetter l = pick (eqb (length l) 1) (letterAt l 0) End

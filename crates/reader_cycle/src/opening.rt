@@ -1,4 +1,9 @@
 // Opening a container: one more is open, and the refusal where that is one too many.
+use crate::ride::ONE_ARRAY;
+use crate::ride::ONE_MAYBE;
+use crate::ride::ONE_STRUCTURE;
+use crate::ride::ONE_VARIANT;
+use container_depths::ContainerDepths;
 use meaning::refusals::ARRAYS_TOO_DEEP;
 use meaning::refusals::CONTAINERS_TOO_DEEP;
 use meaning::refusals::STRUCTURES_TOO_DEEP;
@@ -21,7 +26,7 @@ fn is_full(ride: usize) -> bool
     requires { ⌜ depthRefusal (depthsOf (contextOf ride .depths)) ≡ 0 ⌝ }
     ensures { λ r. ⌜ r ≡ leb 64 (total (depthsOf (contextOf ride .depths))) ⌝ }
 {
-    64 <= ride / 4294967296 % 255
+    ContainerDepths::MAX_TOTAL <= ride / ONE_STRUCTURE % 255
 }
 
 pub(crate) fn in_maybe(ride: usize) -> Inner
@@ -36,7 +41,7 @@ pub(crate) fn in_maybe(ride: usize) -> Inner
     }
     Inner {
         refusal: 0,
-        ride: ride + 72057594037927936,
+        ride: ride + ONE_MAYBE,
     }
 }
 
@@ -52,7 +57,7 @@ pub(crate) fn in_variant(ride: usize) -> Inner
     }
     Inner {
         refusal: 0,
-        ride: ride + 281474976710656,
+        ride: ride + ONE_VARIANT,
     }
 }
 
@@ -60,7 +65,7 @@ pub(crate) fn in_array(ride: usize) -> Inner
     requires { ⌜ depthRefusal (depthsOf (contextOf ride .depths)) ≡ 0 ⌝ }
     ensures { λ r. ⌜ Opens array (contextOf ride) r ⌝ }
 {
-    if 32 <= ride / 1099511627776 % 256 {
+    if ContainerDepths::MAX_ARRAY <= ride / ONE_ARRAY % 256 {
         return Inner {
             refusal: ARRAYS_TOO_DEEP,
             ride,
@@ -74,7 +79,7 @@ pub(crate) fn in_array(ride: usize) -> Inner
     }
     Inner {
         refusal: 0,
-        ride: ride + 1099511627776,
+        ride: ride + ONE_ARRAY,
     }
 }
 
@@ -82,7 +87,7 @@ pub(crate) fn in_structure(ride: usize) -> Inner
     requires { ⌜ depthRefusal (depthsOf (contextOf ride .depths)) ≡ 0 ⌝ }
     ensures { λ r. ⌜ Opens structure (contextOf ride) r ⌝ }
 {
-    if 32 <= ride / 4294967296 % 256 {
+    if ContainerDepths::MAX_STRUCTURE <= ride / ONE_STRUCTURE % 256 {
         return Inner {
             refusal: STRUCTURES_TOO_DEEP,
             ride,
@@ -96,6 +101,6 @@ pub(crate) fn in_structure(ride: usize) -> Inner
     }
     Inner {
         refusal: 0,
-        ride: ride + 4294967296,
+        ride: ride + ONE_STRUCTURE,
     }
 }

@@ -7,6 +7,15 @@ ghost use Prim.Native.Nat.{_≤_};
 ghost use Rattle.meaning.specs.Limits.{largestFrame};
 ghost use Rattle.reader_cycle.specs.Rides.{openIn, contextOf, Begins};
 
+// What one more open container of each kind adds.
+pub(crate) const ONE_STRUCTURE: usize = 4294967296;
+
+pub(crate) const ONE_ARRAY: usize = 1099511627776;
+
+pub(crate) const ONE_VARIANT: usize = 281474976710656;
+
+pub(crate) const ONE_MAYBE: usize = 72057594037927936;
+
 // Of a frame at a position, with no container open.
 pub fn ride_of(position: usize, big: bool) -> usize
     requires { ⌜ position ≤ largestFrame ⌝ }

@@ -14,6 +14,7 @@ use reader_basic::basic::offset_before;
 use reader_basic::behind;
 use reader_basic::refused;
 use signature::Letter;
+use signature::closes_at;
 use signature::shapes::Shape;
 use signature::shapes::shape_in;
 ghost use mathlib.Core.Path.{_≡_};
@@ -31,7 +32,7 @@ ghost use Rattle.signature.specs.Trees.{treeAt, Described};
 ghost use Rattle.reader_basic.specs.Answers.{From, Between};
 ghost use Rattle.reader_basic.specs.Parts.{Inside};
 ghost use Rattle.reader_cycle.specs.Places.{insideOf};
-ghost use Rattle.reader_cycle.specs.Children.{fieldEnds, ClosesAt};
+ghost use Rattle.reader_cycle.specs.Children.{fieldEnds};
 ghost use Rattle.reader_cycle.specs.Rides.{contextOf};
 
 // A structure, in one function with the loop over its fields. A field that is neither fixed nor last takes its end from the back of the table.
@@ -85,16 +86,6 @@ pub(crate) fn structure(
         m = r.count;
         i = field.next;
     }
-}
-
-// Whether a structure's type ends at a place of the text.
-pub(crate) fn closes_at(text: &[u8], at: usize) -> bool
-    ensures { λ r. ⌜ ClosesAt (now (text .entry)) at r ⌝ }
-{
-    if text.len() <= at {
-        return false;
-    }
-    text[at] == b')'
 }
 
 // Where a field that is not the last ends, in a structure that begins at lead and whose table reaches to an end.

@@ -25,7 +25,7 @@ use cycle.Lts-structure-structure as structure·structure-lts
 use of.opening.in_structure.Reads as in-structure-reads
 use of.ride.position_of.Reads as position-of-reads
 use of.structure.close_fields.Reads as close-fields-reads
-use of.structure.closes_at.Reads as closes-at-reads
+use Rattle.signature.proofs.closes_at.Reads as closes-at-reads
 use of.structure.field_ends.Reads as field-ends-reads
 use of.structure.structure.Reads as structure·structure
 use of.value.Reads as value

@@ -204,6 +204,7 @@ pub fn write_into(signature: &str, order: Order, events: &EventList, out: &mut [
 /// 1; 2 where `used` is over the buffer or over 65,536; 3 to 12 where the frame does not read; 15 where it reads and is not in that form; 16 where there is
 /// no such reading; 17 where the bits are no value of its type; 12 where a nothing inside 64 containers would become present; 2 where the new frame
 /// is over 65,536 bytes; 13 where it is over the buffer. Buffer and `used` are then as they were.
+/// A withdrawal (`None`) meets none of the last four: it needs no spare room, and never makes a frame longer.
 pub fn edit(
     signature: &str,
     order: Order,

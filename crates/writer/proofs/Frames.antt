@@ -21,13 +21,14 @@ use Rattle.signature.specs.Places.{isType}
 use Rattle.signature.specs.Trees.{treeAt}
 use Rattle.signature.proofs.Answers.{judged-none}
 use Rattle.signature.proofs.TreeLaws.{front}
-use Rattle.writer_basic.specs.Stores.{cap}
+use Rattle.writer_basic.specs.Stores.{cap, puts}
 use Rattle.writer_basic.specs.Wrote.{Made, Done, Shallow, Placed}
 use Rattle.writer_basic.specs.declared.Answer.{Answer}
 use Rattle.writer_basic.specs.declared.Context.{Context}
 use Rattle.writer_basic.proofs.Answers.{made-of, fault-of}
+use Rattle.writer_basic.proofs.Puts.{puts-room}
 use Rattle.writer_cycle.specs.Places.{valueOf}
-use Rattle.writer.specs.Answers.{answerOf, frameOf, MadeFrame, SaysFrame, WroteFrame}
+use Rattle.writer.specs.Answers.{answerOf, frameOf, MadeFrame, SaysFrame, WroteFrame, Judged, faulty, left, long, full, good}
 
 -- ---- the walk
 
@@ -35,13 +36,13 @@ use Rattle.writer.specs.Answers.{answerOf, frameOf, MadeFrame, SaysFrame
 pub start-shallow : (big : Bool) (d : ContainerDepths) → depthsOf d ≡ noneOpen → Shallow (record { big = big; depths = d })
 start-shallow big d e = record { is = rw e (unfold depthRefusal in refl) }
 
--- a piece that stands at the front of an output of its length is the output
-whole-bytes : (bs l l′ : List ℕ) → take (0 + length bs) l′ ≡ take 0 l ++ bs → length l′ ≡ length l → length bs ≡ length l → l′ ≡ bs
-whole-bytes bs l l′ e n h = let z : 0 + length bs ≡ length bs = omega arith in sym (take-all (length bs) l′ (omega arith)) ∙ (rw z at e)
+-- a piece stands at the front
+front-bytes : (bs l l′ : List ℕ) → take (0 + length bs) l′ ≡ take 0 l ++ bs → take (length bs) l′ ≡ bs
+front-bytes bs l l′ e = let z : 0 + length bs ≡ length bs = omega arith in rw z at e
 
-pub whole-done : (type : List ℕ) (big : Bool) (ns texts : List ℕ) (d : ContainerDepths) (x : ℕ) (l l′ s s′ : List ℕ) (r : Answer) → depthsOf d ≡ noneOpen → x ≡ 0 → length s ≡ 128 → length l′ ≡ length l
+pub whole-done : (type : List ℕ) (big : Bool) (ns texts : List ℕ) (d : ContainerDepths) (x : ℕ) (l l′ s s′ : List ℕ) (r : Answer) → depthsOf d ≡ noneOpen → x ≡ 0 → length s ≡ 128
     → Done (valueOf texts big (d .variant) (treeAt type x) (depthsOf d) (drop 0 ns)) ns 0 0 0 l l′ s s′ r → WroteFrame (frameOf type big ns texts) ns l l′ r
-whole-done type big ns texts d x l l′ s s′ r e h m n g =
+whole-done type big ns texts d x l l′ s s′ r e h m g =
     let y : Done (valueOf texts big (d .variant) (treeAt type 0) (depthsOf d) (drop 0 ns)) ns 0 0 0 l l′ s s′ r = rw h at g in
     let w : Done (frameOf type big ns texts) ns 0 0 0 l l′ s s′ r = subst (λ (x : Depths). Done (emit texts big (65 - x .variant) (treeAt type 0) x (drop 0 ns)) ns 0 0 0 l l′ s s′ r) e y in
     record { says = go (frameOf type big ns texts) (w .says) }
@@ -51,7 +52,7 @@ whole-done type big ns texts d x l l′ s s′ r e h m n g =
       refusal = f .refusal;
       behind = f .behind;
       size = f .size;
-      stored = λ k i. whole-bytes (c .bytes) l l′ (f .stored (record { inside = omega arith; limit = i; ready = omega arith }) .bytes-are) n k;
+      stored = λ k i. front-bytes (c .bytes) l l′ (f .stored (record { inside = omega arith; limit = i; ready = omega arith }) .bytes-are);
     }
     go (fault k) f = f
 
@@ -103,7 +104,7 @@ module _ (type : List ℕ) (big : Bool) (ns texts out : List ℕ) where
     emitted-is = frame-emitted type big ns texts (treeAt type 0) (front type h .type)
 
     module _ (l l′ : List ℕ) (r : Answer) (d : WroteFrame (frameOf type big ns texts) ns l l′ r) where
-      pub write-fault : (r .refusal ≡ 0 → ⊥) → Answers (r .refusal) 0 out
+      write-fault : (r .refusal ≡ 0 → ⊥) → Answers (r .refusal) 0 out
       unfolding frameEmitted
       write-fault z = refused-is (r .refusal) (emitted-is ∙ ap frameEmitted (frame-fault d z))
 
@@ -113,7 +114,7 @@ module _ (type : List ℕ) (big : Bool) (ns texts out : List ℕ) where
         more-left [] c p = absurd (omega arith)
         more-left (k ∷ x) c p = refl
 
-        pub write-left : r .next < length ns → Answers 17 0 out
+        write-left : r .next < length ns → Answers 17 0 out
         write-left p =
             let m = frame-of d z in
             refused-is 17 (emitted-is ∙ ap frameEmitted (m .is ∙ ap (built (m .piece)) (m .facts .behind)) ∙ more-left (drop (r .next) ns) (m .piece) (rw (length-drop (r .next) ns) (omega arith)))
@@ -125,7 +126,7 @@ module _ (type : List ℕ) (big : Bool) (ns texts out : List ℕ) where
               let y : drop (r .next) ns ≡ [] = drop-of-length-le ns p in
               emitted-is ∙ ap frameEmitted (m .is ∙ ap (built (m .piece)) (m .facts .behind ∙ y))
 
-          pub write-long : 65536 < r .size → Answers 2 0 out
+          write-long : 65536 < r .size → Answers 2 0 out
           unfolding limited
           write-long q = let m = frame-of d z in refused-is 2 (whole-is m ∙ rw (lt-leb (length (m .piece .bytes)) largestFrame (omega (arith, m .facts .size))))
 
@@ -137,7 +138,7 @@ module _ (type : List ℕ) (big : Bool) (ns texts out : List ℕ) where
             size-is : (m : IsFrame (frameOf type big ns texts) ns l l′ r) → r .size ≡ length (m .piece .bytes)
             size-is m = omega (arith, m .facts .size)
 
-            pub write-full : length out < r .size → Answers 13 0 out
+            write-full : length out < r .size → Answers 13 0 out
             unfolding write writeSlice roomed writeAnswered outputWith
             write-full w =
                 let m = frame-of d z in
@@ -145,16 +146,57 @@ module _ (type : List ℕ) (big : Bool) (ns texts out : List ℕ) where
                 let k = lt-leb (length (m .piece .bytes)) (length out) (omega (arith, size-is m)) in
                 (rw (e, k), rw (e, k))
 
-            -- the second walk, over an output of the frame's length
-            pub write-done : (part part′ : List ℕ) (r′ : Answer) → length part ≡ r .size → r .size ≤ length out → WroteFrame (frameOf type big ns texts) ns part part′ r′ → Answers 0 (r .size) (part′ ++ drop (r .size) out)
-            write-done part part′ r′ n w g =
-                let m = frame-of d z in
-                let y = size-is m in
-                let k : part′ ≡ m .piece .bytes = stored-by (frameOf type big ns texts) (m .piece) (m .rest) (m .is) (g .says) (sym y ∙ sym n) (omega arith) in
-                let b : length (m .piece .bytes) ≤ length out = omega arith in (
-                  ap (writeAnswer 0) y ∙ sym (answer-is (framed 0 (m .piece .bytes)) (short-is m) b),
-                  ap (λ (x : List ℕ). x ++ drop (r .size) out) k ∙ (ap (λ (u : ℕ). m .piece .bytes ++ drop u out) y ∙ sym (slice-is (framed 0 (m .piece .bytes)) (short-is m) b)),
-                )
+            -- a walk over an output with room for the frame has the frame's bytes in front
+            front-of : (m : IsFrame (frameOf type big ns texts) ns l l′ r) (part part′ : List ℕ) (r′ : Answer) → WroteFrame (frameOf type big ns texts) ns part part′ r′ → r .size ≤ length part → length part ≤ largestFrame → take (r .size) part′ ≡ m .piece .bytes
+            front-of m part part′ r′ g i j = ap (λ (u : ℕ). take u part′) (size-is m) ∙ go (frameOf type big ns texts) (m .is) (g .says)
               where
-                stored-by : (x : Built Piece) (c : Piece) (rest : List ℕ) → x ≡ built c rest → SaysFrame x ns part part′ r′ → length (c .bytes) ≡ length part → length part ≤ 65536 → part′ ≡ c .bytes
-                stored-by x c rest e f i j = (rw e at f) .stored i j
+                go : (x : Built Piece) → x ≡ built (m .piece) (m .rest) → SaysFrame x ns part part′ r′ → take (length (m .piece .bytes)) part′ ≡ m .piece .bytes
+                go x e f = (rw e at f) .stored (omega (arith, size-is m)) j
+
+            module _ (w : r .size ≤ length out) where
+              done-with : (m : IsFrame (frameOf type big ns texts) ns l l′ r) (out′ : List ℕ) → out′ ≡ m .piece .bytes ++ drop (r .size) out → Answers 0 (r .size) out′
+              done-with m out′ k =
+                  let y = size-is m in
+                  let b : length (m .piece .bytes) ≤ length out = omega arith in
+                  (ap (writeAnswer 0) y ∙ sym (answer-is (framed 0 (m .piece .bytes)) (short-is m) b), k ∙ (ap (λ (u : ℕ). m .piece .bytes ++ drop u out) y ∙ sym (slice-is (framed 0 (m .piece .bytes)) (short-is m) b)))
+
+              -- the second walk, over an output of the frame's length
+              pub write-again : (part part′ : List ℕ) (r′ : Answer) → length part ≡ r .size → length part′ ≡ length part → WroteFrame (frameOf type big ns texts) ns part part′ r′ → Answers 0 (r .size) (part′ ++ drop (r .size) out)
+              write-again part part′ r′ n n′ g =
+                  let m = frame-of d z in
+                  let k : part′ ≡ m .piece .bytes = sym (take-all (r .size) part′ (omega arith)) ∙ front-of m part part′ r′ g (omega arith) (omega arith) in
+                  done-with m (part′ ++ drop (r .size) out) (ap (λ (x : List ℕ). x ++ drop (r .size) out) k)
+
+              -- the first walk's bytes, where they were held
+              pub write-held : (out′ : List ℕ) → r .size ≤ length l → length l ≤ largestFrame → out′ ≡ puts out 0 (take (r .size) l′) → Answers 0 (r .size) out′
+              write-held out′ i j e =
+                  let m = frame-of d z in
+                  let k = front-of m l l′ r d i j in
+                  let y : 0 + length (m .piece .bytes) ≡ r .size = omega (arith, size-is m) in
+                  done-with m out′ (e ∙ ap (puts out 0) k ∙ puts-room (m .piece .bytes) out 0 (omega arith) ∙ ap (λ (u : ℕ). m .piece .bytes ++ drop u out) y)
+
+      -- what the walk's answer is refused for, and what is known where it is not
+      pub write-refused : (n : ℕ) → Judged r (length ns) (length out) n → (n ≡ 0 → ⊥) → Answers n 0 out
+      write-refused n (faulty z e) k = rw e (write-fault z)
+      write-refused n (left z p e) k = rw e (write-left z p)
+      write-refused n (long z p q e) k = rw e (write-long z p q)
+      write-refused n (full z p q w e) k = rw e (write-full z p q w)
+      write-refused n (good z p q w e) k = absurd (k e)
+
+-- a walk that is not refused
+pub record Good (a : Answer) (numbers room : ℕ) : Type 0 where
+  pub refusal : a .refusal ≡ 0
+  pub all : numbers ≤ a .next
+  pub short : a .size ≤ largestFrame
+  pub fits : a .size ≤ room
+
+pub judged-good : (a : Answer) (numbers room n : ℕ) → Judged a numbers room n → n ≡ 0 → Good a numbers room
+judged-good a numbers room n (faulty z e) k = absurd (z (sym e ∙ k))
+judged-good a numbers room n (left z p e) k = absurd (omega arith)
+judged-good a numbers room n (long z p q e) k = absurd (omega arith)
+judged-good a numbers room n (full z p q w e) k = absurd (omega arith)
+judged-good a numbers room n (good z p q w e) k = record { refusal = z; all = p; short = q; fits = w }
+
+-- the bytes that were held fit where the frame does
+pub held-fits : (n m : ℕ) (l : List ℕ) → n ≤ length l → n ≤ m → 0 + length (take n l) ≤ m
+held-fits n m l h k = rw (length-take-le n l h) (omega arith)

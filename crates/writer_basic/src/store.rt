@@ -220,7 +220,7 @@ fn copy_few(out: &mut [u8], at: usize, part: &[u8])
 }
 
 // All of a part, for which there is room. A short one by two steps, which may overlap.
-fn copy_all(out: &mut [u8], at: usize, part: &[u8])
+pub fn copy_all(out: &mut [u8], at: usize, part: &[u8])
     requires { ⌜ at + length (now part) ≤ length (now out) ⌝ }
     ensures { λ r. ⌜ now (out .exit) ≡ puts (now (out .entry)) at (now (part .entry)) ⌝ }
 {

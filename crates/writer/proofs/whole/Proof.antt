@@ -39,7 +39,7 @@ same-length c = search needs
 
 -- src/lib.rt:67:1
 returns : tie.Need-returns
-returns c = whole-done _ _ _ _ _ _ _ _ _ _ _ (c .before .before .before .before .before .before .before .new .ensures) (ap (λ (s : Shape). s .at) (c .before .before .before .before .before .before .shape-in .ensures)) refl (omega arith) (c .before .before .before .value .ensures)
+returns c = whole-done _ _ _ _ _ _ _ _ _ _ _ (c .before .before .before .before .before .before .before .new .ensures) (ap (λ (s : Shape). s .at) (c .before .before .before .before .before .before .shape-in .ensures)) refl (c .before .before .before .value .ensures)
 
 pub whole-spec : {M : Type 1} → statement M
 whole-spec =

@@ -28,8 +28,8 @@ use Rattle.meaning_writing.proofs.ChangedLaws.{change}
 use Rattle.meaning_writing.proofs.EditingLaws.{passed, edit-refusal}
 use Rattle.signature.specs.Trees.{treeAt}
 use Rattle.editor_basic.specs.Puts.{over}
-use Rattle.editor_cycle.specs.Walks.{newOf, barred}
-use Rattle.editor_cycle.specs.declared.answers.Walked.{Walked}
+use Rattle.editor_steps.specs.Walks.{newOf, barred}
+use Rattle.editor_steps.specs.declared.answers.Walked.{Walked}
 use Rattle.editor.specs.Answers.{WrittenFrame, WalksFrame, Found, Changing, Storing}
 use Rattle.editor.specs.declared.Target.{Target}
 use Rattle.editor.proofs.Edits.{Answers, changedFrame, refused-is, type-is, change-barred, changing-is}

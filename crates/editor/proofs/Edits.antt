@@ -30,9 +30,9 @@ use Rattle.signature.proofs.Answers.{judged-none}
 use Rattle.signature.proofs.TreeLaws.{front}
 use Rattle.strict_basic.specs.Sizes.{Tabled}
 use Rattle.strict.specs.Answers.{writtenAs, unwritten, writtenRefusal}
-use Rattle.editor_cycle.specs.Walks.{newOf, barred}
-use Rattle.editor_cycle.specs.declared.answers.Aim.{Aim}
-use Rattle.editor_cycle.specs.declared.answers.Walked.{Walked}
+use Rattle.editor_steps.specs.Walks.{newOf, barred}
+use Rattle.editor_steps.specs.declared.answers.Aim.{Aim}
+use Rattle.editor_steps.specs.declared.answers.Walked.{Walked}
 use Rattle.editor.specs.Answers.{WrittenFrame, Held, WalksFrame, Changing}
 use Rattle.editor.proofs.Tails.{used-short}
 

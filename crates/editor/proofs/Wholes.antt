@@ -10,8 +10,8 @@ use Rattle.meaning_writing.specs.Readings.{MaybeNumber}
 use Rattle.container_depths.specs.Opening.{depthsOf}
 use Rattle.container_depths.specs.declared.ContainerDepths.{ContainerDepths}
 use Rattle.strict_basic.specs.Items.{treeTest}
-use Rattle.editor_cycle.specs.Walks.{treeEditor, Walks, most, Ready}
-use Rattle.editor_cycle.specs.declared.answers.Walked.{Walked}
+use Rattle.editor_steps.specs.Walks.{treeEditor, Walks, most, Ready}
+use Rattle.editor_steps.specs.declared.answers.Walked.{Walked}
 use Rattle.editor.specs.Answers.{WrittenFrame, fresh, WalksFrame}
 
 module _ (d : ContainerDepths) (e : depthsOf d ≡ noneOpen) (type : List ℕ) (at : ℕ) (z : at ≡ 0) (frame : List ℕ) where

@@ -14,11 +14,11 @@ use Rattle.container_depths.specs.declared.ContainerDepths.{ContainerDepths}
 use Rattle.signature.specs.Places.{isType}
 use Rattle.signature.specs.Trees.{treeAt}
 use Rattle.strict_basic.specs.Sizes.{Tabled}
-use Rattle.editor_cycle.specs.Walks.{newOf, barred, Walks, most}
-use Rattle.editor_cycle.specs.declared.answers.New.{New}
-use Rattle.editor_cycle.specs.declared.answers.New.the-variants.{Nothing, Number}
-use Rattle.editor_cycle.specs.declared.answers.Walked.{Walked}
-use Rattle.editor_cycle.specs.declared.answers.Aim.{Aim}
+use Rattle.editor_steps.specs.Walks.{newOf, barred, Walks, most}
+use Rattle.editor_steps.specs.declared.answers.New.{New}
+use Rattle.editor_steps.specs.declared.answers.New.the-variants.{Nothing, Number}
+use Rattle.editor_steps.specs.declared.answers.Walked.{Walked}
+use Rattle.editor_steps.specs.declared.answers.Aim.{Aim}
 use Rattle.editor.specs.declared.Edited.{Edited}
 use Rattle.editor.specs.declared.Target.{Target}
 

@@ -4,10 +4,10 @@
 use container_depths::ContainerDepths;
 use editor_basic::mover::put_part;
 use editor_basic::mover::put_zeros;
-use editor_cycle::answers::Aim;
-use editor_cycle::answers::New;
-use editor_cycle::answers::Walked;
 use editor_cycle::value;
+use editor_steps::answers::Aim;
+use editor_steps::answers::New;
+use editor_steps::answers::Walked;
 use meaning::limits::LARGEST_FRAME;
 use meaning::refusals::NO_SUCH_READING;
 use meaning::refusals::OVER_LIMIT;
@@ -21,7 +21,7 @@ ghost use mathlib.Core.Path.{_≡_};
 ghost use Prim.Native.Nat.{_≤_};
 ghost use lib.ListN.{length as lengthOf};
 ghost use Rattle.meaning_writing.specs.Editing.{lengthRefusal, edit as editOf, editBuffer};
-ghost use Rattle.editor_cycle.specs.Walks.{newOf};
+ghost use Rattle.editor_steps.specs.Walks.{newOf};
 ghost use Rattle.editor.specs.Answers.{answerOf, newBy, Edits, WrittenFrame, Held, WalksFrame, Changing, Storing};
 
 // The most bytes of a frame that is kept in a small array.

@@ -1,15 +1,15 @@
 // Arrays and dictionaries.
-use crate::answers::Aim;
-use crate::answers::Walked;
-use crate::answers::counted;
-use crate::closing::close_element;
 use crate::dictionary::step;
-use crate::reading::is_slot;
-use crate::readings::readings;
-use crate::starts::elements_of;
 use container_depths::ContainerDepths;
 use editor_basic::elements::behind;
 use editor_basic::elements::first_element;
+use editor_steps::answers::Aim;
+use editor_steps::answers::Walked;
+use editor_steps::answers::counted;
+use editor_steps::closing::close_element;
+use editor_steps::reading::is_slot;
+use editor_steps::readings::readings;
+use editor_steps::starts::elements_of;
 use signature::Letter;
 use signature::items::Item;
 use signature::items::item_of;
@@ -19,7 +19,7 @@ ghost use Rattle.container_depths.specs.Opening.{depthsOf};
 ghost use Rattle.signature.specs.Places.{letterAt};
 ghost use Rattle.strict_basic.specs.Items.{Placed, treeTest};
 ghost use Prim.Native.Nat.{_+_};
-ghost use Rattle.editor_cycle.specs.Walks.{newOf, treeEditor, Walks, containerMost, most, Ready, itemEditor, itemTest, Repeats, elementsTest, elementsEditor};
+ghost use Rattle.editor_steps.specs.Walks.{newOf, treeEditor, Walks, containerMost, most, Ready, itemEditor, itemTest, Repeats, elementsTest, elementsEditor};
 
 pub(crate) fn array(
     text: &[u8],

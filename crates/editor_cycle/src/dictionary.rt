@@ -1,15 +1,15 @@
 // What an array or a dictionary repeats.
-use crate::answers::Aim;
-use crate::answers::Walked;
-use crate::answers::counted;
-use crate::closing::close_last;
-use crate::starts::entry_of;
 use crate::value;
 use container_depths::ContainerDepths;
+use editor_steps::answers::Aim;
+use editor_steps::answers::Walked;
+use editor_steps::answers::counted;
+use editor_steps::closing::close_last;
+use editor_steps::starts::entry_of;
 use signature::items::Item;
 ghost use Prim.Native.Nat.{_+_};
 ghost use Rattle.container_depths.specs.Opening.{depthsOf};
-ghost use Rattle.editor_cycle.specs.Walks.{newOf, Walks, entryMost, most, Ready, itemEditor, itemTest, Repeats};
+ghost use Rattle.editor_steps.specs.Walks.{newOf, Walks, entryMost, most, Ready, itemEditor, itemTest, Repeats};
 
 // An element, or an entry: a key, which holds no reading, and a value.
 pub(crate) fn step(

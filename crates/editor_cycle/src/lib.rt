@@ -1,30 +1,25 @@
 // The walk of the edit: functions that call each other as containers nest. It counts readings until it meets the one that is asked for, puts
 // that at the front of the tail that it is lent, and on its way back puts what stands behind it, container after container outwards. Into a
 // tail of no length nothing is put, and the walk only measures. Here: a value; each kind of container has a module.
-pub mod answers;
 mod array;
-mod closing;
 mod dictionary;
 mod maybe;
-mod reading;
-mod readings;
-mod starts;
 mod structure;
 mod variant;
 
-use crate::answers::Aim;
-use crate::answers::Walked;
-use crate::answers::counted;
 use crate::array::array;
 use crate::maybe::maybe;
 use crate::structure::structure;
 use crate::variant::variant;
 use container_depths::ContainerDepths;
+use editor_steps::answers::Aim;
+use editor_steps::answers::Walked;
+use editor_steps::answers::counted;
 use signature::Letter;
 use signature::shapes::Shape;
 ghost use Rattle.container_depths.specs.Opening.{depthsOf};
 ghost use Rattle.strict_basic.specs.Items.{Placed, treeTest};
-ghost use Rattle.editor_cycle.specs.Walks.{newOf, treeEditor, Walks, most, Ready};
+ghost use Rattle.editor_steps.specs.Walks.{newOf, treeEditor, Walks, most, Ready};
 
 // A value that fills a part, which stands at a place of the frame.
 pub fn value(

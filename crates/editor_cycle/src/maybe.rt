@@ -1,12 +1,12 @@
 // Maybes: readings, and others.
-use crate::answers::Aim;
-use crate::answers::Walked;
-use crate::answers::counted;
-use crate::closing::close_maybe;
-use crate::reading::is_slot;
-use crate::reading::reading;
 use crate::value;
 use container_depths::ContainerDepths;
+use editor_steps::answers::Aim;
+use editor_steps::answers::Walked;
+use editor_steps::answers::counted;
+use editor_steps::closing::close_maybe;
+use editor_steps::reading::is_slot;
+use editor_steps::reading::reading;
 use signature::Letter;
 use signature::shapes::Shape;
 use signature::shapes::shape_in;
@@ -14,7 +14,7 @@ ghost use mathlib.Core.Path.{_≡_};
 ghost use Rattle.container_depths.specs.Opening.{depthsOf};
 ghost use Rattle.signature.specs.Places.{letterAt};
 ghost use Rattle.strict_basic.specs.Items.{Placed, treeTest};
-ghost use Rattle.editor_cycle.specs.Walks.{newOf, treeEditor, Walks, most, Ready};
+ghost use Rattle.editor_steps.specs.Walks.{newOf, treeEditor, Walks, most, Ready};
 
 pub(crate) fn maybe(
     text: &[u8],

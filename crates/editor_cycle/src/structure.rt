@@ -1,14 +1,14 @@
 // Structures.
-use crate::answers::Aim;
-use crate::answers::Walked;
-use crate::answers::counted;
-use crate::closing::close_field;
-use crate::starts::row_of;
 use crate::value;
 use container_depths::ContainerDepths;
 use editor_basic::fields::Row;
 use editor_basic::fields::behind_field;
 use editor_basic::fields::first_field;
+use editor_steps::answers::Aim;
+use editor_steps::answers::Walked;
+use editor_steps::answers::counted;
+use editor_steps::closing::close_field;
+use editor_steps::starts::row_of;
 use signature::Letter;
 use signature::shapes::Shape;
 use signature::shapes::shape_in;
@@ -18,8 +18,8 @@ ghost use Rattle.container_depths.specs.Opening.{depthsOf};
 ghost use Rattle.signature.specs.Places.{letterAt};
 ghost use Rattle.strict_basic.specs.Items.{Placed, treeTest};
 ghost use Prim.Native.Nat.{_+_};
-ghost use Rattle.editor_cycle.specs.Walks.{newOf, treeEditor, Walks, containerMost, most, Ready, rowTest, rowEditor};
-ghost use Rattle.editor_cycle.specs.Starts.{AllRow, rowTests, rowEditors};
+ghost use Rattle.editor_steps.specs.Walks.{newOf, treeEditor, Walks, containerMost, most, Ready, rowTest, rowEditor};
+ghost use Rattle.editor_steps.specs.Starts.{AllRow, rowTests, rowEditors};
 
 pub(crate) fn structure(
     text: &[u8],

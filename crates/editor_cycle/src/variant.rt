@@ -1,17 +1,17 @@
 // Variants.
-use crate::answers::Aim;
-use crate::answers::Walked;
-use crate::answers::counted;
-use crate::closing::close_variant;
 use crate::value;
 use container_depths::ContainerDepths;
+use editor_steps::answers::Aim;
+use editor_steps::answers::Walked;
+use editor_steps::answers::counted;
+use editor_steps::closing::close_variant;
 use reader_basic::basic::separator;
 use signature::Letter;
 use signature::shapes::shape_in;
 use strict_basic::sizes::TABLE;
 use strict_basic::sizes::tables_of;
 ghost use Rattle.container_depths.specs.Opening.{depthsOf};
-ghost use Rattle.editor_cycle.specs.Walks.{newOf, Walks, most, Ready, variantTest, variantEditor};
+ghost use Rattle.editor_steps.specs.Walks.{newOf, Walks, most, Ready, variantTest, variantEditor};
 
 // A variant: its type stands at its end, behind a nul.
 pub(crate) fn variant(

@@ -4,8 +4,8 @@ use mathlib.Core.List.{List}
 use mathlib.Core.Bool.{Bool}
 use Prim.Native.Nat.{ℕ}
 use Rattle.meaning_writing.specs.Editing.{EditAnswer, edit, editBuffer}
-use Rattle.editor_cycle.specs.declared.answers.New.{New}
-use Rattle.editor_cycle.specs.Walks.{newOf}
+use Rattle.editor_steps.specs.declared.answers.New.{New}
+use Rattle.editor_steps.specs.Walks.{newOf}
 use borrow.Author.Needs.{needs}
 use Rattle.bogtassel.proofs.bogtassel_edit.Statement.{statement}
 use Rattle.bogtassel.proofs.bogtassel_edit.Tie as tie

@@ -1,8 +1,8 @@
 -- The needs of `array·array`, and what answers each.
 use Prim.Native.Nat.{ℕ}
-use Rattle.editor_cycle.proofs.Items.{array-deeper, array-fixed, array-walks, elements-ready, item-is, repeats}
-use Rattle.editor_cycle.proofs.ReadingsLaws.{each-ready, each-slot, each-walks}
-use Rattle.editor_cycle.proofs.WalkLaws.{counts}
+use Rattle.editor_steps.proofs.Items.{array-deeper, array-fixed, array-walks, elements-ready, item-is, repeats}
+use Rattle.editor_steps.proofs.ReadingsLaws.{each-ready, each-slot, each-walks}
+use Rattle.editor_steps.proofs.WalkLaws.{counts}
 use borrow.Author.Needs.{needs}
 use mathlib.Core.Path.{_∙_, refl, sym}
 use native.Mathlib.Omega.{arith}
@@ -11,11 +11,11 @@ use Rattle.editor_cycle.proofs.+array-array+array-elements+dictionary-s
 use cycle.Proof.Measures.{array·array-at, array·elements-below}
 use Rattle.container_depths.proofs.ContainerDepths.inc_array.Reads as inc-array-reads
 use cycle.Lts-array-array as array·array-lts
-use of.answers.counted.Reads as counted-reads
+use Rattle.editor_steps.proofs.answers.counted.Reads as counted-reads
 use of.array.array.Reads as array·array
 use of.array.elements.Reads as array·elements
-use of.reading.is_slot.Reads as is-slot-reads
-use of.readings.readings.Reads as readings-reads
+use Rattle.editor_steps.proofs.reading.is_slot.Reads as is-slot-reads
+use Rattle.editor_steps.proofs.readings.readings.Reads as readings-reads
 use Rattle.signature.proofs.items.item_of.Reads as item-of-reads
 
 abbrev array·array-callees : ℕ → array·array-lts.Claims

@@ -2,9 +2,9 @@
 use Prim.Native.Nat.{_+_, ℕ}
 use Rattle.container_depths.specs.Opening.{depthsOf}
 use Rattle.editor_basic.specs.declared.elements.Elements.{Elements}
-use Rattle.editor_cycle.proofs.Arrays.{ElementsLeft, body-inside, element-beyond, element-fits, element-ready, elements-begin, elements-behind, elements-counted, elements-found, elements-less, elements-turn}
-use Rattle.editor_cycle.proofs.Values.{most-small}
-use Rattle.editor_cycle.specs.Walks.{containerMost, entryMost, itemEditor, itemTest, most, newOf}
+use Rattle.editor_steps.proofs.Arrays.{ElementsLeft, body-inside, element-beyond, element-fits, element-ready, elements-begin, elements-behind, elements-counted, elements-found, elements-less, elements-turn}
+use Rattle.editor_steps.proofs.Values.{most-small}
+use Rattle.editor_steps.specs.Walks.{containerMost, entryMost, itemEditor, itemTest, most, newOf}
 use borrow.Author.Needs.{needs}
 use lib.ListN.{length}
 use mathlib.Core.Path.{_≡_, ap, refl}
@@ -15,11 +15,11 @@ use cycle.Proof.Measures.{array·elements-at, dictionary·step-below}
 use Rattle.editor_basic.proofs.elements.behind.Reads as behind-reads
 use Rattle.editor_basic.proofs.elements.first_element.Reads as first-element-reads
 use cycle.Lts-array-elements as array·elements-lts
-use of.answers.counted.Reads as counted-reads
+use Rattle.editor_steps.proofs.answers.counted.Reads as counted-reads
 use of.array.elements.Reads as array·elements
-use of.closing.close_element.Reads as close-element-reads
+use Rattle.editor_steps.proofs.closing.close_element.Reads as close-element-reads
 use of.dictionary.step.Reads as dictionary·step
-use of.starts.elements_of.Reads as elements-of-reads
+use Rattle.editor_steps.proofs.starts.elements_of.Reads as elements-of-reads
 
 abbrev array·elements-callees : ℕ → array·elements-lts.Claims
 array·elements-callees t = (

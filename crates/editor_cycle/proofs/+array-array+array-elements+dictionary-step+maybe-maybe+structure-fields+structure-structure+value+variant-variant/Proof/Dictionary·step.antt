@@ -1,7 +1,7 @@
 -- The needs of `dictionary·step`, and what answers each.
 use Prim.Native.Nat.{ℕ}
-use Rattle.editor_cycle.proofs.Entries.{entry-closed, entry-fits, entry-fixed, entry-order, entry-ready, entry-wide, key-fits, plain-ready, plain-walks}
-use Rattle.editor_cycle.proofs.WalkLaws.{counts}
+use Rattle.editor_steps.proofs.Entries.{entry-closed, entry-fits, entry-fixed, entry-order, entry-ready, entry-wide, key-fits, plain-ready, plain-walks}
+use Rattle.editor_steps.proofs.WalkLaws.{counts}
 use Rattle.reader_basic.proofs.Answers.{denied, granted}
 use Rattle.signature.proofs.TreeLaws.{described-aligned}
 use borrow.Author.Needs.{needs}
@@ -11,10 +11,10 @@ use Rattle.editor_cycle.proofs as of
 use Rattle.editor_cycle.proofs.+array-array+array-elements+dictionary-step+maybe-maybe+structure-fields+structure-structure+value+variant-variant as cycle
 use cycle.Proof.Measures.{dictionary·step-at, value-below}
 use cycle.Lts-dictionary-step as dictionary·step-lts
-use of.answers.counted.Reads as counted-reads
-use of.closing.close_last.Reads as close-last-reads
+use Rattle.editor_steps.proofs.answers.counted.Reads as counted-reads
+use Rattle.editor_steps.proofs.closing.close_last.Reads as close-last-reads
 use of.dictionary.step.Reads as dictionary·step
-use of.starts.entry_of.Reads as entry-of-reads
+use Rattle.editor_steps.proofs.starts.entry_of.Reads as entry-of-reads
 use of.value.Reads as value
 
 abbrev dictionary·step-callees : ℕ → dictionary·step-lts.Claims

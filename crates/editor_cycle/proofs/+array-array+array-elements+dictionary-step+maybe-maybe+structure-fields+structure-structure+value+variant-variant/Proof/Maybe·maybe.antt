@@ -1,7 +1,7 @@
 -- The needs of `maybe·maybe`, and what answers each.
 use Prim.Native.Nat.{ℕ}
-use Rattle.editor_cycle.proofs.Values.{held-placed, held-ready, maybe-closed, maybe-deeper, maybe-empty, maybe-fits, maybe-fixed, maybe-reading, slot-laid}
-use Rattle.editor_cycle.proofs.WalkLaws.{counts}
+use Rattle.editor_steps.proofs.Values.{held-placed, held-ready, maybe-closed, maybe-deeper, maybe-empty, maybe-fits, maybe-fixed, maybe-reading, slot-laid}
+use Rattle.editor_steps.proofs.WalkLaws.{counts}
 use Rattle.strict_basic.proofs.TableLaws.{placed-at}
 use borrow.Author.Needs.{needs}
 use lib.ListN.{length-take}
@@ -12,11 +12,11 @@ use Rattle.editor_cycle.proofs.+array-array+array-elements+dictionary-s
 use cycle.Proof.Measures.{maybe·maybe-at, value-below}
 use Rattle.container_depths.proofs.ContainerDepths.inc_maybe.Reads as inc-maybe-reads
 use cycle.Lts-maybe-maybe as maybe·maybe-lts
-use of.answers.counted.Reads as counted-reads
-use of.closing.close_maybe.Reads as close-maybe-reads
+use Rattle.editor_steps.proofs.answers.counted.Reads as counted-reads
+use Rattle.editor_steps.proofs.closing.close_maybe.Reads as close-maybe-reads
 use of.maybe.maybe.Reads as maybe·maybe
-use of.reading.is_slot.Reads as is-slot-reads
-use of.reading.reading.Reads as reading-reads
+use Rattle.editor_steps.proofs.reading.is_slot.Reads as is-slot-reads
+use Rattle.editor_steps.proofs.reading.reading.Reads as reading-reads
 use of.value.Reads as value
 use Rattle.signature.proofs.shapes.shape_in.Reads as shape-in-reads
 

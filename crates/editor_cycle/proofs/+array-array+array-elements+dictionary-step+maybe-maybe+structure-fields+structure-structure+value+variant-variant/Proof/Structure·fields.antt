@@ -2,10 +2,10 @@
 use Prim.Native.Nat.{_+_, _-_, ℕ}
 use Rattle.container_depths.specs.Opening.{depthsOf}
 use Rattle.editor_basic.specs.declared.fields.Row.{Row}
-use Rattle.editor_cycle.proofs.Structures.{FieldsLeft, field-asked, field-at, field-behind, field-beyond, field-fits, field-placed, fields-begin, fields-counted, fields-found, fields-less, fields-turn, row-written}
-use Rattle.editor_cycle.proofs.Values.{most-small}
-use Rattle.editor_cycle.specs.Starts.{rowTests}
-use Rattle.editor_cycle.specs.Walks.{containerMost, most, newOf}
+use Rattle.editor_steps.proofs.Structures.{FieldsLeft, field-asked, field-at, field-behind, field-beyond, field-fits, field-placed, fields-begin, fields-counted, fields-found, fields-less, fields-turn, row-written}
+use Rattle.editor_steps.proofs.Values.{most-small}
+use Rattle.editor_steps.specs.Starts.{rowTests}
+use Rattle.editor_steps.specs.Walks.{containerMost, most, newOf}
 use borrow.Author.Needs.{needs}
 use lib.ListN.{length}
 use mathlib.Core.Path.{_≡_, ap, refl}
@@ -16,8 +16,8 @@ use cycle.Proof.Measures.{structure·fields-at, value-below}
 use Rattle.editor_basic.proofs.fields.behind_field.Reads as behind-field-reads
 use Rattle.editor_basic.proofs.fields.first_field.Reads as first-field-reads
 use cycle.Lts-structure-fields as structure·fields-lts
-use of.answers.counted.Reads as counted-reads
-use of.closing.close_field.Reads as close-field-reads
+use Rattle.editor_steps.proofs.answers.counted.Reads as counted-reads
+use Rattle.editor_steps.proofs.closing.close_field.Reads as close-field-reads
 use of.structure.fields.Reads as structure·fields
 use of.value.Reads as value
 use Rattle.signature.proofs.shapes.shape_in.Reads as shape-in-reads

@@ -1,7 +1,7 @@
 -- The needs of `structure·structure`, and what answers each.
 use Prim.Native.Nat.{ℕ}
-use Rattle.editor_cycle.proofs.Structures.{all-row, fields-ready, row-room, structure-deeper, structure-none, structure-walks}
-use Rattle.editor_cycle.proofs.WalkLaws.{counts}
+use Rattle.editor_steps.proofs.Structures.{all-row, fields-ready, row-room, structure-deeper, structure-none, structure-walks}
+use Rattle.editor_steps.proofs.WalkLaws.{counts}
 use Rattle.strict_basic.proofs.TableLaws.{placed-at}
 use borrow.Author.Needs.{needs}
 use mathlib.Core.Path.{refl}
@@ -11,8 +11,8 @@ use Rattle.editor_cycle.proofs.+array-array+array-elements+dictionary-s
 use cycle.Proof.Measures.{structure·fields-below, structure·structure-at}
 use Rattle.container_depths.proofs.ContainerDepths.inc_structure.Reads as inc-structure-reads
 use cycle.Lts-structure-structure as structure·structure-lts
-use of.answers.counted.Reads as counted-reads
-use of.starts.row_of.Reads as row-of-reads
+use Rattle.editor_steps.proofs.answers.counted.Reads as counted-reads
+use Rattle.editor_steps.proofs.starts.row_of.Reads as row-of-reads
 use of.structure.fields.Reads as structure·fields
 use of.structure.structure.Reads as structure·structure
 use Rattle.strict_basic.proofs.sizes.offsets_in.Reads as offsets-in-reads

@@ -1,7 +1,7 @@
 -- The needs of `value`, and what answers each.
 use Prim.Native.Nat.{_-_, ℕ}
-use Rattle.editor_cycle.proofs.Values.{basic-none, value-variant, variant-ready}
-use Rattle.editor_cycle.proofs.WalkLaws.{counts}
+use Rattle.editor_steps.proofs.Values.{basic-none, value-variant, variant-ready}
+use Rattle.editor_steps.proofs.WalkLaws.{counts}
 use Rattle.signature.proofs.TreeLaws.{described-kind}
 use borrow.Author.Needs.{needs}
 use mathlib.Core.Path.{_∙_, refl, sym}
@@ -10,7 +10,7 @@ use Rattle.editor_cycle.proofs as of
 use Rattle.editor_cycle.proofs.+array-array+array-elements+dictionary-step+maybe-maybe+structure-fields+structure-structure+value+variant-variant as cycle
 use cycle.Proof.Measures.{array·array-below, maybe·maybe-below, structure·structure-below, value-at, variant·variant-below}
 use cycle.Lts-value as value-lts
-use of.answers.counted.Reads as counted-reads
+use Rattle.editor_steps.proofs.answers.counted.Reads as counted-reads
 use of.array.array.Reads as array·array
 use of.maybe.maybe.Reads as maybe·maybe
 use of.structure.structure.Reads as structure·structure

@@ -1,8 +1,8 @@
 -- The needs of `variant·variant`, and what answers each.
 use Prim.Native.Nat.{ℕ}
-use Rattle.editor_cycle.proofs.Values.{value-variant, variant-ready}
-use Rattle.editor_cycle.proofs.Variants.{front-placed, separator-positive, signature-short, typed-ready, variant-closed, variant-deeper, variant-fits, variant-untyped}
-use Rattle.editor_cycle.proofs.WalkLaws.{counts}
+use Rattle.editor_steps.proofs.Values.{value-variant, variant-ready}
+use Rattle.editor_steps.proofs.Variants.{front-placed, separator-positive, signature-short, typed-ready, variant-closed, variant-deeper, variant-fits, variant-untyped}
+use Rattle.editor_steps.proofs.WalkLaws.{counts}
 use Rattle.reader_basic.proofs.Answers.{denied, granted}
 use Rattle.reader_basic.proofs.Loops.{tail}
 use Rattle.signature.proofs.TreeLaws.{described-kind, front}
@@ -16,8 +16,8 @@ use Rattle.editor_cycle.proofs.+array-array+array-elements+dictionary-s
 use cycle.Proof.Measures.{value-below, variant·variant-at, variant·variant-below}
 use Rattle.container_depths.proofs.ContainerDepths.inc_variant.Reads as inc-variant-reads
 use cycle.Lts-variant-variant as variant·variant-lts
-use of.answers.counted.Reads as counted-reads
-use of.closing.close_variant.Reads as close-variant-reads
+use Rattle.editor_steps.proofs.answers.counted.Reads as counted-reads
+use Rattle.editor_steps.proofs.closing.close_variant.Reads as close-variant-reads
 use of.value.Reads as value
 use of.variant.variant.Reads as variant·variant
 use Rattle.reader_basic.proofs.basic.separator.Reads as separator-reads

@@ -1,7 +1,5 @@
 // The small readers: what stands below the readers that call each other. Here: their answer, and what rides along.
 pub mod basic;
-pub mod numbers;
-pub mod texts_run;
 
 use container_depths::ContainerDepths;
 ghost use mathlib.Core.Path.{_≡_};

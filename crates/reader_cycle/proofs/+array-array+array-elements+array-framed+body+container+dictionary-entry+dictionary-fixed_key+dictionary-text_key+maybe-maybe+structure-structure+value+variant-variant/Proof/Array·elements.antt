@@ -20,7 +20,7 @@ use Rattle.reader_cycle.proofs.+array-array+array-elements+array-framed
 use cycle.Proof.Measures.{array·elements-at, dictionary·entry-below, value-below}
 use Rattle.reader_basic.proofs.behind.Reads as behind-reads
 use Rattle.reader_basic.proofs.done.Reads as done-reads
-use Rattle.reader_basic.proofs.numbers.numbers.Reads as numbers-reads
+use Rattle.reader_runs.proofs.numbers.numbers.Reads as numbers-reads
 use cycle.Lts-array-elements as array·elements-lts
 use of.array.elements.Reads as array·elements
 use of.dictionary.entry.Reads as dictionary·entry

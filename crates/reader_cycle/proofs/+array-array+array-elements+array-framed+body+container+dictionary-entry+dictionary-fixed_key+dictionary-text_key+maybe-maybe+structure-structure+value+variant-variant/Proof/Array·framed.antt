@@ -22,8 +22,8 @@ use cycle.Proof.Measures.{array·framed-at, dictionary·entry-below, value-below
 use Rattle.framing_offsets.proofs.next.Reads as next-reads
 use Rattle.reader_basic.proofs.behind.Reads as behind-reads
 use Rattle.reader_basic.proofs.done.Reads as done-reads
-use Rattle.reader_basic.proofs.numbers.readings.Reads as readings-reads
-use Rattle.reader_basic.proofs.texts_run.texts.Reads as texts-reads
+use Rattle.reader_runs.proofs.numbers.readings.Reads as readings-reads
+use Rattle.reader_runs.proofs.texts.texts.Reads as texts-reads
 use cycle.Lts-array-framed as array·framed-lts
 use of.array.element_kind.Reads as element-kind-reads
 use of.array.framed.Reads as array·framed

@@ -1,8 +1,9 @@
 #!/usr/bin/env bash
-# Builds what answers questions of writing and of the strict test by GLib. Needs an x86-64 machine for the archive.
+# Builds what answers questions of writing and of the strict test by GLib.
 # Usage: oracle/glib/build.sh [--alone]
 # Leaves target/oracle/glib, which is GLib alone, and target/oracle/writing, which sets the archive beside GLib; the archive is proved and
-# built first. With --alone only the first. Installs what is missing from Debian's packages.
+# built first. With --alone only the first. On a machine that is not x86-64 the second is x86-64's still, over Debian's GLib for it, and
+# compare_writing runs it by the emulator that is named in target/oracle/emulator. Installs what is missing from Debian's packages.
 set -euo pipefail
 top=$(cd "$(dirname "$0")/../.." && pwd -P)
 room=$top/target/oracle
@@ -30,6 +31,12 @@ shared=("$top/oracle/glib/lines.c" "$top/oracle/glib/value.c")
 
 cc "${c_flags[@]}" "$top/oracle/glib/main.c" "${shared[@]}" "${glib[@]}" -o "$room/glib"
 [ $# -eq 0 ] || exit 0
-[ "$(uname -m)" = x86_64 ] || fail "the archive is for x86-64"
+x86_64_ready || fail "$x86_64_lack"
 archive_ready || fail "the archive is not built"
-cc "${c_flags[@]}" -I"$top/include" "$top/oracle/glib/compare.c" "${shared[@]}" "$archive" "${glib[@]}" -o "$room/writing"
+if [ "$(uname -m)" != x86_64 ]; then
+    amd64_ready || fail "no GLib for x86-64"
+    read -ra glib < <(PKG_CONFIG_LIBDIR=/usr/lib/x86_64-linux-gnu/pkgconfig:/usr/share/pkgconfig pkg-config --cflags --libs glib-2.0)
+fi
+# Debian's GLib is shared, so only the compiler's name is taken, not the words for linking statically
+"${x86_64_cc[0]}" "${c_flags[@]}" -I"$top/include" "$top/oracle/glib/compare.c" "${shared[@]}" "$archive" "${glib[@]}" -o "$room/writing"
+printf '%s\n' "${x86_64_run[@]}" >"$room/emulator"

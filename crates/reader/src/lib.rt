@@ -9,7 +9,6 @@ pub use reader_basic::Answer;
 use reader_basic::refused;
 use reader_cycle::ride::ride_of;
 use reader_cycle::value;
-use signature::shapes::shape_in;
 use signature::shapes::shapes_of;
 ghost use mathlib.Core.Path.{_≡_};
 ghost use mathlib.Core.Bool.{true};
@@ -73,7 +72,7 @@ fn in_one_walk(signature: &[u8], length: usize) -> bool {
 // Reads a frame by one walk, whose events are held until all is read; by a second walk where they are too many to hold.
 fn read_once(
     signature: &[u8],
-    shapes: &[u16],
+    shapes: &[u16; 255],
     big: bool,
     position: usize,
     frame: &[u8],
@@ -116,7 +115,7 @@ fn copy(from: &[u64], count: usize, out: &mut [u64])
 // Reads a frame by two walks: one to size it, and one into the slice.
 fn read_twice(
     signature: &[u8],
-    shapes: &[u16],
+    shapes: &[u16; 255],
     big: bool,
     position: usize,
     frame: &[u8],
@@ -139,7 +138,7 @@ fn read_twice(
 }
 
 // The size of a frame of a type, by the type's shapes: the same walk, into a slice of no length.
-fn sized(signature: &[u8], shapes: &[u16], big: bool, position: usize, frame: &[u8]) -> Answer
+fn sized(signature: &[u8], shapes: &[u16; 255], big: bool, position: usize, frame: &[u8]) -> Answer
     requires { ⌜ (isType (now signature) ≡ true) × Shaped (now signature) (now shapes) ⌝ }
     ensures { λ r. ⌜ countsOf r ≡ sizeOf (now (signature .entry)) big position (now (frame .entry)) ⌝ }
 {
@@ -155,7 +154,7 @@ fn sized(signature: &[u8], shapes: &[u16], big: bool, position: usize, frame: &[
 // A whole frame of a type, by the type's shapes, with no regard to room.
 fn whole(
     signature: &[u8],
-    shapes: &[u16],
+    shapes: &[u16; 255],
     big: bool,
     position: usize,
     frame: &[u8],
@@ -171,7 +170,6 @@ fn whole(
         return refused(OVER_LIMIT, 0, 0);
     }
     let ride = ride_of(position, big);
-    let shape = shape_in(signature, shapes, 0);
     let len = frame.len();
-    value(signature, shapes, shape, frame, 0, len, 0, ride, out, 0)
+    value(signature, shapes, 0, frame, 0, len, 0, ride, out, 0)
 }

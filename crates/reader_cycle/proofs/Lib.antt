@@ -1,9 +1,11 @@
 pub mod Arrays
+pub mod Characters
 pub mod Deepening
 pub mod Entries
 pub mod ItemLaws
 pub mod Maybes
 pub mod Readers
+pub mod Repeats
 pub mod Rides
 pub mod Structures
 pub mod Variants

@@ -194,10 +194,10 @@ module _ {k c : Context} (e : k ≡ c) (code w place : ℕ) (part : List ℕ) {e
       → Done (elementsBy (childStep (readingBy c code w) (depthsOf (c .depths)) place part b) t part lead) end len n l l′ r
   readings-as lead b t g = subst (λ (x : Context). Done (elementsBy (childStep (readingBy x code w) (depthsOf (x .depths)) place part b) t part lead) end len n l l′ r) e g
 
-pub numbers-as : {k c : Context} → k ≡ c → {code w : ℕ} {p : Letter} → p ≡ Number code w → (place : ℕ) (part : List ℕ) (lead : ℕ) {end len n : ℕ} {l l′ : List ℕ} {r : Answer}
+pub numbers-as : {k c : Context} → k ≡ c → (code w place : ℕ) (part : List ℕ) (lead : ℕ) {end len n : ℕ} {l l′ : List ℕ} {r : Answer}
     → ((d : Depths) (b : ℕ) → Done (elements (length part) (childStep (numberBy k code w) d place part b) (length part) lead) end len n l l′ r)
     → (d : Depths) (b : ℕ) → Done (elements (length part) (childStep (numberBy c code w) d place part b) (length part) lead) end len n l l′ r
-numbers-as e {code} {w} q place part lead {end} {len} {n} {l} {l′} {r} g d b =
+numbers-as e code w place part lead {end} {len} {n} {l} {l′} {r} g d b =
     subst (λ (x : Context). Done (elements (length part) (childStep (numberBy x code w) d place part b) (length part) lead) end len n l l′ r) e (g d b)
 
 pub key-as : {k c : Context} → k ≡ c → (key : Letter) (place j stop : ℕ) (part : List ℕ) {end len n : ℕ} {l l′ : List ℕ} {r : Answer}

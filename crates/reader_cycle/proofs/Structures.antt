@@ -21,11 +21,12 @@ use Rattle.meaning.specs.Reading.{child, further, endPadding, offsetStands, fie
 use Rattle.meaning.proofs.OffsetLaws.{encodedWidth-1, encodedWidth-2, encodedWidth-4}
 use Rattle.utils.specs.Checks as leaf
 use Rattle.utils.specs.declared.Checked as leafs
-use Rattle.signature.specs.Places.{letterAt}
+use Rattle.signature.specs.Places.{letterAt, ClosesAt}
+use Rattle.signature.specs.Shapes.{Shaped, shapeIn}
 use Rattle.signature.specs.declared.Letter.the-variants.{OpenStructure}
 use Rattle.signature.specs.Trees.{treeAt, fieldsAt, Rowed, Described}
 use Rattle.signature.specs.declared.shapes.Shape.{Shape}
-use Rattle.signature.proofs.TreeLaws.{LastField, NextField, structure-tree, structure-fixed, structure-alignment}
+use Rattle.signature.proofs.TreeLaws.{LastField, NextField, last-field-of, next-field-of, structure-tree, structure-fixed, structure-alignment}
 use Rattle.events.specs.Slices.{nextEvent, put}
 use Rattle.reader_basic.specs.Answers.{Done, From, Between}
 use Rattle.reader_cycle.specs.Openings.{Deeper, Opens}
@@ -356,6 +357,14 @@ module _ {position : ℕ} {big : Bool} {nested : ℕ} {text : List ℕ} {at : �
                 (child (readerOf position big nested (treeAt text (f .at)) d) place part (lead + u) stop)
                 (further (fieldsIn position fx a place part lead w d (readersOf position big nested (fieldsAt text (f .next))) end′) (lead + u)) r z (omega arith) (omega arith) c)));
           }
+
+-- the field at a place, by the place behind it and whether the structure's type ends there
+module _ (l t : List ℕ) (i : ℕ) (w : Rowed l i) (z : Shaped l t) {x : ℕ} (e : x ≡ shapeIn l t i .next) {r : Bool} (k : ClosesAt l x r) where
+  pub last-by : r ≡ true → LastField l t i (shapeIn l t i)
+  last-by h = last-field-of l t i w z (shapeIn l t i) refl (letterAt l x) (ap (λ (y : ℕ). letterAt l y) e) (k .there h)
+
+  pub next-by : r ≡ false → NextField l t i (shapeIn l t i)
+  next-by h = next-field-of l t i w z (shapeIn l t i) refl (letterAt l x) (ap (λ (y : ℕ). letterAt l y) e) (k .missing h)
 
 -- ---- the ways out of structure
 module _ {text shapes : List ℕ} {s : Shape} (t : Described text shapes s) (e : letterAt text (s .at) ≡ OpenStructure) (part : List ℕ) (lead place : ℕ) (c : Context) (n : ℕ) (l : List ℕ) where

@@ -294,9 +294,9 @@ module _ (l : List ℕ) where
 
 -- ---- what the readers of a variant ask
 
-pub holds-basic : (part : List ℕ) (lead s : ℕ) (kind : Letter) → s ≡ separator (drop lead part) → (s ≡ 0 → ⊥) → lead + s ≤ length part → kind ≡ onlyLetter (drop (lead + s) part) → (a : ℕ) → a ≡ keyAlignment kind → (a ≡ 0 → ⊥)
+pub holds-basic : (part : List ℕ) (lead s : ℕ) (kind : Letter) → s ≡ separator (drop lead part) → (s ≡ 0 → ⊥) → lead + s ≤ length part → kind ≡ onlyLetter (drop (lead + s) part) → (keyAlignment kind ≡ 0 → ⊥)
     → HoldsBasic part lead (lead + s) kind
-holds-basic part lead s kind e z h k a q b = record { type = ap (λ (x : ℕ). lead + x) e; there = omega (arith, z); inside = h; one = k; basic = λ w. b (q ∙ w) }
+holds-basic part lead s kind e z h k b = record { type = ap (λ (x : ℕ). lead + x) e; there = omega (arith, z); inside = h; one = k; basic = b }
 
 pub same-value : (c : Context) (t u : List ℕ) (x : ℕ) → t ≡ u → x ≡ 0 → valueIn c (treeAt u 0) ≡ valueIn c (treeAt t x)
 same-value c t u x e f = rw (e, f)

@@ -9,7 +9,7 @@ use Rattle.meaning.specs.Choice.{pick}
 use Rattle.meaning.specs.Offsets.{encodedWidth, lastOffset}
 use Rattle.meaning.specs.Reading.{offsetStands, fieldOffset, separator}
 use Rattle.meaning.specs.Refusals.{outOfBounds}
-use Rattle.signature.specs.Places.{letterAt}
+use Rattle.signature.specs.Places.{letterAt, letterOf}
 use Rattle.signature.specs.Steps.{keyAlignment}
 use Rattle.signature.specs.declared.Letter.{Letter}
 use Rattle.signature.specs.declared.Letter.the-variants.{End}
@@ -36,6 +36,10 @@ fieldEnds n w fx e l =
 
 unfoldable pub onlyLetter : List ℕ → Letter
 onlyLetter l = pick (eqb (length l) 1) (letterAt l 0) End
+
+-- a character that is not 0 is that of a text that has one alone, of a basic type
+abbrev pub OnlyBasic : List ℕ → ℕ → Type 0
+OnlyBasic l c = (c ≡ 0 → ⊥) → (letterOf c ≡ onlyLetter l) × (keyAlignment (letterOf c) ≡ 0 → ⊥)
 
 -- a variant behind n bytes of padding whose type, at a place, is one basic letter
 pub record HoldsBasic (l : List ℕ) (n from : ℕ) (kind : Letter) : Type 0 where

@@ -2,8 +2,9 @@
 use mathlib.Core.Path.{_≡_}
 use mathlib.Core.List.{List}
 use mathlib.Core.Bool.{Bool, true, false, _&&_}
-use Prim.Native.Nat.{ℕ, _+_, _-_, _≤_, _<_, max}
-use lib.ListN.{length, drop}
+use Prim.Native.Nat.{ℕ, _+_, _-_, _%_, _≤_, _<_, max}
+use lib.Dec.{leb, eqb}
+use lib.ListN.{length, drop, getD}
 use Rattle.meaning.specs.Choice.{pick}
 use Rattle.meaning.specs.Depths.{Depths}
 use Rattle.meaning.specs.Types.{Tree, Fields, basic, variant, maybe, array, dictionary, structure, alignment, largestAlignment, fixed, allFixed, basicFixed, entryAlignment, entryFixed}
@@ -19,7 +20,11 @@ use Rattle.container_depths.specs.Opening.{depthsOf}
 use Rattle.container_depths.specs.declared.ContainerDepths.{ContainerDepths}
 use Rattle.framing_offsets.specs.Tables.{tableIn}
 use Rattle.framing_offsets.specs.declared.OffsetTable.{OffsetTable}
+use Rattle.signature.specs.Places.{letterAt}
+use Rattle.signature.specs.Steps.{keyFixed}
+use Rattle.signature.specs.Shapes.{shapeIn}
 use Rattle.signature.specs.Trees.{treeAt, fieldsAt, Described}
+use Rattle.signature.specs.Items.{heldNumber}
 use Rattle.signature.specs.declared.shapes.Shape.{Shape}
 use Rattle.signature.specs.declared.Letter.{Letter}
 use Rattle.signature.specs.declared.Letter.the-variants.{Number, End}
@@ -45,6 +50,21 @@ bodyIn position big nested (dictionary b t) d k l n =
     (entryStep position (entryAlignment b t) (basicFixed b) (entryFixed b t) (readBasic position big b) (readerOf position big nested t))
     (depthsOf d) k l n
 bodyIn position big nested (structure ts) d k l n = structureIn position (largestAlignment ts) (allFixed ts) (readersOf position big nested ts) (depthsOf d) k l n
+
+-- what the array or the dictionary at a place repeats, by its text and its table: an entry, or an element
+abbrev pub itemBy : Bool → List ℕ → List ℕ → ℕ → Item
+itemBy entry text shapes at = record {
+  entry = entry;
+  child = shapeIn text shapes (pick entry (at + 3) (at + 1));
+  key = pick entry (letterAt text (at + 2)) End;
+  keyed = pick entry (keyFixed (letterAt text (at + 2))) false;
+  alignment = getD shapes at 0 % 16;
+  fixed = pick entry (keyFixed (letterAt text (at + 2)) && leb 16 (getD shapes (at + 3) 0 % 32)) (leb 16 (getD shapes (at + 1) 0 % 32));
+  number = pick entry End (heldNumber (letterAt text (at + 1)) (letterAt text (at + 2)));
+}
+
+abbrev pub itemOf : List ℕ → List ℕ → ℕ → Item
+itemOf text shapes at = itemBy (eqb (getD text (at + 1) 0) dictionaryLetter) text shapes at
 
 -- what is repeated in an array or a dictionary: its step
 abbrev pub itemStep : ℕ → Bool → ℕ → List ℕ → Item → Step

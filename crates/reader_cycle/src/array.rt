@@ -1,4 +1,8 @@
 // Arrays, and the walk over a dictionary's entries. Ports ArrayDeserializer and its SeqAccess of gvariant/de.rs.
+use crate::codes::held_width;
+use crate::codes::is_fixed;
+use crate::codes::is_text;
+use crate::codes::number_width;
 use crate::dictionary::entry;
 use crate::opening::in_array;
 use crate::ride::context_of;
@@ -7,9 +11,10 @@ use events::emit;
 use framing_offsets::OffsetTable;
 use framing_offsets::from_encoded_array;
 use framing_offsets::next;
+use meaning::letters::ARRAY_LETTER;
+use meaning::letters::DICTIONARY_LETTER;
 use reader_basic::Answer;
 use reader_basic::basic::close;
-use reader_basic::basic::item_kind;
 use reader_basic::behind;
 use reader_basic::done;
 use reader_basic::refused;
@@ -17,25 +22,27 @@ use reader_runs::numbers::numbers;
 use reader_runs::numbers::readings;
 use reader_runs::texts::texts;
 use signature::Letter;
-use signature::items::Item;
-use signature::items::item_of;
-use signature::shapes::Shape;
+use signature::shapes::fixed_of;
 ghost use mathlib.Core.Path.{_≡_};
 ghost use mathlib.Core.Bool.{true, false};
 ghost use Prim.Native.Nat.{_≤_};
+ghost use lib.Dec.{eqb};
 ghost use lib.ListN.{length, drop};
+ghost use Rattle.meaning.specs.Choice.{pick};
+ghost use Rattle.meaning.specs.Letters.{arrayLetter, dictionaryLetter};
 ghost use Rattle.framing_offsets.specs.Tables.{tableIn};
 ghost use Rattle.signature.specs.Places.{letterAt};
+ghost use Rattle.signature.specs.Shapes.{shapeIn};
 ghost use Rattle.signature.specs.Trees.{treeAt, Described};
 ghost use Rattle.reader_basic.specs.Answers.{From};
 ghost use Rattle.reader_basic.specs.Parts.{Stands, Inside};
-ghost use Rattle.reader_cycle.specs.Places.{insideOf, elementKind, elementsOf, framedOf, Repeated};
+ghost use Rattle.reader_cycle.specs.Places.{insideOf, itemOf, elementsOf, framedOf, Repeated};
 ghost use Rattle.reader_cycle.specs.Rides.{contextOf};
 
 pub(crate) fn array(
     text: &[u8],
-    shapes: &[u16],
-    shape: Shape,
+    shapes: &[u16; 255],
+    at: usize,
     part: &[u8],
     lead: usize,
     place: usize,
@@ -43,8 +50,8 @@ pub(crate) fn array(
     out: &mut [u64],
     n: usize,
 ) -> Answer
-    requires { ⌜ Described (now text) (now shapes) shape × (letterAt (now text) (shape .at) ≡ Letter.Array) × Inside (length (now part)) place (contextOf ride) × (lead ≤ length (now part)) ⌝ }
-    ensures { λ r. ⌜ From (insideOf (contextOf ride) (treeAt (now (text .entry)) (shape .at)) place (now (part .entry)) lead) (now (part .entry)) lead n (now (out .entry)) (now (out .exit)) r ⌝ }
+    requires { ⌜ Described (now text) (now shapes) (shapeIn (now text) (now shapes) at) × (letterAt (now text) at ≡ Letter.Array) × Inside (length (now part)) place (contextOf ride) × (lead ≤ length (now part)) ⌝ }
+    ensures { λ r. ⌜ From (insideOf (contextOf ride) (treeAt (now (text .entry)) at) place (now (part .entry)) lead) (now (part .entry)) lead n (now (out .entry)) (now (out .exit)) r ⌝ }
 {
     let inner = in_array(ride);
     let refusal = inner.refusal;
@@ -52,12 +59,10 @@ pub(crate) fn array(
         return refused(refusal, 0, n);
     }
     let deeper = inner.ride;
-    let item = item_of(text, shapes, shape);
-    let kind = item_kind(item);
-    let fixed = item.fixed;
-    if fixed {
+    let kind = kind_by(text[at + 1]);
+    if repeats_fixed(text, shapes, at) {
         let m = emit(out, n, kind, place + lead, 0);
-        let r = elements(text, shapes, item, part, lead, place, deeper, out, m);
+        let r = elements(text, shapes, at, part, lead, place, deeper, out, m);
         return close(r, place + lead, out);
     }
     let table = from_encoded_array(&part[lead..]);
@@ -67,15 +72,15 @@ pub(crate) fn array(
         return refused(fault, 0, n);
     }
     let m = emit(out, n, kind, place + lead, 0);
-    let r = framed(text, shapes, item, ends, part, lead, place, deeper, out, m);
+    let r = framed(text, shapes, at, ends, part, lead, place, deeper, out, m);
     close(r, place + lead, out)
 }
 
 // Elements that are fixed, one behind another to the part's end.
 pub(crate) fn elements(
     text: &[u8],
-    shapes: &[u16],
-    item: Item,
+    shapes: &[u16; 255],
+    at: usize,
     part: &[u8],
     lead: usize,
     place: usize,
@@ -83,23 +88,24 @@ pub(crate) fn elements(
     out: &mut [u64],
     n: usize,
 ) -> Answer
-    requires { ⌜ Repeated (now text) (now shapes) item × (item .fixed ≡ true) × Inside (length (now part)) place (contextOf ride) × (lead ≤ length (now part)) ⌝ }
-    ensures { λ r. ⌜ From (elementsOf (contextOf ride) (now (text .entry)) item place (now (part .entry)) lead) (now (part .entry)) lead n (now (out .entry)) (now (out .exit)) r ⌝ }
+    requires { ⌜ Repeated (now text) (now shapes) (itemOf (now text) (now shapes) at) × (itemOf (now text) (now shapes) at .fixed ≡ true) × Inside (length (now part)) place (contextOf ride) × (lead ≤ length (now part)) ⌝ }
+    ensures { λ r. ⌜ From (elementsOf (contextOf ride) (now (text .entry)) (itemOf (now (text .entry)) (now (shapes .entry)) at) place (now (part .entry)) lead) (now (part .entry)) lead n (now (out .entry)) (now (out .exit)) r ⌝ }
 {
-    let plain = item.number;
-    if let Letter::Number { code, width } = plain {
+    let child = at + 1;
+    let code = text[child];
+    let width = number_width(code);
+    if width != 0 {
         let context = context_of(ride);
         return numbers(part, lead, place, context, code, width, out, n);
     }
-    let is_entry = item.entry;
-    let child = item.child;
+    let is_entry = code == b'{';
     let b = part.len();
     let mut u = 0;
     let mut m = n;
     while lead + u < b {
         let j = lead + u;
         let r = if is_entry {
-            entry(text, shapes, item, part, b, j, b, place, ride, out, m)
+            entry(text, shapes, at, part, b, j, b, place, ride, out, m)
         } else {
             value(text, shapes, child, part, j, b, place, ride, out, m)
         };
@@ -116,8 +122,8 @@ pub(crate) fn elements(
 // Elements that are not fixed, each up to the end that the table gives; then the table.
 pub(crate) fn framed(
     text: &[u8],
-    shapes: &[u16],
-    item: Item,
+    shapes: &[u16; 255],
+    at: usize,
     offsets: OffsetTable,
     part: &[u8],
     lead: usize,
@@ -126,20 +132,21 @@ pub(crate) fn framed(
     out: &mut [u64],
     n: usize,
 ) -> Answer
-    requires { ⌜ Repeated (now text) (now shapes) item × (item .fixed ≡ false) × Inside (length (now part)) place (contextOf ride) × (lead ≤ length (now part)) × Stands (tableIn offsets) (drop lead (now part)) ⌝ }
-    ensures { λ r. ⌜ From (framedOf (contextOf ride) (now (text .entry)) item offsets place (now (part .entry)) lead) (now (part .entry)) lead n (now (out .entry)) (now (out .exit)) r ⌝ }
+    requires { ⌜ Repeated (now text) (now shapes) (itemOf (now text) (now shapes) at) × (itemOf (now text) (now shapes) at .fixed ≡ false) × Inside (length (now part)) place (contextOf ride) × (lead ≤ length (now part)) × Stands (tableIn offsets) (drop lead (now part)) ⌝ }
+    ensures { λ r. ⌜ From (framedOf (contextOf ride) (now (text .entry)) (itemOf (now (text .entry)) (now (shapes .entry)) at) offsets place (now (part .entry)) lead) (now (part .entry)) lead n (now (out .entry)) (now (out .exit)) r ⌝ }
 {
-    let held = item.number;
-    if let Letter::Number { code, width } = held {
+    let child = at + 1;
+    let width = held_width(text, child);
+    if width != 0 {
+        let held = text[at + 2];
         let context = context_of(ride);
-        return readings(offsets, part, lead, place, context, code, width, out, n);
+        return readings(offsets, part, lead, place, context, held, width, out, n);
     }
-    let plain = element_kind(item);
-    if let Letter::Text { code } = plain {
+    let code = text[child];
+    if is_text(code) {
         return texts(offsets, part, lead, place, code, out, n);
     }
-    let is_entry = item.entry;
-    let child = item.child;
+    let is_entry = code == b'{';
     let table = &part[lead..];
     let many = offsets.count;
     let b = lead + offsets.start;
@@ -151,7 +158,7 @@ pub(crate) fn framed(
         let offset = next(table, offsets, i);
         let e = lead + offset.value;
         let r = if is_entry {
-            entry(text, shapes, item, part, b, j, e, place, ride, out, m)
+            entry(text, shapes, at, part, b, j, e, place, ride, out, m)
         } else {
             value(text, shapes, child, part, j, e, place, ride, out, m)
         };
@@ -166,15 +173,26 @@ pub(crate) fn framed(
     done(u + (part.len() - b), m)
 }
 
-// The letter of an array's element; of a dictionary there is none.
-fn element_kind(item: Item) -> Letter
-    ensures { λ r. ⌜ r ≡ elementKind item ⌝ }
+// The kind of an array's first event, or of a dictionary's, by the character behind its own.
+fn kind_by(code: u8) -> u64
+    ensures { λ r. ⌜ r ≡ pick (eqb code 123) dictionaryLetter arrayLetter ⌝ }
 {
-    let entry = item.entry;
-    let child = item.child;
-    if entry {
-        return Letter::End;
+    if code == b'{' {
+        return DICTIONARY_LETTER;
     }
-    let kind = child.kind;
-    kind
+    ARRAY_LETTER
+}
+
+// Whether what is repeated is fixed: an element, or an entry, of a key and a value.
+pub(crate) fn repeats_fixed(text: &[u8], shapes: &[u16; 255], at: usize) -> bool
+    requires { ⌜ Repeated (now text) (now shapes) (itemOf (now text) (now shapes) at) ⌝ }
+    ensures { λ r. ⌜ r ≡ itemOf (now (text .entry)) (now (shapes .entry)) at .fixed ⌝ }
+{
+    if text[at + 1] == b'{' {
+        if is_fixed(text[at + 2]) {
+            return fixed_of(shapes[at + 3]);
+        }
+        return false;
+    }
+    fixed_of(shapes[at + 1])
 }

@@ -1,14 +1,24 @@
-// Where a child ends by an offset, and what is passed behind it.
+// Where a child ends by an offset, and what is passed behind it; padding.
+use crate::ride::position_of;
+use de::parse_padding;
 use reader_basic::Answer;
+use reader_basic::basic::end_padding;
 use reader_basic::done;
+use signature::shapes::alignment_of;
+use utils::Checked;
 ghost use mathlib.Core.Path.{_≡_};
+ghost use mathlib.Core.Bool.{true};
 ghost use mathlib.Core.List.{List};
-ghost use Prim.Native.Nat.{ℕ, _+_, _≤_};
-ghost use Rattle.meaning.specs.Limits.{largestNumber};
+ghost use Prim.Native.Nat.{ℕ, _+_, _-_, _%_, _≤_};
+ghost use lib.ListN.{length};
+ghost use Rattle.meaning.specs.Limits.{largestFrame, largestNumber};
+ghost use Rattle.meaning.specs.Padding.{Aligns};
 ghost use Rattle.meaning.specs.Outcome.{Outcome, chain, passing};
-ghost use Rattle.meaning.specs.Reading.{child};
+ghost use Rattle.meaning.specs.Reading.{child, endPadding};
+ghost use Rattle.de.specs.Parts.{paddingAt};
 ghost use Rattle.reader_basic.specs.Answers.{Done};
 ghost use Rattle.reader_cycle.specs.Children.{endsAt, endsMissing};
+ghost use Rattle.reader_cycle.specs.Rides.{contextOf};
 
 // Where a child ends by an offset, and the offset's width; or that none stands there.
 pub struct Ends {
@@ -49,4 +59,29 @@ pub(crate) fn past(answer: Answer, more: usize) -> Answer
         return answer;
     }
     done(answer.used + more, answer.count)
+}
+
+// The padding that is due at a place of a part, by the shape of what stands there.
+pub(crate) fn padded(part: &[u8], j: usize, place: usize, ride: usize, shape: u16) -> Checked
+    requires { ⌜ (contextOf ride .position ≤ largestFrame) × (place ≤ largestFrame) ⌝ }
+    ensures { λ r. ⌜ r ≡ paddingAt (contextOf ride .position + place) j (shape % 16) (now (part .entry)) ⌝ }
+{
+    let position = position_of(ride);
+    parse_padding(position + place, j, alignment_of(shape), part)
+}
+
+// The padding at the end of what is fixed, by its shape.
+pub(crate) fn end_padded(
+    part: &[u8],
+    j: usize,
+    place: usize,
+    ride: usize,
+    shape: u16,
+    r: Answer,
+) -> Answer
+    requires { ⌜ (place + length (now part) ≤ largestFrame) × (contextOf ride .position ≤ largestFrame) × (j + r .used ≤ length (now part)) × Aligns (shape % 16) ⌝ }
+    ensures { λ s. ⌜ ((o : Outcome) (end len n : ℕ) (l l′ : List ℕ) → len ≡ length (now (part .entry)) - j → Done o end len n l l′ r → Done (endPadding (contextOf ride .position) true (shape % 16) place (now (part .entry)) j o) len len n l l′ s) ⌝ }
+{
+    let position = position_of(ride);
+    end_padding(part, j, place, position, alignment_of(shape), r)
 }

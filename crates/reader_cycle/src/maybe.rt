@@ -9,8 +9,7 @@ use reader_basic::Answer;
 use reader_basic::done;
 use reader_basic::refused;
 use signature::Letter;
-use signature::shapes::Shape;
-use signature::shapes::shape_in;
+use signature::shapes::fixed_of;
 ghost use mathlib.Core.Path.{_≡_};
 ghost use mathlib.Core.List.{List};
 ghost use Prim.Native.Nat.{ℕ, _-_, _≤_, _<_};
@@ -19,6 +18,7 @@ ghost use Rattle.meaning.specs.Limits.{largestFrame};
 ghost use Rattle.meaning.specs.Outcome.{Outcome, chain};
 ghost use Rattle.meaning.specs.Reading.{endByte};
 ghost use Rattle.signature.specs.Places.{letterAt};
+ghost use Rattle.signature.specs.Shapes.{shapeIn};
 ghost use Rattle.signature.specs.Trees.{treeAt, Described};
 ghost use Rattle.reader_basic.specs.Answers.{Done, From};
 ghost use Rattle.reader_basic.specs.Parts.{Inside};
@@ -27,8 +27,8 @@ ghost use Rattle.reader_cycle.specs.Rides.{contextOf};
 
 pub(crate) fn maybe(
     text: &[u8],
-    shapes: &[u16],
-    shape: Shape,
+    shapes: &[u16; 255],
+    at: usize,
     part: &[u8],
     lead: usize,
     place: usize,
@@ -36,8 +36,8 @@ pub(crate) fn maybe(
     out: &mut [u64],
     n: usize,
 ) -> Answer
-    requires { ⌜ Described (now text) (now shapes) shape × (letterAt (now text) (shape .at) ≡ Letter.Maybe) × Inside (length (now part)) place (contextOf ride) × (lead ≤ length (now part)) ⌝ }
-    ensures { λ r. ⌜ From (insideOf (contextOf ride) (treeAt (now (text .entry)) (shape .at)) place (now (part .entry)) lead) (now (part .entry)) lead n (now (out .entry)) (now (out .exit)) r ⌝ }
+    requires { ⌜ Described (now text) (now shapes) (shapeIn (now text) (now shapes) at) × (letterAt (now text) at ≡ Letter.Maybe) × Inside (length (now part)) place (contextOf ride) × (lead ≤ length (now part)) ⌝ }
+    ensures { λ r. ⌜ From (insideOf (contextOf ride) (treeAt (now (text .entry)) at) place (now (part .entry)) lead) (now (part .entry)) lead n (now (out .entry)) (now (out .exit)) r ⌝ }
 {
     if part.len() <= lead {
         let m = emit(out, n, NOTHING_LETTER, place + lead, 0);
@@ -50,8 +50,8 @@ pub(crate) fn maybe(
     }
     let deeper = inner.ride;
     let m = emit(out, n, MAYBE_LETTER, place + lead, 0);
-    let held = shape_in(text, shapes, shape.at + 1);
-    let fixed = held.fixed;
+    let held = at + 1;
+    let fixed = fixed_of(shapes[held]);
     let len = part.len();
     if fixed {
         return value(text, shapes, held, part, lead, len, place, deeper, out, m);

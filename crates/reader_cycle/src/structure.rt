@@ -1,26 +1,26 @@
 // Structures. Ports StructureDeserializer of gvariant/de.rs.
 use crate::ends::Ends;
+use crate::ends::end_padded;
 use crate::ends::past;
 use crate::opening::in_structure;
-use crate::ride::position_of;
 use crate::value;
 use events::emit;
 use framing_offset_size::FramingOffsetSize;
 use meaning::letters::STRUCTURE_LETTER;
 use reader_basic::Answer;
 use reader_basic::basic::close;
-use reader_basic::basic::end_padding;
 use reader_basic::basic::offset_before;
 use reader_basic::behind;
 use reader_basic::refused;
 use signature::Letter;
 use signature::closes_at;
-use signature::shapes::Shape;
-use signature::shapes::shape_in;
+use signature::shapes::fixed_of;
+use signature::shapes::next_of;
 ghost use mathlib.Core.Path.{_≡_};
 ghost use mathlib.Core.Bool.{true};
 ghost use mathlib.Core.List.{List};
-ghost use Prim.Native.Nat.{ℕ, _+_, _-_, _≤_};
+ghost use Prim.Native.Nat.{ℕ, _+_, _-_, _%_, _≤_};
+ghost use lib.Dec.{leb};
 ghost use lib.ListN.{length};
 ghost use Rattle.meaning.specs.Limits.{largestFrame};
 ghost use Rattle.meaning.specs.Offsets.{encodedWidth};
@@ -28,6 +28,7 @@ ghost use Rattle.meaning.specs.Outcome.{Outcome, chain, passing};
 ghost use Rattle.meaning.specs.Reading.{child, endPadding};
 ghost use Rattle.meaning.specs.Padding.{Aligns};
 ghost use Rattle.signature.specs.Places.{letterAt};
+ghost use Rattle.signature.specs.Shapes.{shapeIn};
 ghost use Rattle.signature.specs.Trees.{treeAt, Described};
 ghost use Rattle.reader_basic.specs.Answers.{From, Between};
 ghost use Rattle.reader_basic.specs.Parts.{Inside};
@@ -38,8 +39,8 @@ ghost use Rattle.reader_cycle.specs.Rides.{contextOf};
 // A structure, in one function with the loop over its fields. A field that is neither fixed nor last takes its end from the back of the table.
 pub(crate) fn structure(
     text: &[u8],
-    shapes: &[u16],
-    shape: Shape,
+    shapes: &[u16; 255],
+    at: usize,
     part: &[u8],
     lead: usize,
     place: usize,
@@ -47,8 +48,8 @@ pub(crate) fn structure(
     out: &mut [u64],
     n: usize,
 ) -> Answer
-    requires { ⌜ Described (now text) (now shapes) shape × (letterAt (now text) (shape .at) ≡ Letter.OpenStructure) × Inside (length (now part)) place (contextOf ride) × (lead ≤ length (now part)) ⌝ }
-    ensures { λ r. ⌜ From (insideOf (contextOf ride) (treeAt (now (text .entry)) (shape .at)) place (now (part .entry)) lead) (now (part .entry)) lead n (now (out .entry)) (now (out .exit)) r ⌝ }
+    requires { ⌜ Described (now text) (now shapes) (shapeIn (now text) (now shapes) at) × (letterAt (now text) at ≡ Letter.OpenStructure) × Inside (length (now part)) place (contextOf ride) × (lead ≤ length (now part)) ⌝ }
+    ensures { λ r. ⌜ From (insideOf (contextOf ride) (treeAt (now (text .entry)) at) place (now (part .entry)) lead) (now (part .entry)) lead n (now (out .entry)) (now (out .exit)) r ⌝ }
 {
     let inner = in_structure(ride);
     let deep = inner.refusal;
@@ -57,26 +58,26 @@ pub(crate) fn structure(
     }
     let deeper = inner.ride;
     let mut m = emit(out, n, STRUCTURE_LETTER, place + lead, 0);
-    let mut i = shape.at + 1;
+    let mut i = at + 1;
     let mut end = part.len();
     let mut u = 0;
     loop {
-        let field = shape_in(text, shapes, i);
+        let field = shapes[i];
+        let next = next_of(field);
         let j = lead + u;
-        if closes_at(text, field.next) {
-            let r = value(text, shapes, field, part, j, end, place, deeper, out, m);
-            let position = position_of(deeper);
-            let s = close_fields(shape, part, j, end, place, position, r);
+        if closes_at(text, next) {
+            let r = value(text, shapes, i, part, j, end, place, deeper, out, m);
+            let s = close_fields(shapes[at], part, j, end, place, deeper, r);
             let all = behind(u, s);
             return close(all, place + lead, out);
         }
-        let ends = field_ends(part, lead, field.fixed, end);
+        let ends = field_ends(part, lead, field, end);
         let fault = ends.refusal;
         if fault != 0 {
             return refused(fault, u, m);
         }
         let e = ends.child;
-        let r = value(text, shapes, field, part, j, e, place, deeper, out, m);
+        let r = value(text, shapes, i, part, j, e, place, deeper, out, m);
         let refusal = r.refusal;
         if refusal != 0 {
             return behind(u, r);
@@ -84,16 +85,16 @@ pub(crate) fn structure(
         end = end - ends.width;
         u = u + r.used;
         m = r.count;
-        i = field.next;
+        i = next;
     }
 }
 
 // Where a field that is not the last ends, in a structure that begins at lead and whose table reaches to an end.
-pub(crate) fn field_ends(part: &[u8], lead: usize, fixed: bool, end: usize) -> Ends
+pub(crate) fn field_ends(part: &[u8], lead: usize, field: u16, end: usize) -> Ends
     requires { ⌜ (lead ≤ length (now part)) × (end ≤ length (now part)) × (length (now part) ≤ largestFrame) ⌝ }
-    ensures { λ r. ⌜ r ≡ fieldEnds lead (encodedWidth (length (now (part .entry)) - lead)) fixed end (now (part .entry)) ⌝ }
+    ensures { λ r. ⌜ r ≡ fieldEnds lead (encodedWidth (length (now (part .entry)) - lead)) (leb 16 (field % 32)) end (now (part .entry)) ⌝ }
 {
-    if fixed {
+    if fixed_of(field) {
         return Ends::at(end, 0);
     }
     let size = FramingOffsetSize::for_encoded_container(part.len() - lead);
@@ -107,20 +108,19 @@ pub(crate) fn field_ends(part: &[u8], lead: usize, fixed: bool, end: usize) -> E
 
 // The end of a structure whose last field, from j to an end, was read: padding where it is fixed, else the table.
 pub(crate) fn close_fields(
-    shape: Shape,
+    shape: u16,
     part: &[u8],
     j: usize,
     end: usize,
     place: usize,
-    position: usize,
+    ride: usize,
     r: Answer,
 ) -> Answer
-    requires { ⌜ (place + length (now part) ≤ largestFrame) × (position ≤ largestFrame) × Aligns (shape .alignment) × (j + r .used ≤ length (now part)) × (end ≤ length (now part)) × (shape .fixed ≡ true → end ≡ length (now part)) ⌝ }
-    ensures { λ s. ⌜ ((read : ℕ → List ℕ → Outcome) (n : ℕ) (l l′ : List ℕ) → Between (child read place (now (part .entry)) j end) (now (part .entry)) j end n l l′ r → From (chain (endPadding position (shape .fixed) (shape .alignment) place (now (part .entry)) j (child read place (now (part .entry)) j end)) (passing (length (now (part .entry)) - end))) (now (part .entry)) j n l l′ s) ⌝ }
+    requires { ⌜ (place + length (now part) ≤ largestFrame) × (contextOf ride .position ≤ largestFrame) × Aligns (shape % 16) × (j + r .used ≤ length (now part)) × (end ≤ length (now part)) × (leb 16 (shape % 32) ≡ true → end ≡ length (now part)) ⌝ }
+    ensures { λ s. ⌜ ((read : ℕ → List ℕ → Outcome) (n : ℕ) (l l′ : List ℕ) → Between (child read place (now (part .entry)) j end) (now (part .entry)) j end n l l′ r → From (chain (endPadding (contextOf ride .position) (leb 16 (shape % 32)) (shape % 16) place (now (part .entry)) j (child read place (now (part .entry)) j end)) (passing (length (now (part .entry)) - end))) (now (part .entry)) j n l l′ s) ⌝ }
 {
-    let whole = shape.fixed;
-    if whole {
-        return end_padding(part, j, place, position, shape.alignment, r);
+    if fixed_of(shape) {
+        return end_padded(part, j, place, ride, shape, r);
     }
     past(r, part.len() - end)
 }

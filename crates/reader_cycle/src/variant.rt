@@ -1,6 +1,8 @@
 // Variants. Ports ValueDeserializer of gvariant/de.rs.
+use crate::codes::is_fixed;
+use crate::codes::is_text;
+use crate::codes::leaf;
 use crate::opening::in_variant;
-use crate::ride::context_of;
 use crate::value;
 use events::emit;
 use meaning::letters::CONTAINER_END;
@@ -10,14 +12,9 @@ use meaning::limits::LONGEST_TYPE;
 use meaning::refusals::NO_SEPARATOR;
 use meaning::refusals::VARIANT_TYPE_REFUSED;
 use reader_basic::Answer;
-use reader_basic::basic::child_key;
 use reader_basic::basic::separator;
 use reader_basic::done;
 use reader_basic::refused;
-use signature::Letter;
-use signature::key_alignment;
-use signature::letter_at;
-use signature::shapes::shape_in;
 use signature::shapes::shapes_of;
 use texts::text;
 use texts::text_refusal;
@@ -31,10 +28,11 @@ ghost use Rattle.meaning.specs.Events.{opening};
 ghost use Rattle.meaning.specs.Texts.{withoutFinalNul};
 ghost use Rattle.meaning.specs.Outcome.{Outcome, after, chain, closingAt};
 ghost use Rattle.meaning.specs.Reading.{remaining, textAs};
+ghost use Rattle.signature.specs.Places.{letterOf};
 ghost use Rattle.reader_basic.specs.Answers.{Done, From};
 ghost use Rattle.reader_basic.specs.Parts.{Inside};
 ghost use Rattle.reader_cycle.specs.Places.{insideOf, variantTree};
-ghost use Rattle.reader_cycle.specs.Children.{onlyLetter, HoldsBasic};
+ghost use Rattle.reader_cycle.specs.Children.{OnlyBasic, HoldsBasic};
 ghost use Rattle.reader_cycle.specs.Rides.{contextOf};
 
 // A variant: its type stands at its end, behind a nul.
@@ -55,8 +53,8 @@ pub(crate) fn variant(
     }
     let from = lead + s;
     let text = &part[from..];
-    let kind = only_letter(text);
-    if key_alignment(kind) != 0 {
+    let kind = only_basic(text);
+    if kind != 0 {
         return basic_variant(kind, part, lead, from, place, ride, out, n);
     }
     let head = type_text(text, place + lead, place + from, out, n);
@@ -75,25 +73,31 @@ pub(crate) fn variant(
         return refused(refusal, 0, g);
     }
     let deeper = inner.ride;
-    let shape = shape_in(text, &shapes, 0);
     let e = from - 1;
-    let r = value(text, &shapes, shape, part, lead, e, place, deeper, out, g);
+    let r = value(text, &shapes, 0, part, lead, e, place, deeper, out, g);
     close_variant(r, part, lead, place, out)
 }
 
-// The letter of a type text that has one alone.
-pub(crate) fn only_letter(text: &[u8]) -> Letter
-    ensures { λ r. ⌜ r ≡ onlyLetter (now (text .entry)) ⌝ }
+// The character of a type text that has one alone, of a basic type; 0 for another.
+pub(crate) fn only_basic(text: &[u8]) -> u8
+    ensures { λ r. ⌜ OnlyBasic (now (text .entry)) r ⌝ }
 {
     if text.len() != 1 {
-        return Letter::End;
+        return 0;
     }
-    letter_at(text, 0)
+    let code = text[0];
+    if is_fixed(code) {
+        return code;
+    }
+    if is_text(code) {
+        return code;
+    }
+    0
 }
 
 // A variant whose type, at `from`, is one basic letter: it holds nothing further, and needs no table of shapes.
 pub(crate) fn basic_variant(
-    kind: Letter,
+    kind: u8,
     part: &[u8],
     lead: usize,
     from: usize,
@@ -102,7 +106,7 @@ pub(crate) fn basic_variant(
     out: &mut [u64],
     n: usize,
 ) -> Answer
-    requires { ⌜ Inside (length (now part)) place (contextOf ride) × HoldsBasic (now part) lead from kind ⌝ }
+    requires { ⌜ Inside (length (now part)) place (contextOf ride) × HoldsBasic (now part) lead from (letterOf kind) ⌝ }
     ensures { λ r. ⌜ From (insideOf (contextOf ride) variantTree place (now (part .entry)) lead) (now (part .entry)) lead n (now (out .entry)) (now (out .exit)) r ⌝ }
 {
     let m = emit(out, n, VARIANT_LETTER, place + lead, 0);
@@ -112,8 +116,8 @@ pub(crate) fn basic_variant(
     if refusal != 0 {
         return refused(refusal, 0, g);
     }
-    let context = context_of(inner.ride);
-    let r = child_key(kind, part, lead, from - 1, place, context, out, g);
+    let e = from - 1;
+    let r = leaf(kind, &part[lead..e], place + lead, inner.ride, out, g);
     close_variant(r, part, lead, place, out)
 }
 

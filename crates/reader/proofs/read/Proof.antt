@@ -32,9 +32,6 @@ returns c =
 in-one-walk-requires : tie.Need-in-one-walk-requires
 in-one-walk-requires c κs = search needs
 
-slice-aggregate-read-once : tie.Need-slice-aggregate-read-once
-slice-aggregate-read-once c = search needs
-
 read-once-requires : tie.Need-read-once-requires
 read-once-requires c κs =
     let at-if1 = c .before .before .before .before in
@@ -49,9 +46,6 @@ same-length c = search needs
 
 returns-2 : tie.Need-returns-2
 returns-2 c = search needs
-
-slice-aggregate-read-twice : tie.Need-slice-aggregate-read-twice
-slice-aggregate-read-twice c = search needs
 
 read-twice-requires : tie.Need-read-twice-requires
 read-twice-requires c κs =
@@ -77,11 +71,9 @@ read-spec =
     refused-requires
     returns
     in-one-walk-requires
-    slice-aggregate-read-once
     read-once-requires
     same-length
     returns-2
-    slice-aggregate-read-twice
     read-twice-requires
     same-length-2
     returns-3)

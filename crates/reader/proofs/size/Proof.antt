@@ -24,9 +24,6 @@ returns : tie.Need-returns
 returns c =
     ap countsOf (c .refused .ensures) ∙ type-refused _ _ _ _ (table-refused _ _ _ _ refl (c .before .before .before .shapes-of .ensures) (denied (c .before .if1 .taken)))
 
-slice-aggregate-sized : tie.Need-slice-aggregate-sized
-slice-aggregate-sized c = search needs
-
 sized-requires : tie.Need-sized-requires
 sized-requires c κs =
     (table-type _ _ _ _ refl (c .before .before .before .shapes-of .ensures) (granted (c .before .if1 .left)), table-filled _ _ _ _ refl (c .before .before .before .shapes-of .ensures) (c .before .before .before .shapes-of .kept .1 .0) (granted (c .before .if1 .left)))
@@ -45,6 +42,5 @@ size-spec =
     shapes-of-requires
     refused-requires
     returns
-    slice-aggregate-sized
     sized-requires
     returns-2)

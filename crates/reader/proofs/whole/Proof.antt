@@ -4,9 +4,8 @@ use Rattle.reader_cycle.proofs.Rides.{begun}
 use Rattle.signature.specs.Trees.{treeAt}
 use Rattle.reader.proofs.Frames.{child-all}
 use native.Mathlib.Omega.{arith}
-use mathlib.Core.Path.{ap}
-use Rattle.signature.specs.declared.shapes.Shape.{Shape}
-use Rattle.signature.proofs.TreeLaws.{front, front-described, described-as}
+use mathlib.Core.Path.{refl}
+use Rattle.signature.proofs.TreeLaws.{front, front-described}
 use Rattle.reader.proofs.Frames.{whole-long, whole-far, within-frame, whole-read}
 use Rattle.reader_basic.proofs.refused.Reads as refused-reads
 use borrow.Author.Needs.{needs}
@@ -16,29 +15,24 @@ use Rattle.reader.proofs.whole.Reads as reads
 use Rattle.reader.proofs.whole.Lts as lts
 use Rattle.reader_cycle.proofs.ride.ride_of.Reads as ride-of-reads
 use Rattle.reader_cycle.proofs.value.Reads as value-reads
-use Rattle.signature.proofs.shapes.shape_in.Reads as shape-in-reads
 
 returns : tie.Need-returns
-returns c =
-    told (c .refused .ensures) (whole-long _ _ _ _ _ (front _ (c .before .before .before .before .before .before .pre .0)) (c .before .if1 .taken))
+returns c = told (c .refused .ensures) (whole-long _ _ _ _ _ (front _ (c .before .before .before .before .before .pre .0)) (c .before .if1 .taken))
 
 returns-2 : tie.Need-returns-2
 returns-2 c =
-    told (c .refused2 .ensures) (whole-far _ _ _ _ _ (front _ (c .before .before .before .before .before .before .before .pre .0)) (c .before .before .if1 .left) (c .before .if2 .taken))
+    told (c .refused2 .ensures) (whole-far _ _ _ _ _ (front _ (c .before .before .before .before .before .before .pre .0)) (c .before .before .if1 .left) (c .before .if2 .taken))
 
 ride-of-requires : tie.Need-ride-of-requires
 ride-of-requires c κs = c .if2 .left
 
-shape-in-requires : tie.Need-shape-in-requires
-shape-in-requires c κs = search needs
-
 value-requires : tie.Need-value-requires
 value-requires c κs =
-    let at-ride-of = c .before .before in
-    let at-if2 = at-ride-of .before in
-    let at-if1 = at-if2 .before in
-    let start = at-if1 .before .before .before .before .before in (
-      described-as (c .before .shape-in .ensures) (front-described _ _ (start .pre .1) (front _ (start .pre .0))),
+    let at-ride-of = c .before in
+    let at-if2 = c .before .before in
+    let at-if1 = c .before .before .before in
+    let start = c .before .before .before .before .before .before .before in (
+      front-described _ _ (start .pre .1) (front _ (start .pre .0)),
       within-frame (at-if1 .if1 .left)
           (omega (arith, at-ride-of .ride-of .ensures .at, at-if2 .if2 .left)) (at-ride-of .ride-of .ensures .none),
       omega arith,
@@ -49,16 +43,13 @@ same-length c = search needs
 
 returns-3 : tie.Need-returns-3
 returns-3 c =
-    let at-value = c .before .before in
-    let at-shape-in = at-value .before .before in
-    let at-ride-of = at-shape-in .before in
-    let at-if2 = at-ride-of .before in
-    let at-if1 = at-if2 .before in
-    let start = at-if1 .before .before .before .before .before in
-    whole-read _ _ _ _ _ (front _ (start .pre .0)) (at-if1 .if1 .left) (at-if2 .if2 .left) _ (at-ride-of .ride-of .ensures .none) _
-    (ap (λ (s : Shape). s .at) (at-shape-in .shape-in .ensures)) _ _
-    (begun (at-ride-of .ride-of .ensures) (treeAt (start .args .signature .now) (at-shape-in .shape-in .result .at)) 0 (start .args .frame .now)
-    (child-all _ (start .args .frame .now) 0 _ _ _ (at-value .value .ensures)))
+    let at-ride-of = c .before .before .before .before in
+    let at-if2 = c .before .before .before .before .before in
+    let at-if1 = c .before .before .before .before .before .before in
+    let start = c .before .before .before .before .before .before .before .before .before .before in
+    whole-read _ _ _ _ _ (front _ (start .pre .0)) (at-if1 .if1 .left) (at-if2 .if2 .left) _ (at-ride-of .ride-of .ensures .none) _ refl _ _
+    (begun (at-ride-of .ride-of .ensures) (treeAt (start .args .signature .now) 0) 0 (start .args .frame .now)
+    (child-all _ (start .args .frame .now) 0 _ _ _ (c .before .before .value .ensures)))
 
 refused-requires : tie.Need-refused-requires
 refused-requires c κs = search needs
@@ -75,7 +66,6 @@ whole-spec =
     refused-requires-2
     returns-2
     ride-of-requires
-    shape-in-requires
     value-requires
     same-length
     returns-3)

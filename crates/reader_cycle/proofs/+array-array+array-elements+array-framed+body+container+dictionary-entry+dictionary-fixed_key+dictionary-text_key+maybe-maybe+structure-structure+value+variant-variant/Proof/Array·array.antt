@@ -1,11 +1,11 @@
 -- The needs of `array·array`, and what answers each.
+use Rattle.reader_cycle.proofs.Repeats.{item-within, repeats}
 use Prim.Native.Nat.{ℕ}
 use Rattle.reader_basic.proofs.Loops.{stands-by, tail}
 use Rattle.reader_cycle.proofs.Arrays.{array-deep, array-fixed, array-framed, array-no-table}
 use Rattle.reader_cycle.proofs.Deepening.{inside-deeper, level-falls, told}
-use Rattle.reader_cycle.proofs.ItemLaws.{item-at}
 use borrow.Author.Needs.{needs}
-use mathlib.Core.Path.{refl}
+use mathlib.Core.Path.{_∙_, sym}
 use native.Mathlib.Omega.{arith}
 use Rattle.reader_cycle.proofs as of
 use Rattle.reader_cycle.proofs.+array-array+array-elements+array-framed+body+container+dictionary-entry+dictionary-fixed_key+dictionary-text_key+maybe-maybe+structure-structure+value+variant-variant as cycle
@@ -13,14 +13,14 @@ use cycle.Proof.Measures.{array·array-at, array·elements-below, array·framed-
 use Rattle.events.proofs.emit.Reads as emit-reads
 use Rattle.framing_offsets.proofs.from_encoded_array.Reads as from-encoded-array-reads
 use Rattle.reader_basic.proofs.basic.close.Reads as close-reads
-use Rattle.reader_basic.proofs.basic.item_kind.Reads as item-kind-reads
 use Rattle.reader_basic.proofs.refused.Reads as refused-reads
 use cycle.Lts-array-array as array·array-lts
 use of.array.array.Reads as array·array
 use of.array.elements.Reads as array·elements
 use of.array.framed.Reads as array·framed
+use of.array.kind_by.Reads as kind-by-reads
+use of.array.repeats_fixed.Reads as repeats-fixed-reads
 use of.opening.in_array.Reads as in-array-reads
-use Rattle.signature.proofs.items.item_of.Reads as item-of-reads
 
 abbrev array·array-callees : ℕ → array·array-lts.Claims
 array·array-callees t = (
@@ -28,10 +28,10 @@ array·array-callees t = (
   in-array-reads.Learnt,
   refused-reads.Asked,
   refused-reads.Learnt,
-  item-of-reads.Asked,
-  item-of-reads.Learnt,
-  item-kind-reads.Asked,
-  item-kind-reads.Learnt,
+  kind-by-reads.Asked,
+  kind-by-reads.Learnt,
+  repeats-fixed-reads.Asked,
+  repeats-fixed-reads.Learnt,
   emit-reads.Asked,
   emit-reads.Learnt,
   array·elements-below t,
@@ -46,7 +46,7 @@ array·array-callees t = (
 
 array·array-in-array-requires : (t : ℕ) → array·array-lts.Need-in-array-requires (array·array-callees t) (array·array-at t) array·array.Post
 array·array-in-array-requires t c κs =
-    let start = c .before .before .before .before in
+    let start = c .before .before .before in
     start .pre .1 .2 .shallow
 
 array·array-refused-requires : (t : ℕ) → array·array-lts.Need-refused-requires (array·array-callees t) (array·array-at t) array·array.Post
@@ -56,14 +56,26 @@ array·array-returns : (t : ℕ) → array·array-lts.Need-returns (array·array
 array·array-returns t c =
     let at-if1 = c .before in
     let at-in-array = at-if1 .before in
-    let start = at-in-array .before .before .before .before .before in
-    told (c .refused .ensures) (array-deep (item-at _ _ _ (start .pre .1 .0) (start .pre .1 .1) _ refl) _ _ _ _ _ _ (at-in-array .in-array .ensures) (at-if1 .if1 .taken))
+    let start = at-in-array .before .before .before .before in
+    told (c .refused .ensures) (array-deep (repeats _ _ _ (start .pre .1 .0) (start .pre .1 .1)) _ _ _ _ _ _ (at-in-array .in-array .ensures) (at-if1 .if1 .taken))
 
-array·array-item-of-requires : (t : ℕ) → array·array-lts.Need-item-of-requires (array·array-callees t) (array·array-at t) array·array.Post
-array·array-item-of-requires t c κs = search needs
+array·array-add-kind-by : (t : ℕ) → array·array-lts.Need-add-kind-by (array·array-callees t) (array·array-at t) array·array.Post
+array·array-add-kind-by t c =
+    let start = c .before .before .before .before .before in
+    omega (arith, item-within _ _ _ _ (repeats _ _ _ (start .pre .1 .0) (start .pre .1 .1) .repeated), start .pre .1 .0 .typed .short)
 
-array·array-item-kind-requires : (t : ℕ) → array·array-lts.Need-item-kind-requires (array·array-callees t) (array·array-at t) array·array.Post
-array·array-item-kind-requires t c κs = search needs
+array·array-shared-slice-read-kind-by : (t : ℕ) → array·array-lts.Need-shared-slice-read-kind-by (array·array-callees t) (array·array-at t) array·array.Post
+array·array-shared-slice-read-kind-by t c =
+    let start = c .before .before .before .before .before .before in
+    omega (arith, item-within _ _ _ _ (repeats _ _ _ (start .pre .1 .0) (start .pre .1 .1) .repeated))
+
+array·array-kind-by-requires : (t : ℕ) → array·array-lts.Need-kind-by-requires (array·array-callees t) (array·array-at t) array·array.Post
+array·array-kind-by-requires t c κs = search needs
+
+array·array-repeats-fixed-requires : (t : ℕ) → array·array-lts.Need-repeats-fixed-requires (array·array-callees t) (array·array-at t) array·array.Post
+array·array-repeats-fixed-requires t c κs =
+    let start = c .before .before .before .before .before .before .before in
+    repeats _ _ _ (start .pre .1 .0) (start .pre .1 .1) .repeated
 
 array·array-add-emit : (t : ℕ) → array·array-lts.Need-add-emit (array·array-callees t) (array·array-at t) array·array.Post
 array·array-add-emit t c =
@@ -76,14 +88,15 @@ array·array-emit-requires t c κs = search needs
 array·array-elements-requires : (t : ℕ) → array·array-lts.Need-elements-requires (array·array-callees t) (array·array-at t) array·array.Post
 array·array-elements-requires t c κs =
     let at-if2 = c .before .before .before .before .before in
-    let at-item-of = at-if2 .before .before in
-    let at-if1 = at-item-of .before in
+    let at-item-kind = at-if2 .before in
+    let at-item-of = at-item-kind .before in
+    let at-if1 = at-item-of .before .before in
     let at-in-array = at-if1 .before in
-    let start = at-in-array .before .before .before .before .before in (
+    let start = at-in-array .before .before .before .before in (
       omega (arith, level-falls (at-in-array .in-array .ensures .deeper (at-if1 .if1 .left)), start .pre .0),
       (
-        (item-at _ _ _ (start .pre .1 .0) (start .pre .1 .1) _ (at-item-of .item-of .ensures)) .repeated,
-        at-if2 .if2 .taken,
+        repeats _ _ _ (start .pre .1 .0) (start .pre .1 .1) .repeated,
+        sym (at-item-kind .repeats-fixed .ensures) ∙ at-if2 .if2 .taken,
         inside-deeper
             (at-in-array .in-array .ensures .deeper (at-if1 .if1 .left)) (start .pre .1 .2),
         start .pre .1 .3,
@@ -112,12 +125,12 @@ array·array-returns-2 t c =
     let at-if2 = at-emit .before .before in
     let at-item-kind = at-if2 .before in
     let at-item-of = at-item-kind .before in
-    let at-if1 = at-item-of .before in
+    let at-if1 = at-item-of .before .before in
     let at-in-array = at-if1 .before in
-    let start = at-in-array .before .before .before .before .before in
-    array-fixed (item-at _ _ _ (start .pre .1 .0) (start .pre .1 .1) _ (at-item-of .item-of .ensures)) _ _ _ _ _ _
-    (at-in-array .in-array .ensures .deeper (at-if1 .if1 .left)) _ _ _ _ (at-if2 .if2 .taken) (at-emit .emit .ensures .0)
-    (rw (at-item-kind .item-kind .ensures) at (at-emit .emit .ensures .1)) (at-close .close .ensures _ _ _ _ _ (at-elements .elements .ensures))
+    let start = at-in-array .before .before .before .before in
+    array-fixed (repeats _ _ _ (start .pre .1 .0) (start .pre .1 .1)) _ _ _ _ _ _
+    (at-in-array .in-array .ensures .deeper (at-if1 .if1 .left)) _ _ _ _ (sym (at-item-kind .repeats-fixed .ensures) ∙ at-if2 .if2 .taken) (at-emit .emit .ensures .0)
+    (rw (at-item-of .kind-by .ensures) at (at-emit .emit .ensures .1)) (at-close .close .ensures _ _ _ _ _ (at-elements .elements .ensures))
 
 array·array-sub-from-encoded-array : (t : ℕ) → array·array-lts.Need-sub-from-encoded-array (array·array-callees t) (array·array-at t) array·array.Post
 array·array-sub-from-encoded-array t c = omega arith
@@ -139,12 +152,13 @@ array·array-returns-3 t c =
     let at-if3 = c .before in
     let at-from-encoded-array = at-if3 .before .before in
     let at-if2 = at-from-encoded-array .before .before in
-    let at-item-of = at-if2 .before .before in
-    let at-if1 = at-item-of .before in
+    let at-item-kind = at-if2 .before in
+    let at-item-of = at-item-kind .before in
+    let at-if1 = at-item-of .before .before in
     let at-in-array = at-if1 .before in
-    let start = at-in-array .before .before .before .before .before in
-    told (c .refused2 .ensures) (array-no-table (item-at _ _ _ (start .pre .1 .0) (start .pre .1 .1) _ (at-item-of .item-of .ensures)) _ _ _ _ _ _
-    (at-in-array .in-array .ensures .deeper (at-if1 .if1 .left)) (at-if2 .if2 .left) _
+    let start = at-in-array .before .before .before .before in
+    told (c .refused2 .ensures) (array-no-table (repeats _ _ _ (start .pre .1 .0) (start .pre .1 .1)) _ _ _ _ _ _
+    (at-in-array .in-array .ensures .deeper (at-if1 .if1 .left)) (sym (at-item-kind .repeats-fixed .ensures) ∙ at-if2 .if2 .left) _
     (rw (tail (start .args .lead) (start .args .part .now)) at (at-from-encoded-array .from-encoded-array .ensures)) (at-if3 .if3 .taken))
 
 array·array-add-emit-2 : (t : ℕ) → array·array-lts.Need-add-emit-2 (array·array-callees t) (array·array-at t) array·array.Post
@@ -160,14 +174,15 @@ array·array-framed-requires t c κs =
     let at-if3 = c .before .before .before .before .before in
     let at-from-encoded-array = at-if3 .before .before in
     let at-if2 = at-from-encoded-array .before .before in
-    let at-item-of = at-if2 .before .before in
-    let at-if1 = at-item-of .before in
+    let at-item-kind = at-if2 .before in
+    let at-item-of = at-item-kind .before in
+    let at-if1 = at-item-of .before .before in
     let at-in-array = at-if1 .before in
-    let start = at-in-array .before .before .before .before .before in (
+    let start = at-in-array .before .before .before .before in (
       omega (arith, level-falls (at-in-array .in-array .ensures .deeper (at-if1 .if1 .left)), start .pre .0),
       (
-        (item-at _ _ _ (start .pre .1 .0) (start .pre .1 .1) _ (at-item-of .item-of .ensures)) .repeated,
-        at-if2 .if2 .left,
+        repeats _ _ _ (start .pre .1 .0) (start .pre .1 .1) .repeated,
+        sym (at-item-kind .repeats-fixed .ensures) ∙ at-if2 .if2 .left,
         inside-deeper
             (at-in-array .in-array .ensures .deeper (at-if1 .if1 .left)) (start .pre .1 .2),
         start .pre .1 .3,
@@ -200,13 +215,13 @@ array·array-returns-4 t c =
     let at-if2 = at-from-encoded-array .before .before in
     let at-item-kind = at-if2 .before in
     let at-item-of = at-item-kind .before in
-    let at-if1 = at-item-of .before in
+    let at-if1 = at-item-of .before .before in
     let at-in-array = at-if1 .before in
-    let start = at-in-array .before .before .before .before .before in
-    array-framed (item-at _ _ _ (start .pre .1 .0) (start .pre .1 .1) _ (at-item-of .item-of .ensures)) _ _ _ _ _ _
-    (at-in-array .in-array .ensures .deeper (at-if1 .if1 .left)) (at-if2 .if2 .left) _
+    let start = at-in-array .before .before .before .before in
+    array-framed (repeats _ _ _ (start .pre .1 .0) (start .pre .1 .1)) _ _ _ _ _ _
+    (at-in-array .in-array .ensures .deeper (at-if1 .if1 .left)) (sym (at-item-kind .repeats-fixed .ensures) ∙ at-if2 .if2 .left) _
     (rw (tail (start .args .lead) (start .args .part .now)) at (at-from-encoded-array .from-encoded-array .ensures)) _ _ _ _ (at-if3 .if3 .left)
-    (at-emit2 .emit2 .ensures .0) (rw (at-item-kind .item-kind .ensures) at (at-emit2 .emit2 .ensures .1))
+    (at-emit2 .emit2 .ensures .0) (rw (at-item-of .kind-by .ensures) at (at-emit2 .emit2 .ensures .1))
     (at-close2 .close2 .ensures _ _ _ _ _ (at-framed .framed .ensures))
 
 pub array·array-spec : {M : Type 1} (t : ℕ) → array·array-lts.Closed (array·array-callees t) (array·array-at t) array·array.Post M
@@ -215,8 +230,10 @@ array·array-spec t =
     (array·array-in-array-requires t)
     (array·array-refused-requires t)
     (array·array-returns t)
-    (array·array-item-of-requires t)
-    (array·array-item-kind-requires t)
+    (array·array-add-kind-by t)
+    (array·array-shared-slice-read-kind-by t)
+    (array·array-kind-by-requires t)
+    (array·array-repeats-fixed-requires t)
     (array·array-add-emit t)
     (array·array-emit-requires t)
     (array·array-elements-requires t)

@@ -1,14 +1,14 @@
 -- The needs of `array·elements`, and what answers each.
+use Rattle.reader_cycle.proofs.Repeats.{item-number, item-within, repeated-as, step-element, step-entry}
 use Prim.Native.Nat.{_+_, _-_, ℕ}
 use Rattle.container_depths.specs.Opening.{depthsOf}
 use Rattle.reader_basic.proofs.Loops.{ElementsLeft, elements-begin, elements-end, elements-next, elements-stop, kept}
 use Rattle.reader_basic.specs.Answers.{Between}
 use Rattle.reader_cycle.proofs.Arrays.{item-least}
 use Rattle.reader_cycle.proofs.Deepening.{arrived, told}
-use Rattle.reader_cycle.proofs.Entries.{step-child}
 use Rattle.reader_cycle.proofs.ItemLaws.{plain-numbers}
 use Rattle.reader_cycle.proofs.Rides.{inside-as, numbers-as}
-use Rattle.reader_cycle.specs.Places.{stepIn}
+use Rattle.reader_cycle.specs.Places.{itemOf, stepIn}
 use Rattle.reader_cycle.specs.Rides.{contextOf}
 use borrow.Author.Needs.{needs}
 use lib.ListN.{length}
@@ -23,12 +23,15 @@ use Rattle.reader_basic.proofs.done.Reads as done-reads
 use Rattle.reader_runs.proofs.numbers.numbers.Reads as numbers-reads
 use cycle.Lts-array-elements as array·elements-lts
 use of.array.elements.Reads as array·elements
+use of.codes.number_width.Reads as number-width-reads
 use of.dictionary.entry.Reads as dictionary·entry
 use of.ride.context_of.Reads as context-of-reads
 use of.value.Reads as value
 
 abbrev array·elements-callees : ℕ → array·elements-lts.Claims
 array·elements-callees t = (
+  number-width-reads.Asked,
+  number-width-reads.Learnt,
   context-of-reads.Asked,
   context-of-reads.Learnt,
   numbers-reads.Asked,
@@ -44,38 +47,44 @@ array·elements-callees t = (
 )
 
 abbrev array·elements-Inv-loop : array·elements-lts.InvT-loop
-array·elements-Inv-loop text shapes item part lead place ride out₀ n is-entry child b u₀ m₀ out u m =
-    ElementsLeft (stepIn (contextOf ride) text item place part (length part)) part lead n out₀ u m out
+array·elements-Inv-loop text shapes at part lead place ride out₀ n child′ code width is-entry b u₀ m₀ out u m =
+    ElementsLeft (stepIn (contextOf ride) text (itemOf text shapes at) place part (length part)) part lead n out₀ u m out
 
 abbrev array·elements-μ-loop : array·elements-lts.MeasureT-loop
-array·elements-μ-loop text shapes item part lead place ride out₀ n is-entry child b u₀ m₀ out u m =
+array·elements-μ-loop text shapes at part lead place ride out₀ n child′ code width is-entry b u₀ m₀ out u m =
     length part - (lead + u)
 
-array·elements-enum-known-plain : (t : ℕ) → array·elements-lts.Need-enum-known-plain (array·elements-callees t) (array·elements-at t) array·elements.Post array·elements-Inv-loop array·elements-μ-loop
-array·elements-enum-known-plain t c = search needs
+array·elements-add-child : (t : ℕ) → array·elements-lts.Need-add-child (array·elements-callees t) (array·elements-at t) array·elements.Post array·elements-Inv-loop array·elements-μ-loop
+array·elements-add-child t c =
+    let start = c .before .before .before in
+    omega (arith, item-within (start .args .text .now) (start .args .shapes .now) (start .args .at) _ (start .pre .1 .0), start .pre .1 .0 .child .typed .short)
+
+array·elements-shared-slice-read-code : (t : ℕ) → array·elements-lts.Need-shared-slice-read-code (array·elements-callees t) (array·elements-at t) array·elements.Post array·elements-Inv-loop array·elements-μ-loop
+array·elements-shared-slice-read-code t c =
+    let start = c .before .before .before .before in
+    omega (arith, item-within (start .args .text .now) (start .args .shapes .now) (start .args .at) _ (start .pre .1 .0))
+
+array·elements-number-width-requires : (t : ℕ) → array·elements-lts.Need-number-width-requires (array·elements-callees t) (array·elements-at t) array·elements.Post array·elements-Inv-loop array·elements-μ-loop
+array·elements-number-width-requires t c κs = search needs
 
 array·elements-context-of-requires : (t : ℕ) → array·elements-lts.Need-context-of-requires (array·elements-callees t) (array·elements-at t) array·elements.Post array·elements-Inv-loop array·elements-μ-loop
 array·elements-context-of-requires t c κs = search needs
 
 array·elements-numbers-requires : (t : ℕ) → array·elements-lts.Need-numbers-requires (array·elements-callees t) (array·elements-at t) array·elements.Post array·elements-Inv-loop array·elements-μ-loop
 array·elements-numbers-requires t c κs =
-    let at-context-of = c .before in
-    let at-plain = at-context-of .before .before in
-    let start = at-plain .before .before .before .before .before .before in
-    (inside-as (at-context-of .context-of .ensures) (start .pre .1 .2), start .pre .1 .3, start .pre .1 .0 .number _ _ (at-plain .plain .given .1) .aligned)
+    let start = c .before .before .before .before .before .before .before .before in
+    (inside-as (c .before .context-of .ensures) (start .pre .1 .2), start .pre .1 .3, start .pre .1 .0 .number _ _ (item-number (start .args .text .now) (start .args .shapes .now) (start .args .at) (item-within (start .args .text .now) (start .args .shapes .now) (start .args .at) _ (start .pre .1 .0)) _ (c .before .before .before .number-width .ensures) (c .before .before .if1 .taken)) .aligned)
 
 array·elements-same-length : (t : ℕ) → array·elements-lts.Need-same-length (array·elements-callees t) (array·elements-at t) array·elements.Post array·elements-Inv-loop array·elements-μ-loop
 array·elements-same-length t c = search needs
 
 array·elements-returns : (t : ℕ) → array·elements-lts.Need-returns (array·elements-callees t) (array·elements-at t) array·elements.Post array·elements-Inv-loop array·elements-μ-loop
 array·elements-returns t c =
-    let at-numbers = c .before .before in
-    let at-context-of = at-numbers .before .before in
-    let at-plain = at-context-of .before .before in
-    let start = at-plain .before .before .before .before .before .before in
-    plain-numbers _ _ _ _ (start .pre .1 .0 .number _ _ (at-plain .plain .given .1)) (contextOf (start .args .ride) .position) (contextOf (start .args .ride) .big)
+    let start = c .before .before .before .before .before .before .before .before .before .before .before in
+    plain-numbers _ _ _ _ (start .pre .1 .0 .number _ _ (item-number (start .args .text .now) (start .args .shapes .now) (start .args .at) (item-within (start .args .text .now) (start .args .shapes .now) (start .args .at) _ (start .pre .1 .0)) _ (c .before .before .before .before .before .before .number-width .ensures) (c .before .before .before .before .before .if1 .taken)))
+    (contextOf (start .args .ride) .position) (contextOf (start .args .ride) .big)
     (contextOf (start .args .ride) .depths .variant) (depthsOf (contextOf (start .args .ride) .depths)) (start .args .place) (start .args .part .now)
-    (length (start .args .part .now)) (start .args .lead) _ _ _ _ _ _ (start .pre .1 .1) (numbers-as (at-context-of .context-of .ensures) (at-plain .plain .given .1) (start .args .place) (start .args .part .now) (start .args .lead) (at-numbers .numbers .ensures))
+    (length (start .args .part .now)) (start .args .lead) _ _ _ _ _ _ (start .pre .1 .1) (numbers-as (c .before .before .before .before .context-of .ensures) _ _ (start .args .place) (start .args .part .now) (start .args .lead) (c .before .before .numbers .ensures))
 
 array·elements-loop-holds : (t : ℕ) → array·elements-lts.Need-loop-holds (array·elements-callees t) (array·elements-at t) array·elements.Post array·elements-Inv-loop array·elements-μ-loop
 array·elements-loop-holds t c =
@@ -96,21 +105,22 @@ array·elements-add-j t c =
 array·elements-entry-requires : (t : ℕ) → array·elements-lts.Need-entry-requires (array·elements-callees t) (array·elements-at t) array·elements.Post array·elements-Inv-loop array·elements-μ-loop
 array·elements-entry-requires t c κs =
     let at-if1 = c .before in
-    let at-loop = at-if1 .before .before in
-    let start = at-loop .before .before .before .before .before .before .before in
-    (omega (arith, start .pre .0), (start .pre .1 .0, at-if1 .if1 .taken, start .pre .1 .2, at-loop .loop .inv .bound, omega arith, omega arith, λ z. refl))
+    let at-loop = c .before .before .before in
+    let start = c .before .before .before .before .before .before .before .before .before .before in
+    (omega (arith, start .pre .0), (repeated-as (start .args .text .now) (start .args .shapes .now) (start .args .at) (at-if1 .if2 .taken) (start .pre .1 .0), start .pre .1 .2, at-loop .loop .inv .bound, omega arith, omega arith, λ z. refl))
 
 array·elements-value-requires : (t : ℕ) → array·elements-lts.Need-value-requires (array·elements-callees t) (array·elements-at t) array·elements.Post array·elements-Inv-loop array·elements-μ-loop
 array·elements-value-requires t c κs =
+    let at-if1 = c .before in
     let at-loop = c .before .before .before in
-    let start = at-loop .before .before .before .before .before .before .before in
-    (omega (arith, start .pre .0), (start .pre .1 .0 .child, start .pre .1 .2, at-loop .loop .inv .bound))
+    let start = c .before .before .before .before .before .before .before .before .before .before in
+    (omega (arith, start .pre .0), (repeated-as (start .args .text .now) (start .args .shapes .now) (start .args .at) (at-if1 .if2 .left) (start .pre .1 .0) .child, start .pre .1 .2, at-loop .loop .inv .bound))
 
 -- what one turn reads: an element, or an entry
-array·elements-turn : (t : ℕ) (c : array·elements-lts.Joined1 (array·elements-callees t) (array·elements-at t) array·elements.Post array·elements-Inv-loop array·elements-μ-loop)
+array·elements-turn : (t : ℕ) (c : array·elements-lts.Joined2 (array·elements-callees t) (array·elements-at t) array·elements.Post array·elements-Inv-loop array·elements-μ-loop)
     → Between (stepIn (contextOf (c .before .before .before .before .before .before .before .before .before .args .ride))
     (c .before .before .before .before .before .before .before .before .before .args .text .now)
-    (c .before .before .before .before .before .before .before .before .before .args .item)
+    (itemOf (c .before .before .before .before .before .before .before .before .before .args .text .now) (c .before .before .before .before .before .before .before .before .before .args .shapes .now) (c .before .before .before .before .before .before .before .before .before .args .at))
     (c .before .before .before .before .before .before .before .before .before .args .place)
     (c .before .before .before .before .before .before .before .before .before .args .part .now)
     (length (c .before .before .before .before .before .before .before .before .before .args .part .now))
@@ -119,15 +129,17 @@ array·elements-turn : (t : ℕ) (c : array·elements-lts.Joined1 (array·elemen
     (c .before .before .before .before .before .before .before .before .before .args .part .now)
     (c .before .before .before .before .before .before .before .before .before .args .lead + c .before .before .loop .u)
     (length (c .before .before .before .before .before .before .before .before .before .args .part .now)) (c .before .before .loop .m)
-    (c .before .before .loop .out) (c .if1 .out) (c .if1 .r)
+    (c .before .before .loop .out) (c .if2 .out) (c .if2 .r)
 array·elements-turn t c =
     let at-loop = c .before .before in
     let start = at-loop .before .before .before .before .before .before .before in
-    ⊎-elim (λ x. arrived (x .5) (x .6) (x .2 .ensures))
-    (λ x. arrived (x .5) (x .6) (step-child (contextOf (start .args .ride)) (start .args .text .now) (start .args .item) (start .args .place)
+    ⊎-elim (λ x. arrived (x .5) (x .6) (step-entry (contextOf (start .args .ride)) (start .args .text .now) (start .args .shapes .now) (start .args .at) _ (start .args .place)
+    (start .args .part .now) (length (start .args .part .now)) (start .args .lead + at-loop .loop .u) (length (start .args .part .now)) _ _ _ _
+    (x .0 .taken) (x .2 .ensures)))
+    (λ x. arrived (x .5) (x .6) (step-element (contextOf (start .args .ride)) (start .args .text .now) (start .args .shapes .now) (start .args .at) _ (start .args .place)
     (start .args .part .now) (length (start .args .part .now)) (start .args .lead + at-loop .loop .u) (length (start .args .part .now)) _ _ _ _
     (x .0 .left) (x .2 .ensures)))
-    (c .if1 .came)
+    (c .if2 .came)
 
 array·elements-behind-requires : (t : ℕ) → array·elements-lts.Need-behind-requires (array·elements-callees t) (array·elements-at t) array·elements.Post array·elements-Inv-loop array·elements-μ-loop
 array·elements-behind-requires t c κs =
@@ -148,7 +160,7 @@ array·elements-returns-2 t c =
     let at-2 = at-if2 .before in
     let at-loop-test = at-2 .before in
     let at-loop = at-loop-test .before in
-    told (c .behind .ensures) (elements-stop _ _ _ _ _ _ _ _ (at-loop .loop .inv) (at-loop-test .loop-test .taken) _ _ (array·elements-turn t (at-2)) (at-if2 .if2 .taken))
+    told (c .behind .ensures) (elements-stop _ _ _ _ _ _ _ _ (at-loop .loop .inv) (at-loop-test .loop-test .taken) _ _ (array·elements-turn t (at-2)) (at-if2 .if3 .taken))
 
 array·elements-add-u : (t : ℕ) → array·elements-lts.Need-add-u (array·elements-callees t) (array·elements-at t) array·elements.Post array·elements-Inv-loop array·elements-μ-loop
 array·elements-add-u t c =
@@ -164,7 +176,7 @@ array·elements-loop-less t c =
     let at-loop-test = at-2 .before in
     let at-loop = at-loop-test .before in
     let start = at-loop .before .before .before .before .before .before .before in
-    omega (arith, (item-least _ _ _ (start .pre .1 .0) (start .pre .1 .1) _ _ _ _ _ _ _ _ _ _ _ _ _ _ (at-loop .loop .inv .bound) (array·elements-turn t (at-2)) (at-if2 .if2 .left)), (array·elements-turn t (at-2)) .fits, at-loop-test .loop-test .taken)
+    omega (arith, (item-least _ _ _ (start .pre .1 .0) (start .pre .1 .1) _ _ _ _ _ _ _ _ _ _ _ _ _ _ (at-loop .loop .inv .bound) (array·elements-turn t (at-2)) (at-if2 .if3 .left)), (array·elements-turn t (at-2)) .fits, at-loop-test .loop-test .taken)
 
 array·elements-loop-again : (t : ℕ) → array·elements-lts.Need-loop-again (array·elements-callees t) (array·elements-at t) array·elements.Post array·elements-Inv-loop array·elements-μ-loop
 array·elements-loop-again t c =
@@ -173,9 +185,9 @@ array·elements-loop-again t c =
     let at-loop-test = at-2 .before in
     let at-loop = at-loop-test .before in
     let start = at-loop .before .before .before .before .before .before .before in
-    elements-next _ _ _ _ _ _ _ _ (at-loop .loop .inv) (at-loop-test .loop-test .taken) _ _ (array·elements-turn t (at-2)) (at-if2 .if2 .left)
+    elements-next _ _ _ _ _ _ _ _ (at-loop .loop .inv) (at-loop-test .loop-test .taken) _ _ (array·elements-turn t (at-2)) (at-if2 .if3 .left)
     (item-least _ _ _ (start .pre .1 .0) (start .pre .1 .1) _ _ _ _ _ _ _ _ _ _ _ _ _ _ (at-loop .loop .inv .bound) (array·elements-turn t (at-2))
-    (at-if2 .if2 .left))
+    (at-if2 .if3 .left))
 
 array·elements-done-requires : (t : ℕ) → array·elements-lts.Need-done-requires (array·elements-callees t) (array·elements-at t) array·elements.Post array·elements-Inv-loop array·elements-μ-loop
 array·elements-done-requires t c κs = search needs
@@ -194,7 +206,9 @@ array·elements-spec t =
     array·elements-lts.spec (array·elements-callees t) (array·elements-at t) array·elements.Post
     array·elements-Inv-loop
     array·elements-μ-loop
-    (array·elements-enum-known-plain t)
+    (array·elements-add-child t)
+    (array·elements-shared-slice-read-code t)
+    (array·elements-number-width-requires t)
     (array·elements-context-of-requires t)
     (array·elements-numbers-requires t)
     (array·elements-same-length t)

@@ -1,14 +1,14 @@
 -- The needs of `array·framed`, and what answers each.
+use Rattle.reader_cycle.proofs.Repeats.{fixed-as, item-held, item-text, item-within, repeated-as, step-element, step-entry}
 use Prim.Native.Nat.{_+_, _-_, ℕ}
 use Rattle.framing_offsets.specs.Tables.{tableIn}
 use Rattle.meaning.specs.Offsets.{endsOf}
 use Rattle.reader_basic.proofs.Loops.{FramedLeft, ends-below, framed-begin, framed-end, framed-next, framed-stop, kept, length-ends, next-end, tail}
 use Rattle.reader_basic.specs.Answers.{Between}
 use Rattle.reader_cycle.proofs.Deepening.{arrived, told}
-use Rattle.reader_cycle.proofs.Entries.{step-child}
 use Rattle.reader_cycle.proofs.ItemLaws.{held-numbers, held-texts}
 use Rattle.reader_cycle.proofs.Rides.{inside-as, readings-as}
-use Rattle.reader_cycle.specs.Places.{stepIn}
+use Rattle.reader_cycle.specs.Places.{itemOf, stepIn}
 use Rattle.reader_cycle.specs.Rides.{contextOf}
 use borrow.Author.Needs.{needs}
 use lib.ListN.{drop, length-drop}
@@ -25,20 +25,23 @@ use Rattle.reader_basic.proofs.done.Reads as done-reads
 use Rattle.reader_runs.proofs.numbers.readings.Reads as readings-reads
 use Rattle.reader_runs.proofs.texts.texts.Reads as texts-reads
 use cycle.Lts-array-framed as array·framed-lts
-use of.array.element_kind.Reads as element-kind-reads
 use of.array.framed.Reads as array·framed
+use of.codes.held_width.Reads as held-width-reads
+use of.codes.is_text.Reads as is-text-reads
 use of.dictionary.entry.Reads as dictionary·entry
 use of.ride.context_of.Reads as context-of-reads
 use of.value.Reads as value
 
 abbrev array·framed-callees : ℕ → array·framed-lts.Claims
 array·framed-callees t = (
+  held-width-reads.Asked,
+  held-width-reads.Learnt,
   context-of-reads.Asked,
   context-of-reads.Learnt,
   readings-reads.Asked,
   readings-reads.Learnt,
-  element-kind-reads.Asked,
-  element-kind-reads.Learnt,
+  is-text-reads.Asked,
+  is-text-reads.Learnt,
   texts-reads.Asked,
   texts-reads.Learnt,
   next-reads.Asked,
@@ -54,46 +57,58 @@ array·framed-callees t = (
 )
 
 abbrev array·framed-Inv-loop : array·framed-lts.InvT-loop
-array·framed-Inv-loop text shapes item offsets part lead place ride out₀ n is-entry child table many b i₀ u₀ m₀ out i u m =
-    FramedLeft (stepIn (contextOf ride) text item place part (lead + offsets .start)) part lead (lead + offsets .start) n out₀ (endsOf (tableIn offsets) (drop lead part)) i u m out
+array·framed-Inv-loop text shapes at offsets part lead place ride out₀ n child′ width code is-entry table many b i₀ u₀ m₀ out i u m =
+    FramedLeft (stepIn (contextOf ride) text (itemOf text shapes at) place part (lead + offsets .start)) part lead (lead + offsets .start) n out₀ (endsOf (tableIn offsets) (drop lead part)) i u m out
 
 abbrev array·framed-μ-loop : array·framed-lts.MeasureT-loop
-array·framed-μ-loop text shapes item offsets part lead place ride out₀ n is-entry child table many b i₀ u₀ m₀ out i u m =
+array·framed-μ-loop text shapes at offsets part lead place ride out₀ n child′ width code is-entry table many b i₀ u₀ m₀ out i u m =
     offsets .count - i
 
-array·framed-enum-known-held : (t : ℕ) → array·framed-lts.Need-enum-known-held (array·framed-callees t) (array·framed-at t) array·framed.Post array·framed-Inv-loop array·framed-μ-loop
-array·framed-enum-known-held t c = search needs
+array·framed-add-child : (t : ℕ) → array·framed-lts.Need-add-child (array·framed-callees t) (array·framed-at t) array·framed.Post array·framed-Inv-loop array·framed-μ-loop
+array·framed-add-child t c =
+    let start = c .before .before .before in
+    omega (arith, item-within (start .args .text .now) (start .args .shapes .now) (start .args .at) _ (start .pre .1 .0), start .pre .1 .0 .child .typed .short)
+
+array·framed-held-width-requires : (t : ℕ) → array·framed-lts.Need-held-width-requires (array·framed-callees t) (array·framed-at t) array·framed.Post array·framed-Inv-loop array·framed-μ-loop
+array·framed-held-width-requires t c κs =
+    let start = c .before .before .before in
+    omega (arith, item-within (start .args .text .now) (start .args .shapes .now) (start .args .at) _ (start .pre .1 .0))
+
+array·framed-add-held : (t : ℕ) → array·framed-lts.Need-add-held (array·framed-callees t) (array·framed-at t) array·framed.Post array·framed-Inv-loop array·framed-μ-loop
+array·framed-add-held t c =
+    let start = c .before .before .before .before .before in
+    omega (arith, item-within (start .args .text .now) (start .args .shapes .now) (start .args .at) _ (start .pre .1 .0), start .pre .1 .0 .child .typed .short)
+
+array·framed-shared-slice-read-held : (t : ℕ) → array·framed-lts.Need-shared-slice-read-held (array·framed-callees t) (array·framed-at t) array·framed.Post array·framed-Inv-loop array·framed-μ-loop
+array·framed-shared-slice-read-held t c = omega (arith, c .before .before .held-width .ensures (c .before .if1 .taken) .within)
 
 array·framed-context-of-requires : (t : ℕ) → array·framed-lts.Need-context-of-requires (array·framed-callees t) (array·framed-at t) array·framed.Post array·framed-Inv-loop array·framed-μ-loop
 array·framed-context-of-requires t c κs = search needs
 
 array·framed-readings-requires : (t : ℕ) → array·framed-lts.Need-readings-requires (array·framed-callees t) (array·framed-at t) array·framed.Post array·framed-Inv-loop array·framed-μ-loop
 array·framed-readings-requires t c κs =
-    let at-context-of = c .before in
-    let at-held = at-context-of .before .before in
-    let start = at-held .before .before .before .before .before .before in
-    (inside-as (at-context-of .context-of .ensures) (start .pre .1 .2), record { begins = start .pre .1 .3; stands = start .pre .1 .4 }, start .pre .1 .0 .number _ _ (at-held .held .given .1) .aligned)
+    let start = c .before .before .before .before .before .before .before .before in
+    (inside-as (c .before .context-of .ensures) (start .pre .1 .2), record { begins = start .pre .1 .3; stands = start .pre .1 .4 }, start .pre .1 .0 .number _ _ (item-held (start .args .text .now) (start .args .shapes .now) (start .args .at) (item-within (start .args .text .now) (start .args .shapes .now) (start .args .at) _ (start .pre .1 .0)) _ (c .before .before .before .before .held-width .ensures (c .before .before .before .if1 .taken))) .aligned)
 
 array·framed-same-length : (t : ℕ) → array·framed-lts.Need-same-length (array·framed-callees t) (array·framed-at t) array·framed.Post array·framed-Inv-loop array·framed-μ-loop
 array·framed-same-length t c = search needs
 
 array·framed-returns : (t : ℕ) → array·framed-lts.Need-returns (array·framed-callees t) (array·framed-at t) array·framed.Post array·framed-Inv-loop array·framed-μ-loop
 array·framed-returns t c =
-    let at-readings = c .before .before in
-    let at-context-of = at-readings .before .before in
-    let at-held = at-context-of .before .before in
-    let start = at-held .before .before .before .before .before .before in
-    held-numbers _ _ _ _ (start .pre .1 .0 .number _ _ (at-held .held .given .1)) _ _ _ _ _ _ _ _ _ _ _ _ _ _ _ _ (start .pre .1 .1) (readings-as (at-context-of .context-of .ensures) _ _ _ _ _ _ (start .args .offsets) (at-readings .readings .ensures))
+    let start = c .before .before .before .before .before .before .before .before .before .before .before in
+    held-numbers _ _ _ _ (start .pre .1 .0 .number _ _ (item-held (start .args .text .now) (start .args .shapes .now) (start .args .at) (item-within (start .args .text .now) (start .args .shapes .now) (start .args .at) _ (start .pre .1 .0)) _ (c .before .before .before .before .before .before .before .held-width .ensures (c .before .before .before .before .before .before .if1 .taken)))) _ _ _ _ _ _ _ _ _ _ _ _ _ _ _ _ (start .pre .1 .1) (readings-as (c .before .before .before .before .context-of .ensures) _ _ _ _ _ _ (start .args .offsets) (c .before .before .readings .ensures))
 
-array·framed-element-kind-requires : (t : ℕ) → array·framed-lts.Need-element-kind-requires (array·framed-callees t) (array·framed-at t) array·framed.Post array·framed-Inv-loop array·framed-μ-loop
-array·framed-element-kind-requires t c κs = search needs
+array·framed-shared-slice-read-code : (t : ℕ) → array·framed-lts.Need-shared-slice-read-code (array·framed-callees t) (array·framed-at t) array·framed.Post array·framed-Inv-loop array·framed-μ-loop
+array·framed-shared-slice-read-code t c =
+    let start = c .before .before .before .before .before .before in
+    omega (arith, item-within (start .args .text .now) (start .args .shapes .now) (start .args .at) _ (start .pre .1 .0))
 
-array·framed-enum-known-plain : (t : ℕ) → array·framed-lts.Need-enum-known-plain (array·framed-callees t) (array·framed-at t) array·framed.Post array·framed-Inv-loop array·framed-μ-loop
-array·framed-enum-known-plain t c = search needs
+array·framed-is-text-requires : (t : ℕ) → array·framed-lts.Need-is-text-requires (array·framed-callees t) (array·framed-at t) array·framed.Post array·framed-Inv-loop array·framed-μ-loop
+array·framed-is-text-requires t c κs = search needs
 
 array·framed-texts-requires : (t : ℕ) → array·framed-lts.Need-texts-requires (array·framed-callees t) (array·framed-at t) array·framed.Post array·framed-Inv-loop array·framed-μ-loop
 array·framed-texts-requires t c κs =
-    let start = c .before .before .before .before .before .before .before .before .before .before in
+    let start = c .before .before .before .before .before .before .before .before .before in
     (start .pre .1 .2 .in-frame, record { begins = start .pre .1 .3; stands = start .pre .1 .4 })
 
 array·framed-same-length-2 : (t : ℕ) → array·framed-lts.Need-same-length-2 (array·framed-callees t) (array·framed-at t) array·framed.Post array·framed-Inv-loop array·framed-μ-loop
@@ -101,13 +116,10 @@ array·framed-same-length-2 t c = search needs
 
 array·framed-returns-2 : (t : ℕ) → array·framed-lts.Need-returns-2 (array·framed-callees t) (array·framed-at t) array·framed.Post array·framed-Inv-loop array·framed-μ-loop
 array·framed-returns-2 t c =
-    let at-texts = c .before .before in
-    let at-plain = at-texts .before .before .before in
-    let at-element-kind = at-plain .before .before in
-    let start = at-element-kind .before .before .before .before .before .before in
-    held-texts (contextOf (start .args .ride)) (start .args .text .now) (start .args .shapes .now) (start .args .item) _ (start .pre .1 .0)
-    (sym (at-plain .plain .given .1) ∙ at-element-kind .element-kind .ensures) (start .args .offsets) (start .args .place) (start .args .part .now)
-    (start .args .lead) _ _ _ _ _ _ (at-texts .texts .ensures)
+    let start = c .before .before .before .before .before .before .before .before .before .before .before .before in
+    held-texts (contextOf (start .args .ride)) (start .args .text .now) (start .args .shapes .now) (itemOf (start .args .text .now) (start .args .shapes .now) (start .args .at)) _ (start .pre .1 .0)
+    (item-text (start .args .text .now) (start .args .shapes .now) (start .args .at) (item-within (start .args .text .now) (start .args .shapes .now) (start .args .at) _ (start .pre .1 .0)) (sym (c .before .before .before .before .if2 .taken) ∙ c .before .before .before .before .before .is-text .ensures)) (start .args .offsets) (start .args .place) (start .args .part .now)
+    (start .args .lead) _ _ _ _ _ _ (c .before .before .texts .ensures)
 
 array·framed-sub-table : (t : ℕ) → array·framed-lts.Need-sub-table (array·framed-callees t) (array·framed-at t) array·framed.Post array·framed-Inv-loop array·framed-μ-loop
 array·framed-sub-table t c = omega arith
@@ -161,8 +173,7 @@ array·framed-entry-requires t c κs =
     let start = at-loop .before .before .before .before .before .before .before .before .before .before .before in (
       omega (arith, start .pre .0),
       (
-        start .pre .1 .0,
-        at-if1 .if1 .taken,
+        repeated-as (start .args .text .now) (start .args .shapes .now) (start .args .at) (at-if1 .if3 .taken) (start .pre .1 .0),
         start .pre .1 .2,
         omega
             (arith, at-loop .loop .inv .bound, start .pre .1 .4 .start, length-drop (start .args .lead) (start .args .part .now), start .pre .1 .3),
@@ -175,37 +186,42 @@ array·framed-entry-requires t c κs =
         omega
             (arith, start .pre .1 .4 .start, length-drop (start .args .lead) (start .args .part .now), start .pre .1 .3),
         λ z. absurd
-            (false≢true (sym (start .pre .1 .1) ∙ z)),
+            (false≢true (sym (fixed-as (start .args .text .now) (start .args .shapes .now) (start .args .at) (at-if1 .if3 .taken) (start .pre .1 .1)) ∙ z)),
       ),
     )
 
 array·framed-value-requires : (t : ℕ) → array·framed-lts.Need-value-requires (array·framed-callees t) (array·framed-at t) array·framed.Post array·framed-Inv-loop array·framed-μ-loop
 array·framed-value-requires t c κs =
-    let at-loop = c .before .before .before .before .before in
+    let at-if1 = c .before in
+    let at-loop = at-if1 .before .before .before .before in
     let start = at-loop .before .before .before .before .before .before .before .before .before .before .before in
-    (omega (arith, start .pre .0), (start .pre .1 .0 .child, start .pre .1 .2, omega (arith, at-loop .loop .inv .bound, start .pre .1 .4 .start, length-drop (start .args .lead) (start .args .part .now), start .pre .1 .3)))
+    (omega (arith, start .pre .0), (repeated-as (start .args .text .now) (start .args .shapes .now) (start .args .at) (at-if1 .if3 .left) (start .pre .1 .0) .child, start .pre .1 .2, omega (arith, at-loop .loop .inv .bound, start .pre .1 .4 .start, length-drop (start .args .lead) (start .args .part .now), start .pre .1 .3)))
 
 -- what one turn reads: an element, or an entry
-array·framed-turn : (t : ℕ) (c : array·framed-lts.Joined1 (array·framed-callees t) (array·framed-at t) array·framed.Post array·framed-Inv-loop array·framed-μ-loop)
+array·framed-turn : (t : ℕ) (c : array·framed-lts.Joined3 (array·framed-callees t) (array·framed-at t) array·framed.Post array·framed-Inv-loop array·framed-μ-loop)
     → Between (stepIn (contextOf (c .before .before .before .before .before .before .before .before .before .before .before .before .before .before .before .args .ride))
-    (c .before .before .before .before .before .before .before .before .before .before .before .before .before .before .before .args .text .now) (c .before .before .before .before .before .before .before .before .before .before .before .before .before .before .before .args .item)
+    (c .before .before .before .before .before .before .before .before .before .before .before .before .before .before .before .args .text .now)
+    (itemOf (c .before .before .before .before .before .before .before .before .before .before .before .before .before .before .before .args .text .now) (c .before .before .before .before .before .before .before .before .before .before .before .before .before .before .before .args .shapes .now)
+    (c .before .before .before .before .before .before .before .before .before .before .before .before .before .before .before .args .at))
     (c .before .before .before .before .before .before .before .before .before .before .before .before .before .before .before .args .place) (c .before .before .before .before .before .before .before .before .before .before .before .before .before .before .before .args .part .now)
     (c .before .before .before .before .before .before .before .before .before .before .before .before .before .before .before .args .lead + c .before .before .before .before .before .before .before .before .before .before .before .before .before .before .before .args .offsets .start)
     (c .before .before .before .before .before .before .before .before .before .before .before .before .before .before .before .args .lead + c .before .before .before .before .loop .u)
     (c .before .before .before .before .before .before .before .before .before .before .before .before .before .before .before .args .lead + c .before .before .next .result .value))
     (c .before .before .before .before .before .before .before .before .before .before .before .before .before .before .before .args .part .now)
     (c .before .before .before .before .before .before .before .before .before .before .before .before .before .before .before .args .lead + c .before .before .before .before .loop .u)
-    (c .before .before .before .before .before .before .before .before .before .before .before .before .before .before .before .args .lead + c .before .before .next .result .value) (c .before .before .before .before .loop .m) (c .before .before .before .before .loop .out) (c .if1 .out)
-    (c .if1 .r)
+    (c .before .before .before .before .before .before .before .before .before .before .before .before .before .before .before .args .lead + c .before .before .next .result .value) (c .before .before .before .before .loop .m) (c .before .before .before .before .loop .out) (c .if3 .out)
+    (c .if3 .r)
 array·framed-turn t c =
     let at-next = c .before .before in
     let at-loop = at-next .before .before in
     let start = at-loop .before .before .before .before .before .before .before .before .before .before .before in
-    ⊎-elim (λ x. arrived (x .5) (x .6) (x .2 .ensures))
-    (λ x. arrived (x .5) (x .6) (step-child (contextOf (start .args .ride)) (start .args .text .now) (start .args .item) (start .args .place)
+    ⊎-elim (λ x. arrived (x .5) (x .6) (step-entry (contextOf (start .args .ride)) (start .args .text .now) (start .args .shapes .now) (start .args .at) _ (start .args .place)
+    (start .args .part .now) (start .args .lead + start .args .offsets .start) (start .args .lead + at-loop .loop .u)
+    (start .args .lead + at-next .next .result .value) _ _ _ _ (x .0 .taken) (x .2 .ensures)))
+    (λ x. arrived (x .5) (x .6) (step-element (contextOf (start .args .ride)) (start .args .text .now) (start .args .shapes .now) (start .args .at) _ (start .args .place)
     (start .args .part .now) (start .args .lead + start .args .offsets .start) (start .args .lead + at-loop .loop .u)
     (start .args .lead + at-next .next .result .value) _ _ _ _ (x .0 .left) (x .2 .ensures)))
-    (c .if1 .came)
+    (c .if3 .came)
 
 array·framed-behind-requires : (t : ℕ) → array·framed-lts.Need-behind-requires (array·framed-callees t) (array·framed-at t) array·framed.Post array·framed-Inv-loop array·framed-μ-loop
 array·framed-behind-requires t c κs =
@@ -233,7 +249,7 @@ array·framed-returns-3 t c =
     (omega (arith, length-ends (tableIn (start .args .offsets)) (drop (start .args .lead) (start .args .part .now)), at-loop-test .loop-test .taken)) _ _
     (omega (arith, ends-below (start .pre .1 .4) (at-loop .loop .i)))
     (rw (next-end (start .pre .1 .4) (at-loop .loop .i) (at-next .next .result) (at-loop-test .loop-test .taken)
-    (rw (tail (start .args .lead) (start .args .part .now)) at (at-next .next .ensures))) at (array·framed-turn t (at-2))) (at-if2 .if2 .taken))
+    (rw (tail (start .args .lead) (start .args .part .now)) at (at-next .next .ensures))) at (array·framed-turn t (at-2))) (at-if2 .if4 .taken))
 
 array·framed-add-u : (t : ℕ) → array·framed-lts.Need-add-u (array·framed-callees t) (array·framed-at t) array·framed.Post array·framed-Inv-loop array·framed-μ-loop
 array·framed-add-u t c =
@@ -263,7 +279,7 @@ array·framed-loop-again t c =
     (omega (arith, length-ends (tableIn (start .args .offsets)) (drop (start .args .lead) (start .args .part .now)), at-loop-test .loop-test .taken)) _ _
     (omega (arith, ends-below (start .pre .1 .4) (at-loop .loop .i)))
     (rw (next-end (start .pre .1 .4) (at-loop .loop .i) (at-next .next .result) (at-loop-test .loop-test .taken)
-    (rw (tail (start .args .lead) (start .args .part .now)) at (at-next .next .ensures))) at (array·framed-turn t (at-2))) (at-if2 .if2 .left)
+    (rw (tail (start .args .lead) (start .args .part .now)) at (at-next .next .ensures))) at (array·framed-turn t (at-2))) (at-if2 .if4 .left)
 
 array·framed-sub-done : (t : ℕ) → array·framed-lts.Need-sub-done (array·framed-callees t) (array·framed-at t) array·framed.Post array·framed-Inv-loop array·framed-μ-loop
 array·framed-sub-done t c =
@@ -296,13 +312,16 @@ array·framed-spec t =
     array·framed-lts.spec (array·framed-callees t) (array·framed-at t) array·framed.Post
     array·framed-Inv-loop
     array·framed-μ-loop
-    (array·framed-enum-known-held t)
+    (array·framed-add-child t)
+    (array·framed-held-width-requires t)
+    (array·framed-add-held t)
+    (array·framed-shared-slice-read-held t)
     (array·framed-context-of-requires t)
     (array·framed-readings-requires t)
     (array·framed-same-length t)
     (array·framed-returns t)
-    (array·framed-element-kind-requires t)
-    (array·framed-enum-known-plain t)
+    (array·framed-shared-slice-read-code t)
+    (array·framed-is-text-requires t)
     (array·framed-texts-requires t)
     (array·framed-same-length-2 t)
     (array·framed-returns-2 t)

@@ -1,9 +1,8 @@
 -- The needs of `body`, and what answers each.
+use Rattle.reader_cycle.proofs.Characters.{at-array, at-maybe, at-structure, at-variant, typed-within, variant-else}
 use Prim.Native.Nat.{ℕ}
-use Rattle.reader_cycle.proofs.Readers.{body-variant, reads-variant, variant-by}
-use Rattle.signature.proofs.TreeLaws.{described-kind}
+use Rattle.reader_cycle.proofs.Readers.{body-variant, reads-variant}
 use borrow.Author.Needs.{needs}
-use mathlib.Core.Path.{_∙_, sym}
 use native.Mathlib.Omega.{arith}
 use Rattle.reader_cycle.proofs as of
 use Rattle.reader_cycle.proofs.+array-array+array-elements+array-framed+body+container+dictionary-entry+dictionary-fixed_key+dictionary-text_key+maybe-maybe+structure-structure+value+variant-variant as cycle
@@ -27,39 +26,29 @@ body-callees t = (
   variant·variant.Post,
 )
 
-body-enum-told : (t : ℕ) → body-lts.Need-enum-told (body-callees t) (body-at t) body.Post
-body-enum-told t c = search needs
+body-shared-slice-read-code : (t : ℕ) → body-lts.Need-shared-slice-read-code (body-callees t) (body-at t) body.Post
+body-shared-slice-read-code t c =
+    let start = c .before .before .before .before in
+    omega (arith, typed-within (start .pre .1 .0 .typed))
 
 body-maybe-requires : (t : ℕ) → body-lts.Need-maybe-requires (body-callees t) (body-at t) body.Post
 body-maybe-requires t c κs =
-    let at-enum-told = c .before in
-    let start = at-enum-told .before .before .before .before .before .before in
-    (omega (arith, start .pre .0), (start .pre .1 .0, sym (described-kind (start .pre .1 .0)) ∙ at-enum-told .enum-told .given .1, start .pre .1 .1, start .pre .1 .3))
-
-body-enum-told-2 : (t : ℕ) → body-lts.Need-enum-told-2 (body-callees t) (body-at t) body.Post
-body-enum-told-2 t c = search needs
+    let start = c .before .before .before .before .before .before in
+    (omega (arith, start .pre .0), (start .pre .1 .0, at-maybe _ _ (typed-within (start .pre .1 .0 .typed)) (c .before .match .keys1), start .pre .1 .1, start .pre .1 .3))
 
 body-array-requires : (t : ℕ) → body-lts.Need-array-requires (body-callees t) (body-at t) body.Post
 body-array-requires t c κs =
-    let at-enum-told2 = c .before in
-    let start = at-enum-told2 .before .before .before .before .before .before in
-    (omega (arith, start .pre .0), (start .pre .1 .0, sym (described-kind (start .pre .1 .0)) ∙ at-enum-told2 .enum-told2 .given .1, start .pre .1 .1, start .pre .1 .3))
-
-body-enum-told-3 : (t : ℕ) → body-lts.Need-enum-told-3 (body-callees t) (body-at t) body.Post
-body-enum-told-3 t c = search needs
+    let start = c .before .before .before .before .before .before in
+    (omega (arith, start .pre .0), (start .pre .1 .0, at-array _ _ (typed-within (start .pre .1 .0 .typed)) (c .before .match .keys2), start .pre .1 .1, start .pre .1 .3))
 
 body-structure-requires : (t : ℕ) → body-lts.Need-structure-requires (body-callees t) (body-at t) body.Post
 body-structure-requires t c κs =
-    let at-enum-told3 = c .before in
-    let start = at-enum-told3 .before .before .before .before .before .before in
-    (omega (arith, start .pre .0), (start .pre .1 .0, sym (described-kind (start .pre .1 .0)) ∙ at-enum-told3 .enum-told3 .given .1, start .pre .1 .1, start .pre .1 .3))
-
-body-enum-told-4 : (t : ℕ) → body-lts.Need-enum-told-4 (body-callees t) (body-at t) body.Post
-body-enum-told-4 t c = search needs
+    let start = c .before .before .before .before .before .before in
+    (omega (arith, start .pre .0), (start .pre .1 .0, at-structure _ _ (typed-within (start .pre .1 .0 .typed)) (c .before .match .keys3), start .pre .1 .1, start .pre .1 .3))
 
 body-variant-requires : (t : ℕ) → body-lts.Need-variant-requires (body-callees t) (body-at t) body.Post
 body-variant-requires t c κs =
-    let start = c .before .before .before .before .before .before .before in
+    let start = c .before .before .before .before .before .before in
     (omega (arith, start .pre .0), (start .pre .1 .1, start .pre .1 .3))
 
 body-variant-requires-2 : (t : ℕ) → body-lts.Need-variant-requires-2 (body-callees t) (body-at t) body.Post
@@ -90,31 +79,25 @@ body-same-length-4 t c = search needs
 
 body-returns-4 : (t : ℕ) → body-lts.Need-returns-4 (body-callees t) (body-at t) body.Post
 body-returns-4 t c =
-    let at-variant = c .before .before in
-    let at-enum-told4 = at-variant .before .before in
-    let start = at-enum-told4 .before .before .before .before .before .before in
-    body-variant (start .args .text .now) (start .args .shape .at) _ _ _ _ _ _ _ _ _ _ _ _ (reads-variant _ _ (start .pre .1 .0 .typed) (sym (described-kind (start .pre .1 .0)) ∙ at-enum-told4 .enum-told4 .given .1)) (at-variant .variant .ensures)
+    let start = c .before .before .before .before .before .before .before .before .before in
+    body-variant (start .args .text .now) (start .args .at) _ _ _ _ _ _ _ _ _ _ _ _ (reads-variant _ _ (start .pre .1 .0 .typed) (at-variant _ _ (typed-within (start .pre .1 .0 .typed)) (c .before .before .before .before .match .keys4))) (c .before .before .variant .ensures)
 
 body-same-length-5 : (t : ℕ) → body-lts.Need-same-length-5 (body-callees t) (body-at t) body.Post
 body-same-length-5 t c = search needs
 
 body-returns-5 : (t : ℕ) → body-lts.Need-returns-5 (body-callees t) (body-at t) body.Post
 body-returns-5 t c =
-    let at-variant2 = c .before .before in
-    let at-match = at-variant2 .before .before in
-    let start = at-match .before .before .before .before .before in
-    body-variant (start .args .text .now) (start .args .shape .at) _ _ _ _ _ _ _ _ _ _ _ _ (variant-by (start .args .text .now) (start .args .shape .at) _ (start .pre .1 .0 .typed) (described-kind (start .pre .1 .0)) (start .pre .1 .2) (at-match .match .keys5)) (at-variant2 .variant2 .ensures)
+    let start = c .before .before .before .before .before .before .before .before .before in
+    let rest = c .before .before .before .before .match .rest in
+    body-variant (start .args .text .now) (start .args .at) _ _ _ _ _ _ _ _ _ _ _ _ (variant-else (start .pre .1 .0 .typed) (start .pre .1 .2) (rest .0 .0 .0 .1) (rest .0 .0 .1) (rest .0 .1)) (c .before .before .variant2 .ensures)
 
 pub body-spec : {M : Type 1} (t : ℕ) → body-lts.Closed (body-callees t) (body-at t) body.Post M
 body-spec t =
     body-lts.spec (body-callees t) (body-at t) body.Post
-    (body-enum-told t)
+    (body-shared-slice-read-code t)
     (body-maybe-requires t)
-    (body-enum-told-2 t)
     (body-array-requires t)
-    (body-enum-told-3 t)
     (body-structure-requires t)
-    (body-enum-told-4 t)
     (body-variant-requires t)
     (body-variant-requires-2 t)
     (body-same-length t)

@@ -1,9 +1,11 @@
 -- The needs of `dictionary·text_key`, and what answers each.
+use Rattle.reader_cycle.proofs.Characters.{key-read, part-fits}
+use Rattle.reader_cycle.proofs.Repeats.{value-within}
+use Rattle.reader_cycle.proofs.Readers.{within-child}
 use Prim.Native.Nat.{_+_, _-_, ℕ}
 use Rattle.container_depths.specs.Opening.{depthsOf}
 use Rattle.reader_cycle.proofs.Deepening.{told}
 use Rattle.reader_cycle.proofs.Entries.{key-there, text-key-missing, text-key-narrow, text-key-stop, text-key-value}
-use Rattle.reader_cycle.proofs.Rides.{inside-as, key-as}
 use Rattle.reader_cycle.proofs.Structures.{width-small}
 use Rattle.reader_cycle.specs.Rides.{contextOf}
 use borrow.Author.Needs.{needs}
@@ -12,14 +14,13 @@ use native.Mathlib.Omega.{arith}
 use Rattle.reader_cycle.proofs as of
 use Rattle.reader_cycle.proofs.+array-array+array-elements+array-framed+body+container+dictionary-entry+dictionary-fixed_key+dictionary-text_key+maybe-maybe+structure-structure+value+variant-variant as cycle
 use cycle.Proof.Measures.{dictionary·text-key-at, value-below}
-use Rattle.reader_basic.proofs.basic.child_key.Reads as child-key-reads
 use Rattle.reader_basic.proofs.behind.Reads as behind-reads
 use Rattle.reader_basic.proofs.refused.Reads as refused-reads
 use cycle.Lts-dictionary-text_key as dictionary·text-key-lts
+use of.codes.leaf.Reads as leaf-reads
 use of.dictionary.key_ends.Reads as key-ends-reads
 use of.dictionary.text_key.Reads as dictionary·text-key
 use of.ends.past.Reads as past-reads
-use of.ride.context_of.Reads as context-of-reads
 use of.value.Reads as value
 
 abbrev dictionary·text-key-callees : ℕ → dictionary·text-key-lts.Claims
@@ -28,10 +29,8 @@ dictionary·text-key-callees t = (
   key-ends-reads.Learnt,
   refused-reads.Asked,
   refused-reads.Learnt,
-  context-of-reads.Asked,
-  context-of-reads.Learnt,
-  child-key-reads.Asked,
-  child-key-reads.Learnt,
+  leaf-reads.Asked,
+  leaf-reads.Learnt,
   value-below t,
   value.Post,
   past-reads.Asked,
@@ -42,7 +41,7 @@ dictionary·text-key-callees t = (
 
 dictionary·text-key-key-ends-requires : (t : ℕ) → dictionary·text-key-lts.Need-key-ends-requires (dictionary·text-key-callees t) (dictionary·text-key-at t) dictionary·text-key.Post
 dictionary·text-key-key-ends-requires t c κs =
-    let start = c .before .before .before .before in
+    let start = c .before .before .before in
     (start .pre .1 .3, start .pre .1 .4, omega (arith, start .pre .1 .1 .in-frame))
 
 dictionary·text-key-refused-requires : (t : ℕ) → dictionary·text-key-lts.Need-refused-requires (dictionary·text-key-callees t) (dictionary·text-key-at t) dictionary·text-key.Post
@@ -54,42 +53,64 @@ dictionary·text-key-returns t c =
     let at-key-ends = at-if1 .before in
     told (c .refused .ensures) (text-key-missing _ _ _ _ _ (at-key-ends .key-ends .ensures) _ _ _ _ _ _ _ _ _ (at-if1 .if1 .taken))
 
-dictionary·text-key-context-of-requires : (t : ℕ) → dictionary·text-key-lts.Need-context-of-requires (dictionary·text-key-callees t) (dictionary·text-key-at t) dictionary·text-key.Post
-dictionary·text-key-context-of-requires t c κs = search needs
+dictionary·text-key-add-leaf : (t : ℕ) → dictionary·text-key-lts.Need-add-leaf (dictionary·text-key-callees t) (dictionary·text-key-at t) dictionary·text-key.Post
+dictionary·text-key-add-leaf t c =
+    let start = c .before .before .before .before .before in
+    omega (arith, value-within (start .args .text .now) (start .args .shapes .now) (start .args .at) (start .pre .1 .0), start .pre .1 .0 .child .typed .short)
 
-dictionary·text-key-child-key-requires : (t : ℕ) → dictionary·text-key-lts.Need-child-key-requires (dictionary·text-key-callees t) (dictionary·text-key-at t) dictionary·text-key.Post
-dictionary·text-key-child-key-requires t c κs =
-    let at-context-of = c .before in
-    let start = at-context-of .before .before .before .before .before .before .before in
-    (inside-as (at-context-of .context-of .ensures) (start .pre .1 .1), start .pre .1 .2, start .pre .1 .0 .key)
+dictionary·text-key-shared-slice-read-leaf : (t : ℕ) → dictionary·text-key-lts.Need-shared-slice-read-leaf (dictionary·text-key-callees t) (dictionary·text-key-at t) dictionary·text-key.Post
+dictionary·text-key-shared-slice-read-leaf t c =
+    let start = c .before .before .before .before .before .before in
+    omega (arith, value-within (start .args .text .now) (start .args .shapes .now) (start .args .at) (start .pre .1 .0))
+
+dictionary·text-key-sub-leaf : (t : ℕ) → dictionary·text-key-lts.Need-sub-leaf (dictionary·text-key-callees t) (dictionary·text-key-at t) dictionary·text-key.Post
+dictionary·text-key-sub-leaf t c = omega (arith, (key-there _ _ _ _ _ (c .before .before .key-ends .ensures) (c .before .if1 .left)) .end)
+
+dictionary·text-key-part-leaf-start : (t : ℕ) → dictionary·text-key-lts.Need-part-leaf-start (dictionary·text-key-callees t) (dictionary·text-key-at t) dictionary·text-key.Post
+dictionary·text-key-part-leaf-start t c =
+    let start = c .before .before .before .before .before .before in
+    omega (arith, (key-there _ _ _ _ _ (c .before .before .key-ends .ensures) (c .before .if1 .left)) .end, (key-there _ _ _ _ _ (c .before .before .key-ends .ensures) (c .before .if1 .left)) .within, start .pre .1 .4)
+
+dictionary·text-key-part-leaf-end : (t : ℕ) → dictionary·text-key-lts.Need-part-leaf-end (dictionary·text-key-callees t) (dictionary·text-key-at t) dictionary·text-key.Post
+dictionary·text-key-part-leaf-end t c =
+    let start = c .before .before .before .before .before .before in
+    omega (arith, (key-there _ _ _ _ _ (c .before .before .key-ends .ensures) (c .before .if1 .left)) .end, (key-there _ _ _ _ _ (c .before .before .key-ends .ensures) (c .before .if1 .left)) .within, start .pre .1 .4)
+
+dictionary·text-key-add-leaf-2 : (t : ℕ) → dictionary·text-key-lts.Need-add-leaf-2 (dictionary·text-key-callees t) (dictionary·text-key-at t) dictionary·text-key.Post
+dictionary·text-key-add-leaf-2 t c =
+    let start = c .before .before .before .before .before .before .before in
+    omega (arith, start .pre .1 .1 .in-frame, start .pre .1 .2)
+
+dictionary·text-key-leaf-requires : (t : ℕ) → dictionary·text-key-lts.Need-leaf-requires (dictionary·text-key-callees t) (dictionary·text-key-at t) dictionary·text-key.Post
+dictionary·text-key-leaf-requires t c κs =
+    let start = c .before .before .before .before .before .before .before .before in
+    within-child (start .args .part .now) (start .args .j) (c .before .before .before .before .key-ends .result .child) (start .pre .1 .1) (omega (arith, (key-there _ _ _ _ _ (c .before .before .before .before .key-ends .ensures) (c .before .before .before .if1 .left)) .end)) (omega (arith, (key-there _ _ _ _ _ (c .before .before .before .before .key-ends .ensures) (c .before .before .before .if1 .left)) .within, start .pre .1 .4))
 
 dictionary·text-key-same-length : (t : ℕ) → dictionary·text-key-lts.Need-same-length (dictionary·text-key-callees t) (dictionary·text-key-at t) dictionary·text-key.Post
 dictionary·text-key-same-length t c = search needs
 
 dictionary·text-key-returns-2 : (t : ℕ) → dictionary·text-key-lts.Need-returns-2 (dictionary·text-key-callees t) (dictionary·text-key-at t) dictionary·text-key.Post
 dictionary·text-key-returns-2 t c =
-    let at-child-key = c .before .before .before in
-    let at-context-of = at-child-key .before .before in
-    let at-if1 = at-context-of .before in
-    let at-key-ends = at-if1 .before in
-    let start = at-key-ends .before .before .before .before .before in
-    text-key-stop _ _ _ _ _ _ _ (key-there _ _ _ _ _ (at-key-ends .key-ends .ensures) (at-if1 .if1 .left)) _ _ (start .pre .1 .3) (start .pre .1 .4) _ _ (key-as (at-context-of .context-of .ensures) (start .args .item .key) (start .args .place) (start .args .j) (at-key-ends .key-ends .result .child) (start .args .part .now) (at-child-key .child-key .ensures) (depthsOf (contextOf (start .args .ride) .depths))) (c .if2 .taken)
+    let start = c .before .before .before .before .before .before .before .before .before .before .before .before in
+    let key = key-read (start .args .text .now) (start .args .at + 2) (omega (arith, value-within (start .args .text .now) (start .args .shapes .now) (start .args .at) (start .pre .1 .0))) (contextOf (start .args .ride) .position) (contextOf (start .args .ride) .big)
+    (start .args .place) (start .args .part .now) (start .args .j) (c .before .before .before .before .before .before .before .before .key-ends .result .child) _ _ _ _ (omega (arith, (key-there _ _ _ _ _ (c .before .before .before .before .before .before .before .before .key-ends .ensures) (c .before .before .before .before .before .before .before .if1 .left)) .end)) (omega (arith, (key-there _ _ _ _ _ (c .before .before .before .before .before .before .before .before .key-ends .ensures) (c .before .before .before .before .before .before .before .if1 .left)) .within, start .pre .1 .4)) (c .before .before .before .leaf .ensures) (depthsOf (contextOf (start .args .ride) .depths)) in
+    text-key-stop _ _ _ _ _ _ _ (key-there _ _ _ _ _ (c .before .before .before .before .before .before .before .before .key-ends .ensures) (c .before .before .before .before .before .before .before .if1 .left)) _ _ (start .pre .1 .3) (start .pre .1 .4) _ _ key (c .if2 .taken)
 
 dictionary·text-key-add-from : (t : ℕ) → dictionary·text-key-lts.Need-add-from (dictionary·text-key-callees t) (dictionary·text-key-at t) dictionary·text-key.Post
 dictionary·text-key-add-from t c =
     let at-child-key = c .before .before .before in
     let start = at-child-key .before .before .before .before .before .before .before .before .before in
-    omega (arith, at-child-key .child-key .ensures (depthsOf (contextOf (start .args .ride) .depths)) .fits, start .pre .1 .1 .in-frame, start .pre .1 .2)
+    omega (arith, part-fits (start .args .part .now) (start .args .j) (c .before .before .before .before .before .before .before .before .key-ends .result .child) (at-child-key .leaf .ensures (depthsOf (contextOf (start .args .ride) .depths)) .fits), start .pre .1 .1 .in-frame, start .pre .1 .2)
 
 dictionary·text-key-add-if3 : (t : ℕ) → dictionary·text-key-lts.Need-add-if3 (dictionary·text-key-callees t) (dictionary·text-key-at t) dictionary·text-key.Post
 dictionary·text-key-add-if3 t c =
     let at-child-key = c .before .before .before .before in
-    let at-if1 = at-child-key .before .before .before in
+    let at-if1 = at-child-key .before .before .before .before in
     let at-key-ends = at-if1 .before in
-    let start = at-key-ends .before .before .before .before .before in
+    let start = at-key-ends .before .before .before .before in
     omega (
       arith,
-      at-child-key .child-key .ensures (depthsOf (contextOf (start .args .ride) .depths)) .fits,
+      part-fits (start .args .part .now) (start .args .j) (c .before .before .before .before .before .before .before .before .before .key-ends .result .child) (at-child-key .leaf .ensures (depthsOf (contextOf (start .args .ride) .depths)) .fits),
       start .pre .1 .1 .in-frame,
       start .pre .1 .2,
       (key-there _ _ _ _ _ (at-key-ends .key-ends .ensures) (at-if1 .if1 .left)) .width,
@@ -105,44 +126,45 @@ dictionary·text-key-same-length-2 t c = search needs
 
 dictionary·text-key-returns-3 : (t : ℕ) → dictionary·text-key-lts.Need-returns-3 (dictionary·text-key-callees t) (dictionary·text-key-at t) dictionary·text-key.Post
 dictionary·text-key-returns-3 t c =
-    let at-if3 = c .before in
-    let at-if2 = at-if3 .before .before in
-    let at-child-key = at-if2 .before .before .before in
-    let at-context-of = at-child-key .before .before in
-    let at-if1 = at-context-of .before in
-    let at-key-ends = at-if1 .before in
-    let start = at-key-ends .before .before .before .before .before in
-    told (c .refused2 .ensures) (text-key-narrow _ _ _ _ _ _ _ (key-there _ _ _ _ _ (at-key-ends .key-ends .ensures) (at-if1 .if1 .left)) _ _ (start .pre .1 .3) (start .pre .1 .4) _ _ (key-as (at-context-of .context-of .ensures) (start .args .item .key) (start .args .place) (start .args .j) (at-key-ends .key-ends .result .child) (start .args .part .now) (at-child-key .child-key .ensures) (depthsOf (contextOf (start .args .ride) .depths))) (at-if2 .if2 .left) (at-if3 .if3 .taken))
+    let start = c .before .before .before .before .before .before .before .before .before .before .before .before .before .before .before in
+    let key = key-read (start .args .text .now) (start .args .at + 2) (omega (arith, value-within (start .args .text .now) (start .args .shapes .now) (start .args .at) (start .pre .1 .0))) (contextOf (start .args .ride) .position) (contextOf (start .args .ride) .big)
+    (start .args .place) (start .args .part .now) (start .args .j) (c .before .before .before .before .before .before .before .before .before .before .before .key-ends .result .child) _ _ _ _ (omega (arith, (key-there _ _ _ _ _ (c .before .before .before .before .before .before .before .before .before .before .before .key-ends .ensures) (c .before .before .before .before .before .before .before .before .before .before .if1 .left)) .end)) (omega (arith, (key-there _ _ _ _ _ (c .before .before .before .before .before .before .before .before .before .before .before .key-ends .ensures) (c .before .before .before .before .before .before .before .before .before .before .if1 .left)) .within, start .pre .1 .4)) (c .before .before .before .before .before .before .leaf .ensures) (depthsOf (contextOf (start .args .ride) .depths)) in
+    told (c .refused2 .ensures) (text-key-narrow _ _ _ _ _ _ _ (key-there _ _ _ _ _ (c .before .before .before .before .before .before .before .before .before .before .before .key-ends .ensures) (c .before .before .before .before .before .before .before .before .before .before .if1 .left)) _ _ (start .pre .1 .3) (start .pre .1 .4) _ _ key (c .before .before .before .if2 .left) (c .before .if3 .taken))
 
 dictionary·text-key-sub-end : (t : ℕ) → dictionary·text-key-lts.Need-sub-end (dictionary·text-key-callees t) (dictionary·text-key-at t) dictionary·text-key.Post
-dictionary·text-key-sub-end t c = omega (arith, c .before .before .if3 .left)
+dictionary·text-key-sub-end t c = omega (arith, c .before .if3 .left)
+
+dictionary·text-key-add-value : (t : ℕ) → dictionary·text-key-lts.Need-add-value (dictionary·text-key-callees t) (dictionary·text-key-at t) dictionary·text-key.Post
+dictionary·text-key-add-value t c =
+    let start = c .before .before .before .before .before .before .before .before .before .before .before .before .before .before .before in
+    omega (arith, value-within (start .args .text .now) (start .args .shapes .now) (start .args .at) (start .pre .1 .0), start .pre .1 .0 .child .typed .short)
 
 dictionary·text-key-value-requires : (t : ℕ) → dictionary·text-key-lts.Need-value-requires (dictionary·text-key-callees t) (dictionary·text-key-at t) dictionary·text-key.Post
 dictionary·text-key-value-requires t c κs =
-    let at-child-key = c .before .before .before .before .before .before .before .before in
+    let at-child-key = c .before .before .before .before .before .before .before in
     let start = at-child-key .before .before .before .before .before .before .before .before .before in
-    (omega (arith, start .pre .0), (start .pre .1 .0 .child, start .pre .1 .1, omega (arith, at-child-key .child-key .ensures (depthsOf (contextOf (start .args .ride) .depths)) .fits, start .pre .1 .2)))
+    (omega (arith, start .pre .0), (start .pre .1 .0 .child, start .pre .1 .1, omega (arith, part-fits (start .args .part .now) (start .args .j) (c .before .before .before .before .before .before .before .before .before .before .before .before .key-ends .result .child) (at-child-key .leaf .ensures (depthsOf (contextOf (start .args .ride) .depths)) .fits), start .pre .1 .2)))
 
 dictionary·text-key-past-requires : (t : ℕ) → dictionary·text-key-lts.Need-past-requires (dictionary·text-key-callees t) (dictionary·text-key-at t) dictionary·text-key.Post
 dictionary·text-key-past-requires t c κs =
     let at-value = c .before .before in
     let at-if1 = at-value .before .before .before .before .before .before .before .before .before .before .before .before in
     let at-key-ends = at-if1 .before in
-    let start = at-key-ends .before .before .before .before .before in
+    let start = at-key-ends .before .before .before .before in
     omega (arith, at-value .value .ensures .fits, start .pre .1 .1 .in-frame, (key-there _ _ _ _ _ (at-key-ends .key-ends .ensures) (at-if1 .if1 .left)) .width, width-small (start .args .e - start .args .j) (omega (arith, start .pre .1 .1 .in-frame, start .pre .1 .3, start .pre .1 .4)))
 
 dictionary·text-key-behind-requires : (t : ℕ) → dictionary·text-key-lts.Need-behind-requires (dictionary·text-key-callees t) (dictionary·text-key-at t) dictionary·text-key.Post
 dictionary·text-key-behind-requires t c κs =
     let at-value = c .before .before .before in
-    let at-if3 = at-value .before .before .before .before in
+    let at-if3 = at-value .before .before .before in
     let at-child-key = at-if3 .before .before .before .before .before in
     let start = at-child-key .before .before .before .before .before .before .before .before .before in
     omega (
       arith,
-      at-child-key .child-key .ensures (depthsOf (contextOf (start .args .ride) .depths)) .fits,
+      part-fits (start .args .part .now) (start .args .j) (c .before .before .before .before .before .before .before .before .before .before .before .before .before .before .before .before .key-ends .result .child) (at-child-key .leaf .ensures (depthsOf (contextOf (start .args .ride) .depths)) .fits),
       c .past .ensures _
-          (start .args .e - (start .args .j + at-child-key .child-key .result .used)) _
-          (length (start .args .part .now) - (start .args .j + at-child-key .child-key .result .used)) _ _ _
+          (start .args .e - (start .args .j + at-child-key .leaf .result .used)) _
+          (length (start .args .part .now) - (start .args .j + at-child-key .leaf .result .used)) _ _ _
           (λ x. omega (arith, at-value .value .ensures .ends x, at-if3 .if3 .left)) (omega (arith, start .pre .1 .3, start .pre .1 .4))
           (at-value .value .ensures) .fits,
       start .pre .1 .1 .in-frame,
@@ -154,18 +176,11 @@ dictionary·text-key-same-length-3 t c = search needs
 
 dictionary·text-key-returns-4 : (t : ℕ) → dictionary·text-key-lts.Need-returns-4 (dictionary·text-key-callees t) (dictionary·text-key-at t) dictionary·text-key.Post
 dictionary·text-key-returns-4 t c =
-    let at-past = c .before in
-    let at-value = at-past .before .before .before in
-    let at-if3 = at-value .before .before .before .before in
-    let at-if2 = at-if3 .before .before in
-    let at-child-key = at-if2 .before .before .before in
-    let at-context-of = at-child-key .before .before in
-    let at-if1 = at-context-of .before in
-    let at-key-ends = at-if1 .before in
-    let start = at-key-ends .before .before .before .before .before in
-    told (c .behind .ensures) (text-key-value _ _ _ _ _ _ _ (key-there _ _ _ _ _ (at-key-ends .key-ends .ensures) (at-if1 .if1 .left)) _ _
-    (start .pre .1 .3) (start .pre .1 .4) _ _ (key-as (at-context-of .context-of .ensures) (start .args .item .key) (start .args .place) (start .args .j) (at-key-ends .key-ends .result .child) (start .args .part .now) (at-child-key .child-key .ensures) (depthsOf (contextOf (start .args .ride) .depths))) (at-if2 .if2 .left) (at-if3 .if3 .left) _ _ _
-    (at-value .value .ensures) (at-past .past .ensures))
+    let start = c .before .before .before .before .before .before .before .before .before .before .before .before .before .before .before .before .before .before .before .before .before in
+    let key = key-read (start .args .text .now) (start .args .at + 2) (omega (arith, value-within (start .args .text .now) (start .args .shapes .now) (start .args .at) (start .pre .1 .0))) (contextOf (start .args .ride) .position) (contextOf (start .args .ride) .big)
+    (start .args .place) (start .args .part .now) (start .args .j) (c .before .before .before .before .before .before .before .before .before .before .before .before .before .before .before .before .before .key-ends .result .child) _ _ _ _ (omega (arith, (key-there _ _ _ _ _ (c .before .before .before .before .before .before .before .before .before .before .before .before .before .before .before .before .before .key-ends .ensures) (c .before .before .before .before .before .before .before .before .before .before .before .before .before .before .before .before .if1 .left)) .end)) (omega (arith, (key-there _ _ _ _ _ (c .before .before .before .before .before .before .before .before .before .before .before .before .before .before .before .before .before .key-ends .ensures) (c .before .before .before .before .before .before .before .before .before .before .before .before .before .before .before .before .if1 .left)) .within, start .pre .1 .4)) (c .before .before .before .before .before .before .before .before .before .before .before .before .leaf .ensures) (depthsOf (contextOf (start .args .ride) .depths)) in
+    told (c .behind .ensures) (text-key-value _ _ _ _ _ _ _ (key-there _ _ _ _ _ (c .before .before .before .before .before .before .before .before .before .before .before .before .before .before .before .before .before .key-ends .ensures) (c .before .before .before .before .before .before .before .before .before .before .before .before .before .before .before .before .if1 .left)) _ _ (start .pre .1 .3) (start .pre .1 .4) _ _ key (c .before .before .before .before .before .before .before .before .before .if2 .left) (c .before .before .before .before .before .before .before .if3 .left) _ _ _
+    (c .before .before .before .before .value .ensures) (c .before .past .ensures))
 
 pub dictionary·text-key-spec : {M : Type 1} (t : ℕ) → dictionary·text-key-lts.Closed (dictionary·text-key-callees t) (dictionary·text-key-at t) dictionary·text-key.Post M
 dictionary·text-key-spec t =
@@ -173,8 +188,13 @@ dictionary·text-key-spec t =
     (dictionary·text-key-key-ends-requires t)
     (dictionary·text-key-refused-requires t)
     (dictionary·text-key-returns t)
-    (dictionary·text-key-context-of-requires t)
-    (dictionary·text-key-child-key-requires t)
+    (dictionary·text-key-add-leaf t)
+    (dictionary·text-key-shared-slice-read-leaf t)
+    (dictionary·text-key-sub-leaf t)
+    (dictionary·text-key-part-leaf-start t)
+    (dictionary·text-key-part-leaf-end t)
+    (dictionary·text-key-add-leaf-2 t)
+    (dictionary·text-key-leaf-requires t)
     (dictionary·text-key-same-length t)
     (dictionary·text-key-returns-2 t)
     (dictionary·text-key-add-from t)
@@ -183,6 +203,7 @@ dictionary·text-key-spec t =
     (dictionary·text-key-same-length-2 t)
     (dictionary·text-key-returns-3 t)
     (dictionary·text-key-sub-end t)
+    (dictionary·text-key-add-value t)
     (dictionary·text-key-value-requires t)
     (dictionary·text-key-past-requires t)
     (dictionary·text-key-behind-requires t)

@@ -1,13 +1,11 @@
 -- The needs of `maybe·maybe`, and what answers each.
+use Rattle.reader_cycle.proofs.Characters.{typed-within}
 use Prim.Native.Nat.{ℕ}
 use Rattle.reader_cycle.proofs.Deepening.{inside-deeper, level-falls, told}
 use Rattle.reader_cycle.proofs.Maybes.{maybe-deep, maybe-fixed, maybe-none, maybe-other}
-use Rattle.signature.proofs.Letters.{cut}
-use Rattle.signature.proofs.TreeLaws.{described-as, described-fixed, maybe-described}
-use Rattle.signature.specs.declared.Letter.the-variants.{Maybe}
-use Rattle.signature.specs.declared.shapes.Shape.{Shape}
+use Rattle.signature.proofs.TreeLaws.{described-fixed, maybe-described}
 use borrow.Author.Needs.{needs}
-use mathlib.Core.Path.{ap, refl}
+use mathlib.Core.Path.{_∙_, refl}
 use native.Mathlib.Omega.{arith}
 use Rattle.reader_cycle.proofs as of
 use Rattle.reader_cycle.proofs.+array-array+array-elements+array-framed+body+container+dictionary-entry+dictionary-fixed_key+dictionary-text_key+maybe-maybe+structure-structure+value+variant-variant as cycle
@@ -20,7 +18,7 @@ use of.maybe.end_byte.Reads as end-byte-reads
 use of.maybe.maybe.Reads as maybe·maybe
 use of.opening.in_maybe.Reads as in-maybe-reads
 use of.value.Reads as value
-use Rattle.signature.proofs.shapes.shape_in.Reads as shape-in-reads
+use Rattle.signature.proofs.shapes.fixed_of.Reads as fixed-of-reads
 
 abbrev maybe·maybe-callees : ℕ → maybe·maybe-lts.Claims
 maybe·maybe-callees t = (
@@ -32,8 +30,8 @@ maybe·maybe-callees t = (
   in-maybe-reads.Learnt,
   refused-reads.Asked,
   refused-reads.Learnt,
-  shape-in-reads.Asked,
-  shape-in-reads.Learnt,
+  fixed-of-reads.Asked,
+  fixed-of-reads.Learnt,
   value-below t,
   value.Post,
   end-byte-reads.Asked,
@@ -42,7 +40,7 @@ maybe·maybe-callees t = (
 
 maybe·maybe-add-emit : (t : ℕ) → maybe·maybe-lts.Need-add-emit (maybe·maybe-callees t) (maybe·maybe-at t) maybe·maybe.Post
 maybe·maybe-add-emit t c =
-    let start = c .before .before .before .before .before .before in
+    let start = c .before .before .before .before .before in
     omega (arith, start .pre .1 .2 .in-frame, start .pre .1 .3)
 
 maybe·maybe-emit-requires : (t : ℕ) → maybe·maybe-lts.Need-emit-requires (maybe·maybe-callees t) (maybe·maybe-at t) maybe·maybe.Post
@@ -58,12 +56,12 @@ maybe·maybe-returns : (t : ℕ) → maybe·maybe-lts.Need-returns (maybe·maybe
 maybe·maybe-returns t c =
     let at-emit = c .before .before .before in
     let at-if1 = at-emit .before .before in
-    let start = at-if1 .before .before .before .before .before in
+    let start = at-if1 .before .before .before .before in
     told (c .done .ensures) (maybe-none (start .pre .1 .0 .typed) (start .pre .1 .1) _ _ _ _ _ _ _ _ (at-if1 .if1 .taken) (at-emit .emit .ensures .0) (at-emit .emit .ensures .1))
 
 maybe·maybe-in-maybe-requires : (t : ℕ) → maybe·maybe-lts.Need-in-maybe-requires (maybe·maybe-callees t) (maybe·maybe-at t) maybe·maybe.Post
 maybe·maybe-in-maybe-requires t c κs =
-    let start = c .before .before .before .before .before in
+    let start = c .before .before .before .before in
     start .pre .1 .2 .shallow
 
 maybe·maybe-refused-requires : (t : ℕ) → maybe·maybe-lts.Need-refused-requires (maybe·maybe-callees t) (maybe·maybe-at t) maybe·maybe.Post
@@ -74,34 +72,44 @@ maybe·maybe-returns-2 t c =
     let at-if2 = c .before in
     let at-in-maybe = at-if2 .before in
     let at-if1 = at-in-maybe .before in
-    let start = at-if1 .before .before .before .before .before in
+    let start = at-if1 .before .before .before .before in
     told (c .refused .ensures) (maybe-deep (start .pre .1 .0 .typed) (start .pre .1 .1) _ _ _ _ _ _ (at-if1 .if1 .left) (at-in-maybe .in-maybe .ensures) (at-if2 .if2 .taken))
 
 maybe·maybe-add-emit-2 : (t : ℕ) → maybe·maybe-lts.Need-add-emit-2 (maybe·maybe-callees t) (maybe·maybe-at t) maybe·maybe.Post
 maybe·maybe-add-emit-2 t c =
-    let start = c .before .before .before .before .before .before .before .before in
+    let start = c .before .before .before .before .before .before .before in
     omega (arith, start .pre .1 .2 .in-frame, start .pre .1 .3)
 
 maybe·maybe-emit-requires-2 : (t : ℕ) → maybe·maybe-lts.Need-emit-requires-2 (maybe·maybe-callees t) (maybe·maybe-at t) maybe·maybe.Post
 maybe·maybe-emit-requires-2 t c κs = search needs
 
-maybe·maybe-add-shape-in : (t : ℕ) → maybe·maybe-lts.Need-add-shape-in (maybe·maybe-callees t) (maybe·maybe-at t) maybe·maybe.Post
-maybe·maybe-add-shape-in t c =
-    let start = c .before .before .before .before .before .before .before .before .before .before .before .before in
-    omega (arith, cut (start .args .text .now) (start .args .shape .at) Maybe 109 (start .pre .1 .1) refl .within, start .pre .1 .0 .typed .short)
+maybe·maybe-add-held : (t : ℕ) → maybe·maybe-lts.Need-add-held (maybe·maybe-callees t) (maybe·maybe-at t) maybe·maybe.Post
+maybe·maybe-add-held t c =
+    let start = c .before .before .before .before .before .before .before .before .before .before in
+    omega (arith, typed-within (start .pre .1 .0 .typed), start .pre .1 .0 .typed .short)
 
-maybe·maybe-shape-in-requires : (t : ℕ) → maybe·maybe-lts.Need-shape-in-requires (maybe·maybe-callees t) (maybe·maybe-at t) maybe·maybe.Post
-maybe·maybe-shape-in-requires t c κs = search needs
+maybe·maybe-mul-fixed-of : (t : ℕ) → maybe·maybe-lts.Need-mul-fixed-of (maybe·maybe-callees t) (maybe·maybe-at t) maybe·maybe.Post
+maybe·maybe-mul-fixed-of t c =
+    let start = c .before .before .before .before .before .before .before .before .before .before in
+    omega (arith, typed-within (start .pre .1 .0 .typed), start .pre .1 .0 .typed .short)
+
+maybe·maybe-element-copy-out-fixed-of : (t : ℕ) → maybe·maybe-lts.Need-element-copy-out-fixed-of (maybe·maybe-callees t) (maybe·maybe-at t) maybe·maybe.Post
+maybe·maybe-element-copy-out-fixed-of t c =
+    let start = c .before .before .before .before .before .before .before .before .before .before in
+    omega (arith, typed-within ((maybe-described _ _ (start .pre .1 .0 .typed) (start .pre .1 .1) _ (start .pre .1 .0 .table)) .typed), start .pre .1 .0 .typed .short)
+
+maybe·maybe-fixed-of-requires : (t : ℕ) → maybe·maybe-lts.Need-fixed-of-requires (maybe·maybe-callees t) (maybe·maybe-at t) maybe·maybe.Post
+maybe·maybe-fixed-of-requires t c κs = search needs
 
 maybe·maybe-value-requires : (t : ℕ) → maybe·maybe-lts.Need-value-requires (maybe·maybe-callees t) (maybe·maybe-at t) maybe·maybe.Post
 maybe·maybe-value-requires t c κs =
     let at-shape-in = c .before .before in
     let at-if2 = at-shape-in .before .before .before .before .before .before in
     let at-in-maybe = at-if2 .before in
-    let start = at-in-maybe .before .before .before .before .before .before in (
+    let start = at-in-maybe .before .before .before .before .before in (
       omega (arith, level-falls (at-in-maybe .in-maybe .ensures .deeper (at-if2 .if2 .left)), start .pre .0),
       (
-        (described-as (at-shape-in .shape-in .ensures) (maybe-described _ _ (start .pre .1 .0 .typed) (start .pre .1 .1) _ (start .pre .1 .0 .table))),
+        (maybe-described _ _ (start .pre .1 .0 .typed) (start .pre .1 .1) _ (start .pre .1 .0 .table)),
         inside-deeper (at-in-maybe .in-maybe .ensures .deeper (at-if2 .if2 .left)) (start .pre .1 .2),
         start .pre .1 .3,
       ),
@@ -119,11 +127,10 @@ maybe·maybe-returns-3 t c =
     let at-if2 = at-emit2 .before .before in
     let at-in-maybe = at-if2 .before in
     let at-if1 = at-in-maybe .before in
-    let start = at-if1 .before .before .before .before .before in
+    let start = at-if1 .before .before .before .before in
     maybe-fixed (start .pre .1 .0 .typed) (start .pre .1 .1) _ _ _ _ _ _ (at-if1 .if1 .left) (at-in-maybe .in-maybe .ensures .deeper (at-if2 .if2 .left))
-    (at-emit2 .emit2 .ensures .0) (at-emit2 .emit2 .ensures .1) (ap (λ (s : Shape). s .at) (at-shape-in .shape-in .ensures))
-    (described-fixed (described-as (at-shape-in .shape-in .ensures)
-    (maybe-described _ _ (start .pre .1 .0 .typed) (start .pre .1 .1) _ (start .pre .1 .0 .table)))) _ _ (at-if3 .if3 .taken) (at-value .value .ensures)
+    (at-emit2 .emit2 .ensures .0) (at-emit2 .emit2 .ensures .1) refl
+    (at-shape-in .fixed-of .ensures ∙ described-fixed (maybe-described _ _ (start .pre .1 .0 .typed) (start .pre .1 .1) _ (start .pre .1 .0 .table))) _ _ (at-if3 .if3 .taken) (at-value .value .ensures)
 
 maybe·maybe-sub-stop : (t : ℕ) → maybe·maybe-lts.Need-sub-stop (maybe·maybe-callees t) (maybe·maybe-at t) maybe·maybe.Post
 maybe·maybe-sub-stop t c = omega arith
@@ -133,10 +140,10 @@ maybe·maybe-value-requires-2 t c κs =
     let at-shape-in = c .before .before in
     let at-if2 = at-shape-in .before .before .before .before .before .before in
     let at-in-maybe = at-if2 .before in
-    let start = at-in-maybe .before .before .before .before .before .before in (
+    let start = at-in-maybe .before .before .before .before .before in (
       omega (arith, level-falls (at-in-maybe .in-maybe .ensures .deeper (at-if2 .if2 .left)), start .pre .0),
       (
-        (described-as (at-shape-in .shape-in .ensures) (maybe-described _ _ (start .pre .1 .0 .typed) (start .pre .1 .1) _ (start .pre .1 .0 .table))),
+        (maybe-described _ _ (start .pre .1 .0 .typed) (start .pre .1 .1) _ (start .pre .1 .0 .table)),
         inside-deeper (at-in-maybe .in-maybe .ensures .deeper (at-if2 .if2 .left)) (start .pre .1 .2),
         start .pre .1 .3,
       ),
@@ -146,7 +153,7 @@ maybe·maybe-end-byte-requires : (t : ℕ) → maybe·maybe-lts.Need-end-byte-re
 maybe·maybe-end-byte-requires t c κs =
     let at-value2 = c .before .before in
     let at-if1 = at-value2 .before .before .before .before .before .before .before .before .before .before .before in
-    let start = at-if1 .before .before .before .before .before in
+    let start = at-if1 .before .before .before .before in
     (at-if1 .if1 .left, omega (arith, start .pre .1 .2 .in-frame), at-value2 .value2 .ensures .fits, at-value2 .value2 .ensures .ends)
 
 maybe·maybe-same-length-3 : (t : ℕ) → maybe·maybe-lts.Need-same-length-3 (maybe·maybe-callees t) (maybe·maybe-at t) maybe·maybe.Post
@@ -161,11 +168,10 @@ maybe·maybe-returns-4 t c =
     let at-if2 = at-emit2 .before .before in
     let at-in-maybe = at-if2 .before in
     let at-if1 = at-in-maybe .before in
-    let start = at-if1 .before .before .before .before .before in
+    let start = at-if1 .before .before .before .before in
     maybe-other (start .pre .1 .0 .typed) (start .pre .1 .1) _ _ _ _ _ _ (at-if1 .if1 .left) (at-in-maybe .in-maybe .ensures .deeper (at-if2 .if2 .left))
-    (at-emit2 .emit2 .ensures .0) (at-emit2 .emit2 .ensures .1) (ap (λ (s : Shape). s .at) (at-shape-in .shape-in .ensures))
-    (described-fixed (described-as (at-shape-in .shape-in .ensures)
-    (maybe-described _ _ (start .pre .1 .0 .typed) (start .pre .1 .1) _ (start .pre .1 .0 .table)))) _ _ (at-if3 .if3 .left)
+    (at-emit2 .emit2 .ensures .0) (at-emit2 .emit2 .ensures .1) refl
+    (at-shape-in .fixed-of .ensures ∙ described-fixed (maybe-described _ _ (start .pre .1 .0 .typed) (start .pre .1 .1) _ (start .pre .1 .0 .table))) _ _ (at-if3 .if3 .left)
     (c .end-byte .ensures _ _ _ _ _ (at-value2 .value2 .ensures))
 
 pub maybe·maybe-spec : {M : Type 1} (t : ℕ) → maybe·maybe-lts.Closed (maybe·maybe-callees t) (maybe·maybe-at t) maybe·maybe.Post M
@@ -181,8 +187,10 @@ maybe·maybe-spec t =
     (maybe·maybe-returns-2 t)
     (maybe·maybe-add-emit-2 t)
     (maybe·maybe-emit-requires-2 t)
-    (maybe·maybe-add-shape-in t)
-    (maybe·maybe-shape-in-requires t)
+    (maybe·maybe-add-held t)
+    (maybe·maybe-mul-fixed-of t)
+    (maybe·maybe-element-copy-out-fixed-of t)
+    (maybe·maybe-fixed-of-requires t)
     (maybe·maybe-value-requires t)
     (maybe·maybe-same-length-2 t)
     (maybe·maybe-returns-3 t)

@@ -1,15 +1,16 @@
 -- The needs of `structure·structure`, and what answers each.
+use Rattle.reader_cycle.proofs.Characters.{rowed-typed, typed-within}
 use Prim.Native.Nat.{_+_, _-_, ℕ}
 use Rattle.container_depths.specs.Opening.{depthsOf}
 use Rattle.meaning.specs.Offsets.{encodedWidth}
+use Rattle.reader_basic.proofs.Loops.{kept}
 use Rattle.reader_cycle.proofs.Deepening.{few-variants, inside-deeper, level-falls, told}
-use Rattle.reader_cycle.proofs.Rides.{fields-as}
-use Rattle.reader_cycle.proofs.Structures.{structure-deep, structure-on, structure-stop, FieldsLeft, ends-room, field-turn, fields-begin, fields-last, fields-next, fields-no-offset, fields-stop}
+use Rattle.reader_cycle.proofs.Structures.{FieldsLeft, ends-room, field-turn, fields-begin, fields-last, fields-next, fields-no-offset, fields-stop, last-by, next-by, structure-deep, structure-on, structure-stop}
 use Rattle.reader_cycle.specs.Rides.{contextOf}
 use Rattle.signature.proofs.Letters.{cut}
-use Rattle.signature.proofs.TreeLaws.{described-aligned, last-field-of, next-field-of, structure-fixed, structure-rowed}
+use Rattle.signature.proofs.TreeLaws.{described-aligned, structure-fixed, structure-rowed}
+use Rattle.signature.specs.Shapes.{shapeIn}
 use Rattle.signature.specs.declared.Letter.the-variants.{OpenStructure}
-use Rattle.reader_basic.proofs.Loops.{kept}
 use borrow.Author.Needs.{needs}
 use lib.ListN.{length}
 use mathlib.Core.Path.{refl}
@@ -23,13 +24,12 @@ use Rattle.reader_basic.proofs.behind.Reads as behind-reads
 use Rattle.reader_basic.proofs.refused.Reads as refused-reads
 use cycle.Lts-structure-structure as structure·structure-lts
 use of.opening.in_structure.Reads as in-structure-reads
-use of.ride.position_of.Reads as position-of-reads
 use of.structure.close_fields.Reads as close-fields-reads
-use Rattle.signature.proofs.closes_at.Reads as closes-at-reads
 use of.structure.field_ends.Reads as field-ends-reads
 use of.structure.structure.Reads as structure·structure
 use of.value.Reads as value
-use Rattle.signature.proofs.shapes.shape_in.Reads as shape-in-reads
+use Rattle.signature.proofs.closes_at.Reads as closes-at-reads
+use Rattle.signature.proofs.shapes.next_of.Reads as next-of-reads
 
 abbrev structure·structure-callees : ℕ → structure·structure-lts.Claims
 structure·structure-callees t = (
@@ -39,14 +39,12 @@ structure·structure-callees t = (
   refused-reads.Learnt,
   emit-reads.Asked,
   emit-reads.Learnt,
-  shape-in-reads.Asked,
-  shape-in-reads.Learnt,
+  next-of-reads.Asked,
+  next-of-reads.Learnt,
   closes-at-reads.Asked,
   closes-at-reads.Learnt,
   value-below t,
   value.Post,
-  position-of-reads.Asked,
-  position-of-reads.Learnt,
   close-fields-reads.Asked,
   close-fields-reads.Learnt,
   behind-reads.Asked,
@@ -58,16 +56,16 @@ structure·structure-callees t = (
 )
 
 abbrev structure·structure-Inv-loop : structure·structure-lts.InvT-loop
-structure·structure-Inv-loop text shapes shape part lead place ride out₀ n deep deeper m₀ i₀ end₀ u₀ out m i end u =
-    FieldsLeft (contextOf deeper .position) (contextOf deeper .big) (contextOf deeper .depths .variant) text (shape .at + 1) (shape .fixed) (shape .alignment) place part lead (encodedWidth (length part - lead)) (depthsOf (contextOf deeper .depths)) m₀ out₀ i end u m out
+structure·structure-Inv-loop text shapes at part lead place ride out₀ n deep deeper m₀ i₀ end₀ u₀ out m i end u =
+    FieldsLeft (contextOf deeper .position) (contextOf deeper .big) (contextOf deeper .depths .variant) text (at + 1) (shapeIn text shapes at .fixed) (shapeIn text shapes at .alignment) place part lead (encodedWidth (length part - lead)) (depthsOf (contextOf deeper .depths)) m₀ out₀ i end u m out
 
 abbrev structure·structure-μ-loop : structure·structure-lts.MeasureT-loop
-structure·structure-μ-loop text shapes shape part lead place ride out₀ n deep deeper m₀ i₀ end₀ u₀ out m i end u =
+structure·structure-μ-loop text shapes at part lead place ride out₀ n deep deeper m₀ i₀ end₀ u₀ out m i end u =
     length text - i
 
 structure·structure-in-structure-requires : (t : ℕ) → structure·structure-lts.Need-in-structure-requires (structure·structure-callees t) (structure·structure-at t) structure·structure.Post structure·structure-Inv-loop structure·structure-μ-loop
 structure·structure-in-structure-requires t c κs =
-    let start = c .before .before .before .before in
+    let start = c .before .before .before in
     start .pre .1 .2 .shallow
 
 structure·structure-refused-requires : (t : ℕ) → structure·structure-lts.Need-refused-requires (structure·structure-callees t) (structure·structure-at t) structure·structure.Post structure·structure-Inv-loop structure·structure-μ-loop
@@ -77,12 +75,12 @@ structure·structure-returns : (t : ℕ) → structure·structure-lts.Need-retur
 structure·structure-returns t c =
     let at-open = c .before in
     let at-in-structure = at-open .before in
-    let start = at-in-structure .before .before .before .before .before in
+    let start = at-in-structure .before .before .before .before in
     told (c .refused .ensures) (structure-deep (start .pre .1 .0) (start .pre .1 .1) _ _ _ _ _ _ (at-in-structure .in-structure .ensures) (at-open .if1 .taken))
 
 structure·structure-add-emit : (t : ℕ) → structure·structure-lts.Need-add-emit (structure·structure-callees t) (structure·structure-at t) structure·structure.Post structure·structure-Inv-loop structure·structure-μ-loop
 structure·structure-add-emit t c =
-    let start = c .before .before .before .before .before .before .before in
+    let start = c .before .before .before .before .before .before in
     omega (arith, start .pre .1 .2 .in-frame, start .pre .1 .3)
 
 structure·structure-emit-requires : (t : ℕ) → structure·structure-lts.Need-emit-requires (structure·structure-callees t) (structure·structure-at t) structure·structure.Post structure·structure-Inv-loop structure·structure-μ-loop
@@ -90,24 +88,44 @@ structure·structure-emit-requires t c κs = search needs
 
 structure·structure-add-i : (t : ℕ) → structure·structure-lts.Need-add-i (structure·structure-callees t) (structure·structure-at t) structure·structure.Post structure·structure-Inv-loop structure·structure-μ-loop
 structure·structure-add-i t c =
-    let start = c .before .before .before .before .before .before .before .before .before .before .before in
-    omega (arith, cut (start .args .text .now) (start .args .shape .at) OpenStructure 40 (start .pre .1 .1) refl .within, start .pre .1 .0 .typed .short)
+    let start = c .before .before .before .before .before .before .before .before .before in
+    omega (arith, cut (start .args .text .now) (start .args .at) OpenStructure 40 (start .pre .1 .1) refl .within, start .pre .1 .0 .typed .short)
 
 structure·structure-loop-holds : (t : ℕ) → structure·structure-lts.Need-loop-holds (structure·structure-callees t) (structure·structure-at t) structure·structure.Post structure·structure-Inv-loop structure·structure-μ-loop
 structure·structure-loop-holds t c =
-    let start = c .before .before .before .before .before .before .before .before .before .before .before in
+    let start = c .before .before .before .before .before .before .before .before .before in
     fields-begin _ _ _ _ _ _ _ _ _ _ _ _ _ _ (structure-rowed (start .pre .1 .0) (start .pre .1 .1)) (structure-fixed (start .pre .1 .0) (start .pre .1 .1)) (start .pre .1 .3)
 
-structure·structure-shape-in-requires : (t : ℕ) → structure·structure-lts.Need-shape-in-requires (structure·structure-callees t) (structure·structure-at t) structure·structure.Post structure·structure-Inv-loop structure·structure-μ-loop
-structure·structure-shape-in-requires t c κs = search needs
+structure·structure-mul-field : (t : ℕ) → structure·structure-lts.Need-mul-field (structure·structure-callees t) (structure·structure-at t) structure·structure.Post structure·structure-Inv-loop structure·structure-μ-loop
+structure·structure-mul-field t c =
+    let at-loop = c in
+    let at-emit = c .before .before .before in
+    let at-open = c .before .before .before .before .before in
+    let at-in-structure = c .before .before .before .before .before .before in
+    let start = c .before .before .before .before .before .before .before .before .before .before in
+    let d = at-in-structure .in-structure .ensures .deeper (at-open .if1 .left) in
+    omega (arith, typed-within (rowed-typed (at-loop .loop .inv .rowed)), start .pre .1 .0 .typed .short)
+
+structure·structure-element-copy-out-field : (t : ℕ) → structure·structure-lts.Need-element-copy-out-field (structure·structure-callees t) (structure·structure-at t) structure·structure.Post structure·structure-Inv-loop structure·structure-μ-loop
+structure·structure-element-copy-out-field t c =
+    let at-loop = c in
+    let at-emit = c .before .before .before in
+    let at-open = c .before .before .before .before .before in
+    let at-in-structure = c .before .before .before .before .before .before in
+    let start = c .before .before .before .before .before .before .before .before .before .before in
+    let d = at-in-structure .in-structure .ensures .deeper (at-open .if1 .left) in
+    omega (arith, typed-within (rowed-typed (at-loop .loop .inv .rowed)), start .pre .1 .0 .typed .short)
+
+structure·structure-next-of-requires : (t : ℕ) → structure·structure-lts.Need-next-of-requires (structure·structure-callees t) (structure·structure-at t) structure·structure.Post structure·structure-Inv-loop structure·structure-μ-loop
+structure·structure-next-of-requires t c κs = search needs
 
 structure·structure-add-j : (t : ℕ) → structure·structure-lts.Need-add-j (structure·structure-callees t) (structure·structure-at t) structure·structure.Post structure·structure-Inv-loop structure·structure-μ-loop
 structure·structure-add-j t c =
-    let at-loop = c .before in
-    let at-emit = at-loop .before .before .before .before in
+    let at-loop = c .before .before in
+    let at-emit = at-loop .before .before .before in
     let at-open = at-emit .before .before in
     let at-in-structure = at-open .before in
-    let start = at-in-structure .before .before .before .before .before in
+    let start = at-in-structure .before .before .before .before in
     let d = at-in-structure .in-structure .ensures .deeper (at-open .if1 .left) in
     omega (arith, at-loop .loop .inv .within, start .pre .1 .2 .in-frame)
 
@@ -119,118 +137,98 @@ structure·structure-value-requires t c κs =
     let at-if1 = c .before in
     let at-closes-at = at-if1 .before in
     let at-shape-in = at-closes-at .before in
-    let at-loop = at-shape-in .before in
-    let at-emit = at-loop .before .before .before .before in
+    let at-loop = at-shape-in .before .before in
+    let at-emit = at-loop .before .before .before in
     let at-open = at-emit .before .before in
     let at-in-structure = at-open .before in
-    let start = at-in-structure .before .before .before .before .before in
+    let start = at-in-structure .before .before .before .before in
     let d = at-in-structure .in-structure .ensures .deeper (at-open .if1 .left) in
-    (omega (arith, level-falls d, start .pre .0), ((last-field-of _ _ _ (at-loop .loop .inv .rowed) (start .pre .1 .0 .table) _ (at-shape-in .shape-in .ensures) _ refl (at-closes-at .closes-at .ensures .there (at-if1 .if2 .taken))) .shape, inside-deeper d (start .pre .1 .2), at-loop .loop .inv .within))
+    (omega (arith, level-falls d, start .pre .0), ((last-by _ _ _ (at-loop .loop .inv .rowed) (start .pre .1 .0 .table) (at-shape-in .next-of .ensures) (at-closes-at .closes-at .ensures) (at-if1 .if2 .taken)) .shape, inside-deeper d (start .pre .1 .2), at-loop .loop .inv .within))
 
-structure·structure-position-of-requires : (t : ℕ) → structure·structure-lts.Need-position-of-requires (structure·structure-callees t) (structure·structure-at t) structure·structure.Post structure·structure-Inv-loop structure·structure-μ-loop
-structure·structure-position-of-requires t c κs = search needs
+structure·structure-mul-close-fields : (t : ℕ) → structure·structure-lts.Need-mul-close-fields (structure·structure-callees t) (structure·structure-at t) structure·structure.Post structure·structure-Inv-loop structure·structure-μ-loop
+structure·structure-mul-close-fields t c =
+    let start = c .before .before .before .before .before .before .before .before .before .before .before .before .before .before .before .before .before .before in
+    omega (arith, typed-within (start .pre .1 .0 .typed), start .pre .1 .0 .typed .short)
+
+structure·structure-element-copy-out-close-fields : (t : ℕ) → structure·structure-lts.Need-element-copy-out-close-fields (structure·structure-callees t) (structure·structure-at t) structure·structure.Post structure·structure-Inv-loop structure·structure-μ-loop
+structure·structure-element-copy-out-close-fields t c =
+    let start = c .before .before .before .before .before .before .before .before .before .before .before .before .before .before .before .before .before .before in
+    omega (arith, typed-within (start .pre .1 .0 .typed), start .pre .1 .0 .typed .short)
 
 structure·structure-close-fields-requires : (t : ℕ) → structure·structure-lts.Need-close-fields-requires (structure·structure-callees t) (structure·structure-at t) structure·structure.Post structure·structure-Inv-loop structure·structure-μ-loop
 structure·structure-close-fields-requires t c κs =
-    let at-value = c .before .before .before in
-    let at-loop = at-value .before .before .before .before .before in
-    let at-emit = at-loop .before .before .before .before in
-    let at-open = at-emit .before .before in
-    let at-in-structure = at-open .before in
-    let start = at-in-structure .before .before .before .before .before in
+    let at-loop = c .before .before .before .before .before .before .before .before .before in
+    let at-emit = c .before .before .before .before .before .before .before .before .before .before .before .before in
+    let at-open = c .before .before .before .before .before .before .before .before .before .before .before .before .before .before in
+    let at-in-structure = c .before .before .before .before .before .before .before .before .before .before .before .before .before .before .before in
+    let start = c .before .before .before .before .before .before .before .before .before .before .before .before .before .before .before .before .before .before .before in
     let d = at-in-structure .in-structure .ensures .deeper (at-open .if1 .left) in
-    (start .pre .1 .2 .in-frame, omega (arith, c .position-of .ensures, inside-deeper d (start .pre .1 .2) .near), described-aligned (start .pre .1 .0), omega (arith, at-value .value .ensures .fits, at-loop .loop .inv .within), at-loop .loop .inv .inside, at-loop .loop .inv .whole)
+    (start .pre .1 .2 .in-frame, inside-deeper d (start .pre .1 .2) .near, described-aligned (start .pre .1 .0), omega (arith, c .before .before .before .value .ensures .fits, at-loop .loop .inv .within), at-loop .loop .inv .inside, at-loop .loop .inv .whole)
 
 structure·structure-behind-requires : (t : ℕ) → structure·structure-lts.Need-behind-requires (structure·structure-callees t) (structure·structure-at t) structure·structure.Post structure·structure-Inv-loop structure·structure-μ-loop
 structure·structure-behind-requires t c κs =
     let at-value = c .before .before .before .before in
-    let at-loop = at-value .before .before .before .before .before in
-    let at-emit = at-loop .before .before .before .before in
+    let at-loop = at-value .before .before .before .before .before .before in
+    let at-emit = at-loop .before .before .before in
     let at-open = at-emit .before .before in
     let at-in-structure = at-open .before in
-    let start = at-in-structure .before .before .before .before .before in
+    let start = at-in-structure .before .before .before .before in
     let d = at-in-structure .in-structure .ensures .deeper (at-open .if1 .left) in
     omega (arith, c .close-fields .ensures _ _ _ _ (at-value .value .ensures) .fits, start .pre .1 .2 .in-frame, at-loop .loop .inv .within)
 
 structure·structure-add-close : (t : ℕ) → structure·structure-lts.Need-add-close (structure·structure-callees t) (structure·structure-at t) structure·structure.Post structure·structure-Inv-loop structure·structure-μ-loop
 structure·structure-add-close t c =
-    let at-loop = c .before .before .before .before .before .before .before .before .before .before in
-    let at-emit = at-loop .before .before .before .before in
+    let at-loop = c .before .before .before .before .before .before .before .before .before .before .before in
+    let at-emit = at-loop .before .before .before in
     let at-open = at-emit .before .before in
     let at-in-structure = at-open .before in
-    let start = at-in-structure .before .before .before .before .before in
+    let start = at-in-structure .before .before .before .before in
     let d = at-in-structure .in-structure .ensures .deeper (at-open .if1 .left) in
     omega (arith, start .pre .1 .2 .in-frame, start .pre .1 .3)
 
 structure·structure-close-requires : (t : ℕ) → structure·structure-lts.Need-close-requires (structure·structure-callees t) (structure·structure-at t) structure·structure.Post structure·structure-Inv-loop structure·structure-μ-loop
 structure·structure-close-requires t c κs =
-    let at-behind = c .before in
-    let at-close-fields = at-behind .before in
-    let at-position-of = at-close-fields .before in
-    let at-value = at-position-of .before .before .before in
-    let at-if1 = at-value .before .before in
-    let at-closes-at = at-if1 .before in
-    let at-shape-in = at-closes-at .before in
-    let at-loop = at-shape-in .before in
-    let at-emit = at-loop .before .before .before .before in
-    let at-open = at-emit .before .before in
-    let at-in-structure = at-open .before in
-    let start = at-in-structure .before .before .before .before .before in
+    let at-loop = c .before .before .before .before .before .before .before .before .before .before .before .before in
+    let at-emit = c .before .before .before .before .before .before .before .before .before .before .before .before .before .before .before in
+    let at-open = c .before .before .before .before .before .before .before .before .before .before .before .before .before .before .before .before .before in
+    let at-in-structure = c .before .before .before .before .before .before .before .before .before .before .before .before .before .before .before .before .before .before in
+    let start = c .before .before .before .before .before .before .before .before .before .before .before .before .before .before .before .before .before .before .before .before .before .before in
     let d = at-in-structure .in-structure .ensures .deeper (at-open .if1 .left) in
-    let whole = told (at-behind .behind .ensures) (fields-last (at-loop .loop .inv) (few-variants (inside-deeper d (start .pre .1 .2))) _ _
-    (last-field-of _ _ _ (at-loop .loop .inv .rowed) (start .pre .1 .0 .table) _ (at-shape-in .shape-in .ensures) _ refl
-    (at-closes-at .closes-at .ensures .there (at-if1 .if2 .taken))) (fields-as (at-position-of .position-of .ensures) _ _ _ _ _ _ _ (at-close-fields .close-fields .ensures _ _ _ _ (at-value .value .ensures)))) in
+    let whole = told (c .before .behind .ensures) (fields-last (at-loop .loop .inv) (few-variants (inside-deeper d (start .pre .1 .2))) _ _
+    (last-by _ _ _ (at-loop .loop .inv .rowed) (start .pre .1 .0 .table) (c .before .before .before .before .before .before .before .before .before .before .next-of .ensures) (c .before .before .before .before .before .before .before .before .before .closes-at .ensures) (c .before .before .before .before .before .before .before .before .if2 .taken)) (c .before .before .close-fields .ensures _ _ _ _ (c .before .before .before .before .before .before .value .ensures))) in
     omega (arith, whole .fits, start .pre .1 .2 .in-frame, start .pre .1 .3)
 
 structure·structure-same-length : (t : ℕ) → structure·structure-lts.Need-same-length (structure·structure-callees t) (structure·structure-at t) structure·structure.Post structure·structure-Inv-loop structure·structure-μ-loop
 structure·structure-same-length t c =
-    let at-close = c .before .before in
-    let at-behind = at-close .before .before in
-    let at-close-fields = at-behind .before in
-    let at-position-of = at-close-fields .before in
-    let at-value = at-position-of .before .before .before in
-    let at-if1 = at-value .before .before in
-    let at-closes-at = at-if1 .before in
-    let at-shape-in = at-closes-at .before in
-    let at-loop = at-shape-in .before in
-    let at-emit = at-loop .before .before .before .before in
-    let at-open = at-emit .before .before in
-    let at-in-structure = at-open .before in
-    let start = at-in-structure .before .before .before .before .before in
+    let at-loop = c .before .before .before .before .before .before .before .before .before .before .before .before .before .before .before in
+    let at-emit = c .before .before .before .before .before .before .before .before .before .before .before .before .before .before .before .before .before .before in
+    let at-open = c .before .before .before .before .before .before .before .before .before .before .before .before .before .before .before .before .before .before .before .before in
+    let at-in-structure = c .before .before .before .before .before .before .before .before .before .before .before .before .before .before .before .before .before .before .before .before .before in
+    let start = c .before .before .before .before .before .before .before .before .before .before .before .before .before .before .before .before .before .before .before .before .before .before .before .before .before in
     let d = at-in-structure .in-structure .ensures .deeper (at-open .if1 .left) in
     kept (structure-on (start .pre .1 .0) (start .pre .1 .1) (start .args .part .now) (start .args .lead) (start .args .place) (contextOf (start .args .ride)) (start .args .n) (start .args .out .now) d _ _ _ _ (at-emit .emit .ensures .0) (at-emit .emit .ensures .1)
-    (at-close .close .ensures _ _ _ _ _ (told (at-behind .behind .ensures) (fields-last (at-loop .loop .inv) (few-variants (inside-deeper d (start .pre .1 .2))) _ _
-    (last-field-of _ _ _ (at-loop .loop .inv .rowed) (start .pre .1 .0 .table) _ (at-shape-in .shape-in .ensures) _ refl
-    (at-closes-at .closes-at .ensures .there (at-if1 .if2 .taken))) (fields-as (at-position-of .position-of .ensures) _ _ _ _ _ _ _ (at-close-fields .close-fields .ensures _ _ _ _ (at-value .value .ensures)))))))
+    (c .before .before .close .ensures _ _ _ _ _ (told (c .before .before .before .before .behind .ensures) (fields-last (at-loop .loop .inv) (few-variants (inside-deeper d (start .pre .1 .2))) _ _
+    (last-by _ _ _ (at-loop .loop .inv .rowed) (start .pre .1 .0 .table) (c .before .before .before .before .before .before .before .before .before .before .before .before .before .next-of .ensures) (c .before .before .before .before .before .before .before .before .before .before .before .before .closes-at .ensures) (c .before .before .before .before .before .before .before .before .before .before .before .if2 .taken)) (c .before .before .before .before .before .close-fields .ensures _ _ _ _ (c .before .before .before .before .before .before .before .before .before .value .ensures))))))
 
 structure·structure-returns-2 : (t : ℕ) → structure·structure-lts.Need-returns-2 (structure·structure-callees t) (structure·structure-at t) structure·structure.Post structure·structure-Inv-loop structure·structure-μ-loop
 structure·structure-returns-2 t c =
-    let at-close = c .before .before in
-    let at-behind = at-close .before .before in
-    let at-close-fields = at-behind .before in
-    let at-position-of = at-close-fields .before in
-    let at-value = at-position-of .before .before .before in
-    let at-if1 = at-value .before .before in
-    let at-closes-at = at-if1 .before in
-    let at-shape-in = at-closes-at .before in
-    let at-loop = at-shape-in .before in
-    let at-emit = at-loop .before .before .before .before in
-    let at-open = at-emit .before .before in
-    let at-in-structure = at-open .before in
-    let start = at-in-structure .before .before .before .before .before in
+    let at-loop = c .before .before .before .before .before .before .before .before .before .before .before .before .before .before .before in
+    let at-emit = c .before .before .before .before .before .before .before .before .before .before .before .before .before .before .before .before .before .before in
+    let at-open = c .before .before .before .before .before .before .before .before .before .before .before .before .before .before .before .before .before .before .before .before in
+    let at-in-structure = c .before .before .before .before .before .before .before .before .before .before .before .before .before .before .before .before .before .before .before .before .before in
+    let start = c .before .before .before .before .before .before .before .before .before .before .before .before .before .before .before .before .before .before .before .before .before .before .before .before .before in
     let d = at-in-structure .in-structure .ensures .deeper (at-open .if1 .left) in
     structure-on (start .pre .1 .0) (start .pre .1 .1) _ _ _ _ _ _ d _ _ _ _ (at-emit .emit .ensures .0) (at-emit .emit .ensures .1)
-    (at-close .close .ensures _ _ _ _ _ (told (at-behind .behind .ensures) (fields-last (at-loop .loop .inv) (few-variants (inside-deeper d (start .pre .1 .2))) _ _
-    (last-field-of _ _ _ (at-loop .loop .inv .rowed) (start .pre .1 .0 .table) _ (at-shape-in .shape-in .ensures) _ refl
-    (at-closes-at .closes-at .ensures .there (at-if1 .if2 .taken))) (fields-as (at-position-of .position-of .ensures) _ _ _ _ _ _ _ (at-close-fields .close-fields .ensures _ _ _ _ (at-value .value .ensures))))))
+    (c .before .before .close .ensures _ _ _ _ _ (told (c .before .before .before .before .behind .ensures) (fields-last (at-loop .loop .inv) (few-variants (inside-deeper d (start .pre .1 .2))) _ _
+    (last-by _ _ _ (at-loop .loop .inv .rowed) (start .pre .1 .0 .table) (c .before .before .before .before .before .before .before .before .before .before .before .before .before .next-of .ensures) (c .before .before .before .before .before .before .before .before .before .before .before .before .closes-at .ensures) (c .before .before .before .before .before .before .before .before .before .before .before .if2 .taken)) (c .before .before .before .before .before .close-fields .ensures _ _ _ _ (c .before .before .before .before .before .before .before .before .before .value .ensures)))))
 
 structure·structure-field-ends-requires : (t : ℕ) → structure·structure-lts.Need-field-ends-requires (structure·structure-callees t) (structure·structure-at t) structure·structure.Post structure·structure-Inv-loop structure·structure-μ-loop
 structure·structure-field-ends-requires t c κs =
-    let at-loop = c .before .before .before in
-    let at-emit = at-loop .before .before .before .before in
+    let at-loop = c .before .before .before .before in
+    let at-emit = at-loop .before .before .before in
     let at-open = at-emit .before .before in
     let at-in-structure = at-open .before in
-    let start = at-in-structure .before .before .before .before .before in
+    let start = at-in-structure .before .before .before .before in
     let d = at-in-structure .in-structure .ensures .deeper (at-open .if1 .left) in
     (start .pre .1 .3, at-loop .loop .inv .inside, omega (arith, start .pre .1 .2 .in-frame))
 
@@ -247,37 +245,36 @@ structure·structure-returns-3 t c =
     let at-if1 = at-field-ends .before in
     let at-closes-at = at-if1 .before in
     let at-shape-in = at-closes-at .before in
-    let at-loop = at-shape-in .before in
-    let at-emit = at-loop .before .before .before .before in
+    let at-loop = at-shape-in .before .before in
+    let at-emit = at-loop .before .before .before in
     let at-open = at-emit .before .before in
     let at-in-structure = at-open .before in
-    let start = at-in-structure .before .before .before .before .before in
+    let start = at-in-structure .before .before .before .before in
     let d = at-in-structure .in-structure .ensures .deeper (at-open .if1 .left) in
     structure-stop (start .pre .1 .0) (start .pre .1 .1) _ _ _ _ _ _ d _ _ _ _ _ (at-emit .emit .ensures .0) (at-emit .emit .ensures .1) (c .refused2 .ensures) (at-if2 .if3 .taken) (fields-no-offset (at-loop .loop .inv) (few-variants (inside-deeper d (start .pre .1 .2)))
-    (next-field-of _ _ _ (at-loop .loop .inv .rowed) (start .pre .1 .0 .table) _ (at-shape-in .shape-in .ensures) _ refl
-    (at-closes-at .closes-at .ensures .missing (at-if1 .if2 .left))) _ (at-field-ends .field-ends .ensures) (at-if2 .if3 .taken))
+    (next-by _ _ _ (at-loop .loop .inv .rowed) (start .pre .1 .0 .table) (at-shape-in .next-of .ensures) (at-closes-at .closes-at .ensures) (at-if1 .if2 .left)) _ (at-field-ends .field-ends .ensures) (at-if2 .if3 .taken))
 
 structure·structure-value-requires-2 : (t : ℕ) → structure·structure-lts.Need-value-requires-2 (structure·structure-callees t) (structure·structure-at t) structure·structure.Post structure·structure-Inv-loop structure·structure-μ-loop
 structure·structure-value-requires-2 t c κs =
     let at-if1 = c .before .before .before in
     let at-closes-at = at-if1 .before in
     let at-shape-in = at-closes-at .before in
-    let at-loop = at-shape-in .before in
-    let at-emit = at-loop .before .before .before .before in
+    let at-loop = at-shape-in .before .before in
+    let at-emit = at-loop .before .before .before in
     let at-open = at-emit .before .before in
     let at-in-structure = at-open .before in
-    let start = at-in-structure .before .before .before .before .before in
+    let start = at-in-structure .before .before .before .before in
     let d = at-in-structure .in-structure .ensures .deeper (at-open .if1 .left) in
-    (omega (arith, level-falls d, start .pre .0), ((next-field-of _ _ _ (at-loop .loop .inv .rowed) (start .pre .1 .0 .table) _ (at-shape-in .shape-in .ensures) _ refl (at-closes-at .closes-at .ensures .missing (at-if1 .if2 .left))) .shape, inside-deeper d (start .pre .1 .2), at-loop .loop .inv .within))
+    (omega (arith, level-falls d, start .pre .0), ((next-by _ _ _ (at-loop .loop .inv .rowed) (start .pre .1 .0 .table) (at-shape-in .next-of .ensures) (at-closes-at .closes-at .ensures) (at-if1 .if2 .left)) .shape, inside-deeper d (start .pre .1 .2), at-loop .loop .inv .within))
 
 structure·structure-behind-requires-2 : (t : ℕ) → structure·structure-lts.Need-behind-requires-2 (structure·structure-callees t) (structure·structure-at t) structure·structure.Post structure·structure-Inv-loop structure·structure-μ-loop
 structure·structure-behind-requires-2 t c κs =
     let at-value2 = c .before .before .before in
-    let at-loop = at-value2 .before .before .before .before .before .before .before in
-    let at-emit = at-loop .before .before .before .before in
+    let at-loop = at-value2 .before .before .before .before .before .before .before .before in
+    let at-emit = at-loop .before .before .before in
     let at-open = at-emit .before .before in
     let at-in-structure = at-open .before in
-    let start = at-in-structure .before .before .before .before .before in
+    let start = at-in-structure .before .before .before .before in
     let d = at-in-structure .in-structure .ensures .deeper (at-open .if1 .left) in
     omega (arith, at-value2 .value2 .ensures .fits, start .pre .1 .2 .in-frame, at-loop .loop .inv .within)
 
@@ -293,18 +290,16 @@ structure·structure-returns-4 t c =
     let at-if1 = at-field-ends .before in
     let at-closes-at = at-if1 .before in
     let at-shape-in = at-closes-at .before in
-    let at-loop = at-shape-in .before in
-    let at-emit = at-loop .before .before .before .before in
+    let at-loop = at-shape-in .before .before in
+    let at-emit = at-loop .before .before .before in
     let at-open = at-emit .before .before in
     let at-in-structure = at-open .before in
-    let start = at-in-structure .before .before .before .before .before in
+    let start = at-in-structure .before .before .before .before in
     let d = at-in-structure .in-structure .ensures .deeper (at-open .if1 .left) in
     structure-stop (start .pre .1 .0) (start .pre .1 .1) _ _ _ _ _ _ d _ _ _ _ _ (at-emit .emit .ensures .0) (at-emit .emit .ensures .1) (c .behind2 .ensures) (at-if3 .if4 .taken) (fields-stop (at-loop .loop .inv) (few-variants (inside-deeper d (start .pre .1 .2)))
-    (next-field-of _ _ _ (at-loop .loop .inv .rowed) (start .pre .1 .0 .table) _ (at-shape-in .shape-in .ensures) _ refl
-    (at-closes-at .closes-at .ensures .missing (at-if1 .if2 .left)))
+    (next-by _ _ _ (at-loop .loop .inv .rowed) (start .pre .1 .0 .table) (at-shape-in .next-of .ensures) (at-closes-at .closes-at .ensures) (at-if1 .if2 .left))
     (field-turn (at-loop .loop .inv) (few-variants (inside-deeper d (start .pre .1 .2)))
-    (next-field-of _ _ _ (at-loop .loop .inv .rowed) (start .pre .1 .0 .table) _ (at-shape-in .shape-in .ensures) _ refl
-    (at-closes-at .closes-at .ensures .missing (at-if1 .if2 .left))) _ (at-field-ends .field-ends .ensures) (at-if2 .if3 .left)) _ _
+    (next-by _ _ _ (at-loop .loop .inv .rowed) (start .pre .1 .0 .table) (at-shape-in .next-of .ensures) (at-closes-at .closes-at .ensures) (at-if1 .if2 .left)) _ (at-field-ends .field-ends .ensures) (at-if2 .if3 .left)) _ _
     (at-value2 .value2 .ensures) (at-if3 .if4 .taken))
 
 structure·structure-sub-end : (t : ℕ) → structure·structure-lts.Need-sub-end (structure·structure-callees t) (structure·structure-at t) structure·structure.Post structure·structure-Inv-loop structure·structure-μ-loop
@@ -316,11 +311,11 @@ structure·structure-sub-end t c =
 structure·structure-add-u : (t : ℕ) → structure·structure-lts.Need-add-u (structure·structure-callees t) (structure·structure-at t) structure·structure.Post structure·structure-Inv-loop structure·structure-μ-loop
 structure·structure-add-u t c =
     let at-value2 = c .before .before .before .before .before in
-    let at-loop = at-value2 .before .before .before .before .before .before .before in
-    let at-emit = at-loop .before .before .before .before in
+    let at-loop = at-value2 .before .before .before .before .before .before .before .before in
+    let at-emit = at-loop .before .before .before in
     let at-open = at-emit .before .before in
     let at-in-structure = at-open .before in
-    let start = at-in-structure .before .before .before .before .before in
+    let start = at-in-structure .before .before .before .before in
     let d = at-in-structure .in-structure .ensures .deeper (at-open .if1 .left) in
     omega (arith, at-value2 .value2 .ensures .fits, start .pre .1 .2 .in-frame, at-loop .loop .inv .within)
 
@@ -329,13 +324,13 @@ structure·structure-loop-less t c =
     let at-if1 = c .before .before .before .before .before .before .before .before .before in
     let at-closes-at = at-if1 .before in
     let at-shape-in = at-closes-at .before in
-    let at-loop = at-shape-in .before in
-    let at-emit = at-loop .before .before .before .before in
+    let at-loop = at-shape-in .before .before in
+    let at-emit = at-loop .before .before .before in
     let at-open = at-emit .before .before in
     let at-in-structure = at-open .before in
-    let start = at-in-structure .before .before .before .before .before in
+    let start = at-in-structure .before .before .before .before in
     let d = at-in-structure .in-structure .ensures .deeper (at-open .if1 .left) in
-    let g = (next-field-of _ _ _ (at-loop .loop .inv .rowed) (start .pre .1 .0 .table) _ (at-shape-in .shape-in .ensures) _ refl (at-closes-at .closes-at .ensures .missing (at-if1 .if2 .left))) in omega (arith, g .onward, g .within)
+    let g = (next-by _ _ _ (at-loop .loop .inv .rowed) (start .pre .1 .0 .table) (at-shape-in .next-of .ensures) (at-closes-at .closes-at .ensures) (at-if1 .if2 .left)) in omega (arith, g .onward, g .within, at-shape-in .next-of .ensures)
 
 structure·structure-loop-again : (t : ℕ) → structure·structure-lts.Need-loop-again (structure·structure-callees t) (structure·structure-at t) structure·structure.Post structure·structure-Inv-loop structure·structure-μ-loop
 structure·structure-loop-again t c =
@@ -346,19 +341,17 @@ structure·structure-loop-again t c =
     let at-if1 = at-field-ends .before in
     let at-closes-at = at-if1 .before in
     let at-shape-in = at-closes-at .before in
-    let at-loop = at-shape-in .before in
-    let at-emit = at-loop .before .before .before .before in
+    let at-loop = at-shape-in .before .before in
+    let at-emit = at-loop .before .before .before in
     let at-open = at-emit .before .before in
     let at-in-structure = at-open .before in
-    let start = at-in-structure .before .before .before .before .before in
+    let start = at-in-structure .before .before .before .before in
     let d = at-in-structure .in-structure .ensures .deeper (at-open .if1 .left) in
-    fields-next (at-loop .loop .inv) (few-variants (inside-deeper d (start .pre .1 .2)))
-    (next-field-of _ _ _ (at-loop .loop .inv .rowed) (start .pre .1 .0 .table) _ (at-shape-in .shape-in .ensures) _ refl
-    (at-closes-at .closes-at .ensures .missing (at-if1 .if2 .left)))
+    rw (at-shape-in .next-of .ensures) (fields-next (at-loop .loop .inv) (few-variants (inside-deeper d (start .pre .1 .2)))
+    (next-by _ _ _ (at-loop .loop .inv .rowed) (start .pre .1 .0 .table) (at-shape-in .next-of .ensures) (at-closes-at .closes-at .ensures) (at-if1 .if2 .left))
     (field-turn (at-loop .loop .inv) (few-variants (inside-deeper d (start .pre .1 .2)))
-    (next-field-of _ _ _ (at-loop .loop .inv .rowed) (start .pre .1 .0 .table) _ (at-shape-in .shape-in .ensures) _ refl
-    (at-closes-at .closes-at .ensures .missing (at-if1 .if2 .left))) _ (at-field-ends .field-ends .ensures) (at-if2 .if3 .left)) _ _
-    (at-value2 .value2 .ensures) (at-if3 .if4 .left)
+    (next-by _ _ _ (at-loop .loop .inv .rowed) (start .pre .1 .0 .table) (at-shape-in .next-of .ensures) (at-closes-at .closes-at .ensures) (at-if1 .if2 .left)) _ (at-field-ends .field-ends .ensures) (at-if2 .if3 .left)) _ _
+    (at-value2 .value2 .ensures) (at-if3 .if4 .left))
 
 pub structure·structure-spec : {M : Type 1} (t : ℕ) → structure·structure-lts.Closed (structure·structure-callees t) (structure·structure-at t) structure·structure.Post M
 structure·structure-spec t =
@@ -372,11 +365,14 @@ structure·structure-spec t =
     (structure·structure-emit-requires t)
     (structure·structure-add-i t)
     (structure·structure-loop-holds t)
-    (structure·structure-shape-in-requires t)
+    (structure·structure-mul-field t)
+    (structure·structure-element-copy-out-field t)
+    (structure·structure-next-of-requires t)
     (structure·structure-add-j t)
     (structure·structure-closes-at-requires t)
     (structure·structure-value-requires t)
-    (structure·structure-position-of-requires t)
+    (structure·structure-mul-close-fields t)
+    (structure·structure-element-copy-out-close-fields t)
     (structure·structure-close-fields-requires t)
     (structure·structure-behind-requires t)
     (structure·structure-add-close t)

@@ -7,8 +7,7 @@ use Rattle.reader_cycle.proofs.Variants.{holds-basic, same-value, varia
 use Rattle.reader_cycle.specs.Children.{onlyLetter}
 use Rattle.reader_cycle.specs.Rides.{contextOf}
 use Rattle.signature.proofs.ShapeLaws.{table-filled, table-refused, table-type}
-use Rattle.signature.proofs.TreeLaws.{described-as, front, front-described}
-use Rattle.signature.specs.declared.shapes.Shape.{Shape}
+use Rattle.signature.proofs.TreeLaws.{front, front-described}
 use borrow.Author.Needs.{needs}
 use lib.ListN.{drop, length, length-take}
 use mathlib.Core.Path.{_∙_, ap, refl}
@@ -23,11 +22,9 @@ use of.opening.in_variant.Reads as in-variant-reads
 use of.value.Reads as value
 use of.variant.basic_variant.Reads as basic-variant-reads
 use of.variant.close_variant.Reads as close-variant-reads
-use of.variant.only_letter.Reads as only-letter-reads
+use of.variant.only_basic.Reads as only-basic-reads
 use of.variant.type_text.Reads as type-text-reads
 use of.variant.variant.Reads as variant·variant
-use Rattle.signature.proofs.key_alignment.Reads as key-alignment-reads
-use Rattle.signature.proofs.shapes.shape_in.Reads as shape-in-reads
 use Rattle.signature.proofs.shapes.shapes_of.Reads as shapes-of-reads
 
 abbrev variant·variant-callees : ℕ → variant·variant-lts.Claims
@@ -36,10 +33,8 @@ variant·variant-callees t = (
   separator-reads.Learnt,
   refused-reads.Asked,
   refused-reads.Learnt,
-  only-letter-reads.Asked,
-  only-letter-reads.Learnt,
-  key-alignment-reads.Asked,
-  key-alignment-reads.Learnt,
+  only-basic-reads.Asked,
+  only-basic-reads.Learnt,
   basic-variant-reads.Asked,
   basic-variant-reads.Learnt,
   type-text-reads.Asked,
@@ -48,8 +43,6 @@ variant·variant-callees t = (
   shapes-of-reads.Learnt,
   in-variant-reads.Asked,
   in-variant-reads.Learnt,
-  shape-in-reads.Asked,
-  shape-in-reads.Learnt,
   value-below t,
   value.Post,
   close-variant-reads.Asked,
@@ -93,20 +86,14 @@ variant·variant-part-text-start t c = omega arith
 variant·variant-part-text-end : (t : ℕ) → variant·variant-lts.Need-part-text-end (variant·variant-callees t) (variant·variant-at t) variant·variant.Post
 variant·variant-part-text-end t c = omega arith
 
-variant·variant-only-letter-requires : (t : ℕ) → variant·variant-lts.Need-only-letter-requires (variant·variant-callees t) (variant·variant-at t) variant·variant.Post
-variant·variant-only-letter-requires t c κs = search needs
-
-variant·variant-key-alignment-requires : (t : ℕ) → variant·variant-lts.Need-key-alignment-requires (variant·variant-callees t) (variant·variant-at t) variant·variant.Post
-variant·variant-key-alignment-requires t c κs = search needs
+variant·variant-only-basic-requires : (t : ℕ) → variant·variant-lts.Need-only-basic-requires (variant·variant-callees t) (variant·variant-at t) variant·variant.Post
+variant·variant-only-basic-requires t c κs = search needs
 
 variant·variant-basic-variant-requires : (t : ℕ) → variant·variant-lts.Need-basic-variant-requires (variant·variant-callees t) (variant·variant-at t) variant·variant.Post
 variant·variant-basic-variant-requires t c κs =
-    let at-if2 = c .before in
-    let at-key-alignment = at-if2 .before in
-    let at-only-letter = at-key-alignment .before in
-    let at-if1 = at-only-letter .before .before in
-    let at-separator = at-if1 .before in
-    let start = at-separator .before .before .before .before in (
+    let at-if1 = c .before .before .before .before in
+    let at-separator = c .before .before .before .before .before in
+    let start = c .before .before .before .before .before .before .before .before .before in (
       start .pre .1 .0,
       holds-basic _ _ _ _ (rw (tail (start .args .lead) (start .args .part .now)) at (at-separator .separator .ensures .0))
           (at-if1 .if1 .left) (omega (
@@ -117,8 +104,7 @@ variant·variant-basic-variant-requires t c κs =
             length-take
                 (length (start .args .part .now) - start .args .lead) (drop (start .args .lead) (start .args .part .now)),
           ))
-          (at-only-letter .only-letter .ensures ∙ ap onlyLetter (tail (start .args .lead + at-separator .separator .result) (start .args .part .now))) _
-          (at-key-alignment .key-alignment .ensures) (at-if2 .if2 .taken),
+          ((c .before .before .only-basic .ensures (c .before .if2 .taken)) .0 ∙ ap onlyLetter (tail (start .args .lead + at-separator .separator .result) (start .args .part .now))) ((c .before .before .only-basic .ensures (c .before .if2 .taken)) .1),
     )
 
 variant·variant-same-length : (t : ℕ) → variant·variant-lts.Need-same-length (variant·variant-callees t) (variant·variant-at t) variant·variant.Post
@@ -129,12 +115,12 @@ variant·variant-returns-2 t c = c .before .before .basic-variant .ensures
 
 variant·variant-add-type-text : (t : ℕ) → variant·variant-lts.Need-add-type-text (variant·variant-callees t) (variant·variant-at t) variant·variant.Post
 variant·variant-add-type-text t c =
-    let start = c .before .before .before .before .before .before .before .before .before in
+    let start = c .before .before .before .before .before .before .before .before in
     omega (arith, start .pre .1 .0 .in-frame, start .pre .1 .1)
 
 variant·variant-add-type-text-2 : (t : ℕ) → variant·variant-lts.Need-add-type-text-2 (variant·variant-callees t) (variant·variant-at t) variant·variant.Post
 variant·variant-add-type-text-2 t c =
-    let at-separator = c .before .before .before .before .before in
+    let at-separator = c .before .before .before .before in
     let start = at-separator .before .before .before .before in
     omega (arith, start .pre .1 .0 .in-frame, start .pre .1 .1, at-separator .separator .ensures .1, length-take (length (start .args .part .now) - start .args .lead) (drop (start .args .lead) (start .args .part .now)))
 
@@ -147,7 +133,7 @@ variant·variant-same-length-2 t c = search needs
 variant·variant-returns-3 : (t : ℕ) → variant·variant-lts.Need-returns-3 (variant·variant-callees t) (variant·variant-at t) variant·variant.Post
 variant·variant-returns-3 t c =
     let at-type-text = c .before .before .before in
-    let at-if1 = at-type-text .before .before .before .before .before .before in
+    let at-if1 = at-type-text .before .before .before .before .before in
     let at-separator = at-if1 .before in
     let start = at-separator .before .before .before .before in
     variant-text _ _ _ _ _ _ _ (rw (tail (start .args .lead) (start .args .part .now)) at (at-separator .separator .ensures .0)) (at-if1 .if1 .left) _ _ (rw (tail (start .args .lead + at-separator .separator .result) (start .args .part .now)) at (at-type-text .type-text .ensures)) (c .if3 .taken)
@@ -170,7 +156,7 @@ variant·variant-returns-4 t c =
     let at-shapes-of = at-if4 .before .before in
     let at-if3 = at-shapes-of .before .before in
     let at-type-text = at-if3 .before .before .before in
-    let at-if1 = at-type-text .before .before .before .before .before .before in
+    let at-if1 = at-type-text .before .before .before .before .before in
     let at-separator = at-if1 .before in
     let start = at-separator .before .before .before .before in
     told (c .refused2 .ensures) (variant-type _ _ _ _ _ _ _ (rw (tail (start .args .lead) (start .args .part .now)) at
@@ -181,7 +167,7 @@ variant·variant-returns-4 t c =
 
 variant·variant-in-variant-requires : (t : ℕ) → variant·variant-lts.Need-in-variant-requires (variant·variant-callees t) (variant·variant-at t) variant·variant.Post
 variant·variant-in-variant-requires t c κs =
-    let start = c .before .before .before .before .before .before .before .before .before .before .before .before .before .before .before .before .before .before in
+    let start = c .before .before .before .before .before .before .before .before .before .before .before .before .before .before .before .before .before in
     start .pre .1 .0 .shallow
 
 variant·variant-refused-requires-3 : (t : ℕ) → variant·variant-lts.Need-refused-requires-3 (variant·variant-callees t) (variant·variant-at t) variant·variant.Post
@@ -198,7 +184,7 @@ variant·variant-returns-5 t c =
     let at-shapes-of = at-if4 .before .before in
     let at-if3 = at-shapes-of .before .before in
     let at-type-text = at-if3 .before .before .before in
-    let at-if1 = at-type-text .before .before .before .before .before .before in
+    let at-if1 = at-type-text .before .before .before .before .before in
     let at-separator = at-if1 .before in
     let start = at-separator .before .before .before .before in
     told (c .refused3 .ensures) (variant-deep _ _ _ _ _ _ _ (rw (tail (start .args .lead) (start .args .part .now)) at
@@ -208,33 +194,23 @@ variant·variant-returns-5 t c =
     (table-type _ _ _ _ refl (at-shapes-of .shapes-of .ensures) (granted (at-if4 .if4 .left))))) .type) (at-in-variant .in-variant .ensures)
     (at-if5 .if5 .taken))
 
-variant·variant-slice-aggregate-shape-in : (t : ℕ) → variant·variant-lts.Need-slice-aggregate-shape-in (variant·variant-callees t) (variant·variant-at t) variant·variant.Post
-variant·variant-slice-aggregate-shape-in t c = search needs
-
-variant·variant-shape-in-requires : (t : ℕ) → variant·variant-lts.Need-shape-in-requires (variant·variant-callees t) (variant·variant-at t) variant·variant.Post
-variant·variant-shape-in-requires t c κs = search needs
-
 variant·variant-sub-e : (t : ℕ) → variant·variant-lts.Need-sub-e (variant·variant-callees t) (variant·variant-at t) variant·variant.Post
 variant·variant-sub-e t c =
-    let at-if1 = c .before .before .before .before .before .before .before .before .before .before .before .before .before .before .before .before .before in
+    let at-if1 = c .before .before .before .before .before .before .before .before .before .before .before .before .before .before in
     omega (arith, at-if1 .if1 .left)
-
-variant·variant-slice-aggregate-value : (t : ℕ) → variant·variant-lts.Need-slice-aggregate-value (variant·variant-callees t) (variant·variant-at t) variant·variant.Post
-variant·variant-slice-aggregate-value t c = search needs
 
 variant·variant-value-requires : (t : ℕ) → variant·variant-lts.Need-value-requires (variant·variant-callees t) (variant·variant-at t) variant·variant.Post
 variant·variant-value-requires t c κs =
-    let at-shape-in = c .before .before in
-    let at-if5 = at-shape-in .before .before in
-    let at-in-variant = at-if5 .before in
-    let at-if4 = at-in-variant .before in
-    let at-shapes-of = at-if4 .before .before in
-    let start = at-shapes-of .before .before .before .before .before .before .before .before .before .before .before .before .before .before .before .before in (
+    let at-if5 = c .before .before in
+    let at-in-variant = c .before .before .before in
+    let at-if4 = c .before .before .before .before in
+    let at-shapes-of = c .before .before .before .before .before .before in
+    let start = c .before .before .before .before .before .before .before .before .before .before .before .before .before .before .before .before .before .before .before .before .before in (
       omega (arith, level-falls (at-in-variant .in-variant .ensures .deeper (at-if5 .if5 .left)), start .pre .0),
       (
-        described-as (at-shape-in .shape-in .ensures) (front-described _ _
+        front-described _ _
             (table-filled _ _ _ _ refl (at-shapes-of .shapes-of .ensures) (at-shapes-of .shapes-of .kept .1 .0) (granted (at-if4 .if4 .left)))
-            (front _ (table-type _ _ _ _ refl (at-shapes-of .shapes-of .ensures) (granted (at-if4 .if4 .left))))),
+            (front _ (table-type _ _ _ _ refl (at-shapes-of .shapes-of .ensures) (granted (at-if4 .if4 .left)))),
         inside-deeper
             (at-in-variant .in-variant .ensures .deeper (at-if5 .if5 .left)) (start .pre .1 .0),
         start .pre .1 .1,
@@ -243,23 +219,22 @@ variant·variant-value-requires t c κs =
 
 variant·variant-close-variant-requires : (t : ℕ) → variant·variant-lts.Need-close-variant-requires (variant·variant-callees t) (variant·variant-at t) variant·variant.Post
 variant·variant-close-variant-requires t c κs =
-    let start = c .before .before .before .before .before .before .before .before .before .before .before .before .before .before .before .before .before .before .before .before .before .before .before .before .before .before .before .before in
+    let start = c .before .before .before .before .before .before .before .before .before .before .before .before .before .before .before .before .before .before .before .before .before .before .before .before .before in
     (start .pre .1 .0 .in-frame, start .pre .1 .1)
 
 variant·variant-same-length-5 : (t : ℕ) → variant·variant-lts.Need-same-length-5 (variant·variant-callees t) (variant·variant-at t) variant·variant.Post
 variant·variant-same-length-5 t c =
     let at-close-variant = c .before .before in
-    let at-value = at-close-variant .before .before .before .before in
-    let at-shape-in = at-value .before .before .before in
-    let at-if5 = at-shape-in .before .before in
-    let at-in-variant = at-if5 .before in
-    let at-if4 = at-in-variant .before in
-    let at-shapes-of = at-if4 .before .before in
-    let at-if3 = at-shapes-of .before .before in
-    let at-type-text = at-if3 .before .before .before in
-    let at-if1 = at-type-text .before .before .before .before .before .before in
-    let at-separator = at-if1 .before in
-    let start = at-separator .before .before .before .before in
+    let at-value = c .before .before .before .before .before .before in
+    let at-if5 = c .before .before .before .before .before .before .before .before .before in
+    let at-in-variant = c .before .before .before .before .before .before .before .before .before .before in
+    let at-if4 = c .before .before .before .before .before .before .before .before .before .before .before in
+    let at-shapes-of = c .before .before .before .before .before .before .before .before .before .before .before .before .before in
+    let at-if3 = c .before .before .before .before .before .before .before .before .before .before .before .before .before .before .before in
+    let at-type-text = c .before .before .before .before .before .before .before .before .before .before .before .before .before .before .before .before .before .before in
+    let at-if1 = c .before .before .before .before .before .before .before .before .before .before .before .before .before .before .before .before .before .before .before .before .before .before .before in
+    let at-separator = c .before .before .before .before .before .before .before .before .before .before .before .before .before .before .before .before .before .before .before .before .before .before .before .before in
+    let start = c .before .before .before .before .before .before .before .before .before .before .before .before .before .before .before .before .before .before .before .before .before .before .before .before .before .before .before .before in
     kept (variant-closed (start .args .part .now) (start .args .lead) (start .args .place) (contextOf (start .args .ride)) (start .args .n)
     (start .args .out .now) (at-separator .separator .result) (rw (tail (start .args .lead) (start .args .part .now)) at
     (at-separator .separator .ensures .0)) (at-if1 .if1 .left) _ _
@@ -268,30 +243,29 @@ variant·variant-same-length-5 t c =
     (table-type _ _ _ _ refl (at-shapes-of .shapes-of .ensures) (granted (at-if4 .if4 .left))))) .type)
     (at-in-variant .in-variant .ensures .deeper (at-if5 .if5 .left)) (few-variants (start .pre .1 .0)) _ _
     (same-value (contextOf (at-in-variant .in-variant .result .ride)) _ _ _ (tail (start .args .lead + at-separator .separator .result) (start .args .part .now))
-    (ap (λ (s : Shape). s .at) (at-shape-in .shape-in .ensures))) (omega (arith, at-if1 .if1 .left)) _ _
+    refl) (omega (arith, at-if1 .if1 .left)) _ _
     (at-close-variant .close-variant .ensures _ _ _ _ (at-value .value .ensures)))
 
 variant·variant-returns-6 : (t : ℕ) → variant·variant-lts.Need-returns-6 (variant·variant-callees t) (variant·variant-at t) variant·variant.Post
 variant·variant-returns-6 t c =
     let at-close-variant = c .before .before in
-    let at-value = at-close-variant .before .before .before .before in
-    let at-shape-in = at-value .before .before .before in
-    let at-if5 = at-shape-in .before .before in
-    let at-in-variant = at-if5 .before in
-    let at-if4 = at-in-variant .before in
-    let at-shapes-of = at-if4 .before .before in
-    let at-if3 = at-shapes-of .before .before in
-    let at-type-text = at-if3 .before .before .before in
-    let at-if1 = at-type-text .before .before .before .before .before .before in
-    let at-separator = at-if1 .before in
-    let start = at-separator .before .before .before .before in
+    let at-value = c .before .before .before .before .before .before in
+    let at-if5 = c .before .before .before .before .before .before .before .before .before in
+    let at-in-variant = c .before .before .before .before .before .before .before .before .before .before in
+    let at-if4 = c .before .before .before .before .before .before .before .before .before .before .before in
+    let at-shapes-of = c .before .before .before .before .before .before .before .before .before .before .before .before .before in
+    let at-if3 = c .before .before .before .before .before .before .before .before .before .before .before .before .before .before .before in
+    let at-type-text = c .before .before .before .before .before .before .before .before .before .before .before .before .before .before .before .before .before .before in
+    let at-if1 = c .before .before .before .before .before .before .before .before .before .before .before .before .before .before .before .before .before .before .before .before .before .before .before in
+    let at-separator = c .before .before .before .before .before .before .before .before .before .before .before .before .before .before .before .before .before .before .before .before .before .before .before .before in
+    let start = c .before .before .before .before .before .before .before .before .before .before .before .before .before .before .before .before .before .before .before .before .before .before .before .before .before .before .before .before in
     variant-closed _ _ _ _ _ _ _ (rw (tail (start .args .lead) (start .args .part .now)) at (at-separator .separator .ensures .0)) (at-if1 .if1 .left) _
     _ (rw (tail (start .args .lead + at-separator .separator .result) (start .args .part .now)) at (at-type-text .type-text .ensures))
     (at-if3 .if3 .left) _ ((front _ (rw (tail (start .args .lead + at-separator .separator .result) (start .args .part .now)) at
     (table-type _ _ _ _ refl (at-shapes-of .shapes-of .ensures) (granted (at-if4 .if4 .left))))) .type)
     (at-in-variant .in-variant .ensures .deeper (at-if5 .if5 .left)) (few-variants (start .pre .1 .0)) _ _
     (same-value _ _ _ _ (tail (start .args .lead + at-separator .separator .result) (start .args .part .now))
-    (ap (λ (s : Shape). s .at) (at-shape-in .shape-in .ensures))) (omega (arith, at-if1 .if1 .left)) _ _
+    refl) (omega (arith, at-if1 .if1 .left)) _ _
     (at-close-variant .close-variant .ensures _ _ _ _ (at-value .value .ensures))
 
 pub variant·variant-spec : {M : Type 1} (t : ℕ) → variant·variant-lts.Closed (variant·variant-callees t) (variant·variant-at t) variant·variant.Post M
@@ -307,8 +281,7 @@ variant·variant-spec t =
     (variant·variant-sub-text t)
     (variant·variant-part-text-start t)
     (variant·variant-part-text-end t)
-    (variant·variant-only-letter-requires t)
-    (variant·variant-key-alignment-requires t)
+    (variant·variant-only-basic-requires t)
     (variant·variant-basic-variant-requires t)
     (variant·variant-same-length t)
     (variant·variant-returns-2 t)
@@ -326,10 +299,7 @@ variant·variant-spec t =
     (variant·variant-refused-requires-3 t)
     (variant·variant-same-length-4 t)
     (variant·variant-returns-5 t)
-    (variant·variant-slice-aggregate-shape-in t)
-    (variant·variant-shape-in-requires t)
     (variant·variant-sub-e t)
-    (variant·variant-slice-aggregate-value t)
     (variant·variant-value-requires t)
     (variant·variant-close-variant-requires t)
     (variant·variant-same-length-5 t)

@@ -1,7 +1,8 @@
 -- `reader_cycle::variant::basic_variant` meets its contract. Assumes nothing.
-use Rattle.reader_cycle.proofs.Variants.{basic-deep, basic-closed, basic-type, basic-aligned}
+use Rattle.reader_cycle.proofs.Variants.{basic-deep, basic-closed}
 use Rattle.reader_cycle.proofs.Deepening.{told, inside-deeper, few-variants}
-use Rattle.reader_cycle.proofs.Rides.{inside-as, key-as}
+use Rattle.reader_cycle.proofs.Characters.{leaf-child}
+use Rattle.reader_cycle.proofs.Readers.{within-child}
 use Prim.Native.Nat.{_-_}
 use Rattle.container_depths.specs.Opening.{depthsOf}
 use Rattle.reader_cycle.specs.Rides.{contextOf}
@@ -12,10 +13,11 @@ use Rattle.reader_cycle.proofs.variant.basic_variant.Tie as tie
 use Rattle.reader_cycle.proofs.variant.basic_variant.Reads as reads
 use Rattle.reader_cycle.proofs.variant.basic_variant.Lts as lts
 use Rattle.events.proofs.emit.Reads as emit-reads
-use Rattle.reader_basic.proofs.basic.child_key.Reads as child-key-reads
+use Rattle.reader_cycle.proofs.codes.leaf.Reads as leaf-reads
 use Rattle.reader_basic.proofs.refused.Reads as refused-reads
 use Rattle.reader_cycle.proofs.opening.in_variant.Reads as in-variant-reads
 use Rattle.reader_cycle.proofs.variant.close_variant.Reads as close-variant-reads
+use Rattle.reader_cycle.proofs.codes.leaf.Reads as leaf-reads
 
 add-emit : tie.Need-add-emit
 add-emit c = search needs
@@ -34,9 +36,6 @@ in-variant-requires c κs =
     let start = c .before .before .before .before .before .before .before .before .before .before in
     start .pre .0 .shallow
 
-context-of-requires : tie.Need-context-of-requires
-context-of-requires c κs = search needs
-
 refused-requires : tie.Need-refused-requires
 refused-requires c κs = search needs
 
@@ -46,25 +45,31 @@ same-length c = search needs
 returns : tie.Need-returns
 returns c =
     let at-in-variant = c .before .before in
-    let at-emit2 = at-in-variant .before .before .before in
-    let at-emit = at-emit2 .before .before .before .before in
-    let start = at-emit .before .before .before .before in
+    let at-emit2 = c .before .before .before .before .before in
+    let at-emit = c .before .before .before .before .before .before .before .before .before in
+    let start = c .before .before .before .before .before .before .before .before .before .before .before .before .before in
     told (c .refused .ensures) (basic-deep _ _ _ _ _ _ _ _ (start .pre .1) _ _ (at-emit .emit .ensures .0) (at-emit .emit .ensures .1) _ _
     (at-emit2 .emit2 .ensures .0) (at-emit2 .emit2 .ensures .1) (at-in-variant .in-variant .ensures) (c .before .if1 .taken))
 
-sub-child-key : tie.Need-sub-child-key
-sub-child-key c = search needs
+sub-e : tie.Need-sub-e
+sub-e c = search needs
 
-child-key-requires : tie.Need-child-key-requires
-child-key-requires c κs =
-    let at-if1 = c .before .before in
-    let at-in-variant = at-if1 .before in
-    let start = at-in-variant .before .before .before .before .before .before .before .before .before .before .before in (
-      inside-as (c .before .context-of .ensures) (inside-deeper (at-in-variant .in-variant .ensures .deeper (at-if1 .if1 .left)) (start .pre .0)),
-      omega
-          (arith, start .pre .1 .there, start .pre .1 .inside),
-      basic-aligned (basic-type _ _ (start .pre .1 .one) (start .pre .1 .basic)),
-    )
+sub-leaf : tie.Need-sub-leaf
+sub-leaf c = search needs
+
+part-leaf-start : tie.Need-part-leaf-start
+part-leaf-start c = search needs
+
+part-leaf-end : tie.Need-part-leaf-end
+part-leaf-end c = search needs
+
+add-leaf : tie.Need-add-leaf
+add-leaf c = search needs
+
+leaf-requires : tie.Need-leaf-requires
+leaf-requires c κs =
+    let start = c .before .before .before .before .before .before .before .before .before .before .before .before .before .before in
+    within-child (start .args .part .now) (start .args .lead) (start .args .from - 1) (inside-deeper (c .before .before .before .in-variant .ensures .deeper (c .before .before .if1 .left)) (start .pre .0)) (omega (arith, start .pre .1 .there)) (omega (arith, start .pre .1 .inside))
 
 close-variant-requires : tie.Need-close-variant-requires
 close-variant-requires c κs =
@@ -76,16 +81,15 @@ same-length-2 c = search needs
 
 returns-2 : tie.Need-returns-2
 returns-2 c =
-    let at-close-variant = c .before .before in
-    let at-child-key = at-close-variant .before .before .before .before in
-    let at-if1 = at-child-key .before .before .before in
-    let at-in-variant = at-if1 .before in
-    let at-emit2 = at-in-variant .before .before .before in
-    let at-emit = at-emit2 .before .before .before .before in
-    let start = at-emit .before .before .before .before in
+    let at-in-variant = c .before .before .before .before .before .before .before .before .before .before in
+    let at-emit2 = c .before .before .before .before .before .before .before .before .before .before .before .before .before in
+    let at-emit = c .before .before .before .before .before .before .before .before .before .before .before .before .before .before .before .before .before in
+    let start = c .before .before .before .before .before .before .before .before .before .before .before .before .before .before .before .before .before .before .before .before .before in
     basic-closed _ _ _ _ _ _ _ _ (start .pre .1) _ _ (at-emit .emit .ensures .0) (at-emit .emit .ensures .1) _ _ (at-emit2 .emit2 .ensures .0)
-    (at-emit2 .emit2 .ensures .1) (at-in-variant .in-variant .ensures .deeper (at-if1 .if1 .left)) (few-variants (start .pre .0)) _ _
-    (at-close-variant .close-variant .ensures _ _ _ _ (key-as (at-child-key .before .before .context-of .ensures) (start .args .kind) (start .args .place) (start .args .lead) (start .args .from - 1) (start .args .part .now) (at-child-key .child-key .ensures) (depthsOf (contextOf (at-in-variant .in-variant .result .ride) .depths))))
+    (at-emit2 .emit2 .ensures .1) (at-in-variant .in-variant .ensures .deeper (c .before .before .before .before .before .before .before .before .before .if1 .left)) (few-variants (start .pre .0)) _ _
+    (c .before .before .close-variant .ensures _ _ _ _ (leaf-child (start .args .kind) (contextOf (at-in-variant .in-variant .result .ride) .position) (contextOf (at-in-variant .in-variant .result .ride) .big)
+    (start .args .place) (start .args .part .now) (start .args .lead) (start .args .from - 1) _ _ _ _ (omega (arith, start .pre .1 .there)) (omega (arith, start .pre .1 .inside))
+    (c .before .before .before .before .before .before .leaf .ensures) (depthsOf (contextOf (at-in-variant .in-variant .result .ride) .depths))))
 
 pub basic-variant-spec : {M : Type 1} → statement M
 basic-variant-spec =
@@ -99,9 +103,12 @@ basic-variant-spec =
     refused-requires
     same-length
     returns
-    context-of-requires
-    sub-child-key
-    child-key-requires
+    sub-e
+    sub-leaf
+    part-leaf-start
+    part-leaf-end
+    add-leaf
+    leaf-requires
     close-variant-requires
     same-length-2
     returns-2)

@@ -21,12 +21,12 @@ use Rattle.signature.specs.Places.{isType}
 use Rattle.signature.specs.Trees.{treeAt}
 use Rattle.signature.proofs.Answers.{judged-none}
 use Rattle.signature.proofs.TreeLaws.{front}
-use Rattle.writer_basic.specs.Stores.{cap, puts}
+use Rattle.writer_store.specs.Stores.{cap, puts}
 use Rattle.writer_basic.specs.Wrote.{Made, Done, Shallow, Placed}
 use Rattle.writer_basic.specs.declared.Answer.{Answer}
 use Rattle.writer_basic.specs.declared.Context.{Context}
 use Rattle.writer_basic.proofs.Answers.{made-of, fault-of}
-use Rattle.writer_basic.proofs.Puts.{puts-room}
+use Rattle.writer_store.proofs.Puts.{puts-room}
 use Rattle.writer_cycle.specs.Places.{valueOf}
 use Rattle.writer.specs.Answers.{answerOf, frameOf, MadeFrame, SaysFrame, WroteFrame, Judged, faulty, left, long, full, good}
 

@@ -11,7 +11,7 @@ use Rattle.meaning.specs.Written.{Piece}
 use Rattle.meaning_writing.specs.Writing.{Built, built, fault, WriteAnswer, writeAnswer}
 use Rattle.meaning_writing.specs.Emitting.{emit}
 use Rattle.signature.specs.Trees.{treeAt}
-use Rattle.writer_basic.specs.Stores.{cap}
+use Rattle.writer_store.specs.Stores.{cap}
 use Rattle.writer_basic.specs.Wrote.{Faulted}
 use Rattle.writer_basic.specs.declared.Answer.{Answer}
 use Rattle.writer.specs.declared.Written.{Written}

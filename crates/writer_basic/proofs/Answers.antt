@@ -28,12 +28,12 @@ use Rattle.signature.specs.declared.Letter.the-variants.{End, Bad, Boolean, Num
 use Rattle.signature.proofs.Letter.{the-type}
 use types.Run.{OneOf, miss}
 use denote.Enum.Declared.{tagOf}
-use Rattle.writer_basic.specs.Stores.{cap, sum, puts}
+use Rattle.writer_store.specs.Stores.{cap, sum, puts}
 use Rattle.writer_basic.specs.Wrote.{Opens, Taken, Untaken, unseen, unsound, Viewed, keyBasic, IsKey, Faulted, Made, Says, Done}
 use Rattle.writer_basic.specs.declared.Answer.{Answer}
 use Rattle.writer_basic.specs.declared.basic.View.{View}
-use Rattle.writer_basic.proofs.Puts.{puts-append, puts-none, puts-cons, length-bytes}
-use Rattle.writer_basic.proofs.EndLaws.{puts-stored}
+use Rattle.writer_store.proofs.Puts.{puts-append, puts-none, puts-cons, length-bytes}
+use Rattle.writer_store.proofs.EndLaws.{puts-stored}
 
 abbrev pub answer : ℕ → ℕ → ℕ → Answer
 answer k n u = record { refusal = k; next = n; size = u }

@@ -1,6 +1,3 @@
-pub mod Puts
-pub mod EndLaws
-pub mod TableLaws
 pub mod Answers
 pub mod Rows
 pub mod Rounds

@@ -21,12 +21,12 @@ use Rattle.container_depths.specs.Opening.{depthsOf, Raises}
 use Rattle.container_depths.specs.declared.ContainerDepths.{ContainerDepths}
 use Rattle.container_depths.specs.declared.Raised.{Raised}
 use Rattle.container_depths.proofs.Levels.{total-most, raised-to, raised-shallow}
-use Rattle.writer_basic.specs.Stores.{cap, puts}
+use Rattle.writer_store.specs.Stores.{cap, puts}
 use Rattle.writer_basic.specs.Wrote.{Taken, Untaken, Done, aroundChild, aroundValue}
 use Rattle.writer_basic.specs.declared.Context.{Context}
 use Rattle.writer_basic.specs.Wrote.{Shallow}
 use Rattle.writer_basic.specs.declared.Answer.{Answer}
-use Rattle.writer_basic.proofs.Puts.{puts-none}
+use Rattle.writer_store.proofs.Puts.{puts-none}
 use Rattle.writer_basic.proofs.Answers.{answer, wrong, single, taken-on, untaken-fault, untaken-real}
 
 -- ---- depths

@@ -21,14 +21,14 @@ use Rattle.meaning.specs.Written.{Piece, stop, layout, ends, fieldEnds, maybePi
 use Rattle.meaning_writing.specs.Writing.{Built, built, fault, mapped, sealed}
 use Rattle.meaning_writing.specs.Emitting.{itself, variantOf}
 use Rattle.meaning_writing.proofs.WritingSteps.{onPlain-at, onPlain-not, sealed-built, sealed-fault, mapped-built, mapped-fault}
-use Rattle.writer_basic.specs.Stores.{cap, sum, puts}
-use Rattle.writer_basic.specs.Ends.{endAt, Stored, Room, TableRoom, TableFrom}
+use Rattle.writer_store.specs.Stores.{cap, sum, puts}
+use Rattle.writer_store.specs.Ends.{endAt, Stored, Room, TableRoom, TableFrom}
 use Rattle.writer_basic.specs.Wrote.{Opens, Made, Done, marksOf, MadeAll, DoneAll, aroundChild, aroundValue, Structured}
 use Rattle.writer_basic.specs.declared.Answer.{Answer}
 use Rattle.writer_basic.specs.declared.Run.{Run}
-use Rattle.writer_basic.proofs.Puts.{puts-none, puts-cons}
-use Rattle.writer_basic.proofs.EndLaws.{puts-stored, stored-then, stored-forget, room-in, room-front, room-most}
-use Rattle.writer_basic.proofs.TableLaws.{length-back, length-table}
+use Rattle.writer_store.proofs.Puts.{puts-none, puts-cons}
+use Rattle.writer_store.proofs.EndLaws.{puts-stored, stored-then, stored-forget, room-in, room-front, room-most}
+use Rattle.writer_store.proofs.TableLaws.{length-back, length-table}
 use Rattle.writer_basic.proofs.Answers.{answer, made-of, fault-of, wrong}
 use Rattle.writer_basic.proofs.Rows.{run, row-of, stop-of, wrongs}
 

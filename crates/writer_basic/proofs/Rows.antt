@@ -12,13 +12,13 @@ use Rattle.meaning.specs.Padding.{padding, zeros}
 use Rattle.meaning.specs.Written.{Piece, stop, layout, ends, unless, fieldEnds}
 use Rattle.meaning_writing.specs.Writing.{Built, built, fault, mapped, buildMany}
 use Rattle.meaning_writing.proofs.WritingSteps.{Shorter, numbers-at, many-end, many-closes, many-fault, many-more, many-enough, mapped-fault}
-use Rattle.writer_basic.specs.Stores.{cap, sum, puts}
-use Rattle.writer_basic.specs.Ends.{Stored, Room, Kept}
+use Rattle.writer_store.specs.Stores.{cap, sum, puts}
+use Rattle.writer_store.specs.Ends.{Stored, Room, Kept}
 use Rattle.writer_basic.specs.Wrote.{Faulted, Made, Says, Done, marksOf, MadeAll, SaysAll, DoneAll}
 use Rattle.writer_basic.specs.declared.Answer.{Answer}
 use Rattle.writer_basic.specs.declared.Run.{Run}
-use Rattle.writer_basic.proofs.Puts.{length-puts, puts-none}
-use Rattle.writer_basic.proofs.EndLaws.{puts-stored, stored-none, stored-then, room-in}
+use Rattle.writer_store.proofs.Puts.{length-puts, puts-none}
+use Rattle.writer_store.proofs.EndLaws.{puts-stored, stored-none, stored-then, room-in}
 use Rattle.writer_basic.proofs.Answers.{made-of, fault-of}
 
 abbrev pub run : ℕ → ℕ → ℕ → ℕ → Run

@@ -1,3 +1,1 @@
-pub mod Stores
-pub mod Ends
 pub mod Wrote

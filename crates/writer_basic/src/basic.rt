@@ -1,9 +1,6 @@
 // One event at a time: what stands at a place of the events, and the values that take one event.
 use crate::Answer;
 use crate::refused;
-use crate::store::add;
-use crate::store::number_bytes;
-use crate::store::put_text;
 use crate::wrote;
 use meaning::letters::ARRAY_LETTER;
 use meaning::letters::BOOL_LETTER;
@@ -12,6 +9,9 @@ use meaning::refusals::NO_VALUE;
 use signature::Letter;
 use signature::items::Item;
 use texts::text_refusal;
+use writer_store::add;
+use writer_store::number_bytes;
+use writer_store::put_text;
 ghost use mathlib.Core.Path.{_≡_};
 ghost use mathlib.Core.List.{List};
 ghost use mathlib.Core.Bool.{Bool, true, false};
@@ -23,7 +23,7 @@ ghost use Rattle.meaning.specs.Types.{Number as NumberType, Text as TextType, b
 ghost use Rattle.meaning.specs.Letters.{numberLetter, textLetter};
 ghost use Rattle.meaning.specs.Padding.{Aligns};
 ghost use Rattle.meaning_writing.specs.Emitting.{emitBasic};
-ghost use Rattle.writer_basic.specs.Stores.{cap};
+ghost use Rattle.writer_store.specs.Stores.{cap};
 ghost use Rattle.writer_basic.specs.Wrote.{Opens, Viewed, keyBasic, IsKey, Done, itemKind};
 
 // The text that an event views, or a refusal.

@@ -2,19 +2,19 @@
 use crate::Answer;
 use crate::Run;
 use crate::basic::plain_at;
-use crate::ends::back_table;
-use crate::ends::table;
-use crate::ends::width;
 use crate::ran;
 use crate::refused;
 use crate::stopped;
-use crate::store::add;
-use crate::store::pad;
-use crate::store::put;
-use crate::store::put_type;
 use crate::wrote;
 use meaning::letters::CONTAINER_END;
 use meaning::refusals::NO_VALUE;
+use writer_store::add;
+use writer_store::ends::back_table;
+use writer_store::ends::table;
+use writer_store::ends::width;
+use writer_store::pad;
+use writer_store::put;
+use writer_store::put_type;
 ghost use mathlib.Core.Path.{_≡_};
 ghost use mathlib.Core.List.{List, []};
 ghost use mathlib.Core.Bool.{true, false};
@@ -26,7 +26,7 @@ ghost use Rattle.meaning.specs.Types.{Tree};
 ghost use Rattle.meaning.specs.TypeText.{typeText};
 ghost use Rattle.meaning.specs.Written.{Piece, fieldEnds, arrayPiece};
 ghost use Rattle.meaning_writing.specs.Writing.{Built, built, mapped, sealed};
-ghost use Rattle.writer_basic.specs.Stores.{cap};
+ghost use Rattle.writer_store.specs.Stores.{cap};
 ghost use Rattle.writer_basic.specs.Wrote.{Done, DoneAll, marksOf, aroundChild, aroundValue, Structured};
 
 // A maybe round its child.

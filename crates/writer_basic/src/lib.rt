@@ -1,16 +1,14 @@
 // The small writers: what stands below the writers that call each other. Here: their answers, and what rides along.
 pub mod basic;
 pub mod closing;
-pub mod ends;
 pub mod numbers;
-pub mod store;
 pub mod texts_run;
 
-use crate::store::add;
 use container_depths::ContainerDepths;
+use writer_store::add;
 ghost use mathlib.Core.Path.{_≡_};
 ghost use Prim.Native.Nat.{ℕ, _≤_, _<_, _^_};
-ghost use Rattle.writer_basic.specs.Stores.{cap, sum};
+ghost use Rattle.writer_store.specs.Stores.{cap, sum};
 
 // The refusal's number, 0 if done; the number of the next event's first number; the bytes written.
 pub struct Answer {

@@ -2,13 +2,13 @@
 use crate::Run;
 use crate::Spot;
 use crate::basic::text_value;
-use crate::ends::keep;
 use crate::ran;
 use crate::stopped;
-use crate::store::add;
 use meaning::letters::CONTAINER_END;
 use meaning::refusals::NO_VALUE;
 use signature::Letter;
+use writer_store::add;
+use writer_store::ends::keep;
 ghost use mathlib.Core.Bool.{Bool, false};
 ghost use lib.ListN.{length, drop};
 ghost use Rattle.meaning.specs.Depths.{Depths};

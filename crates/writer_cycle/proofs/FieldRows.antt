@@ -22,13 +22,13 @@ use Rattle.signature.specs.declared.Letter.{Letter}
 use Rattle.signature.specs.declared.Letter.the-variants.{End, Bad, Boolean, Number, Text, Variant, Maybe, Array, OpenStructure, CloseStructure, OpenEntry, CloseEntry}
 use Rattle.signature.specs.declared.shapes.Shape.{Shape}
 use Rattle.signature.proofs.TreeLaws.{described-alignment, LastField, NextField, last-field-of, next-field-of}
-use Rattle.writer_basic.specs.Stores.{cap, sum, puts}
-use Rattle.writer_basic.specs.Ends.{Kept}
+use Rattle.writer_store.specs.Stores.{cap, sum, puts}
+use Rattle.writer_store.specs.Ends.{Kept}
 use Rattle.writer_basic.specs.Wrote.{Done, MadeAll, SaysAll, DoneAll}
 use Rattle.writer_cycle.specs.Places.{valueOf, fieldsOf}
 use Rattle.writer_basic.specs.declared.Answer.{Answer}
 use Rattle.writer_basic.specs.declared.Run.{Run}
-use Rattle.writer_basic.proofs.EndLaws.{kept-not}
+use Rattle.writer_store.proofs.EndLaws.{kept-not}
 use Rattle.writer_basic.proofs.Answers.{made-of, fault-of}
 use Rattle.writer_cycle.proofs.ItemLaws.{emit-over}
 use Rattle.writer_basic.proofs.Rows.{run, wrongs, none-more, says-on, fields-steady}

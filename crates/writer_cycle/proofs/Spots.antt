@@ -8,7 +8,7 @@ use Rattle.meaning.specs.Depths.{Depths}
 use Rattle.meaning.specs.Types.{Tree}
 use Rattle.meaning_writing.specs.Emitting.{emit}
 use Rattle.signature.specs.declared.items.Item.{Item}
-use Rattle.writer_basic.specs.Stores.{cap}
+use Rattle.writer_store.specs.Stores.{cap}
 use Rattle.writer_basic.specs.Wrote.{Done, Placed}
 use Rattle.writer_basic.specs.declared.Answer.{Answer}
 use Rattle.writer_basic.specs.declared.Spot.{Spot}

@@ -11,7 +11,7 @@ use Rattle.writer.proofs.write_by_walks.Lts as lts
 use Rattle.writer.proofs.refusal_of.Reads as refusal-of-reads
 use Rattle.writer.proofs.unwritten.Reads as unwritten-reads
 use Rattle.writer.proofs.whole.Reads as whole-reads
-use Rattle.writer_basic.proofs.store.copy_all.Reads as copy-all-reads
+use Rattle.writer_store.proofs.copy_all.Reads as copy-all-reads
 
 -- src/lib.rt:67:9
 whole-requires : tie.Need-whole-requires

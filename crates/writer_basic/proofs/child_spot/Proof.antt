@@ -6,7 +6,7 @@ use Rattle.writer_basic.proofs.child_spot.Statement.{statement}
 use Rattle.writer_basic.proofs.child_spot.Tie as tie
 use Rattle.writer_basic.proofs.child_spot.Reads as reads
 use Rattle.writer_basic.proofs.child_spot.Lts as lts
-use Rattle.writer_basic.proofs.store.add.Reads as add-reads
+use Rattle.writer_store.proofs.add.Reads as add-reads
 
 -- src/lib.rt:92:16
 add-requires : tie.Need-add-requires

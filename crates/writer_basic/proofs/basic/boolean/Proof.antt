@@ -7,7 +7,7 @@ use Rattle.writer_basic.proofs.basic.boolean.Tie as tie
 use Rattle.writer_basic.proofs.basic.boolean.Reads as reads
 use Rattle.writer_basic.proofs.basic.boolean.Lts as lts
 use Rattle.writer_basic.proofs.refused.Reads as refused-reads
-use Rattle.writer_basic.proofs.store.number_bytes.Reads as number-bytes-reads
+use Rattle.writer_store.proofs.number_bytes.Reads as number-bytes-reads
 use Rattle.writer_basic.proofs.wrote.Reads as wrote-reads
 
 -- src/basic.rt:111:8

@@ -11,7 +11,7 @@ use Rattle.writer_basic.proofs.basic.number.Lts as lts
 use Rattle.writer_basic.proofs.basic.code_of.Reads as code-of-reads
 use Rattle.writer_basic.proofs.basic.suits.Reads as suits-reads
 use Rattle.writer_basic.proofs.refused.Reads as refused-reads
-use Rattle.writer_basic.proofs.store.number_bytes.Reads as number-bytes-reads
+use Rattle.writer_store.proofs.number_bytes.Reads as number-bytes-reads
 use Rattle.writer_basic.proofs.wrote.Reads as wrote-reads
 
 -- src/basic.rt:150:8

@@ -1,6 +1,6 @@
 -- `writer_basic::basic::suits` meets its contract. Assumes nothing.
 use Rattle.writer_basic.proofs.Answers.{eight-fits}
-use Rattle.writer_basic.proofs.Puts.{eight-left}
+use Rattle.writer_store.proofs.Puts.{eight-left}
 use native.Mathlib.Omega.{arith}
 use Rattle.writer_basic.proofs.basic.suits.Statement.{statement}
 use Rattle.writer_basic.proofs.basic.suits.Tie as tie

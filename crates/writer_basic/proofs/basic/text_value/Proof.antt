@@ -10,9 +10,9 @@ use Rattle.writer_basic.proofs.basic.text_value.Lts as lts
 use Rattle.writer_basic.proofs.basic.code_of.Reads as code-of-reads
 use Rattle.writer_basic.proofs.basic.text_at.Reads as text-at-reads
 use Rattle.writer_basic.proofs.refused.Reads as refused-reads
-use Rattle.writer_basic.proofs.store.add.Reads as add-reads
+use Rattle.writer_store.proofs.add.Reads as add-reads
 use Rattle.writer_basic.proofs.wrote.Reads as wrote-reads
-use Rattle.writer_basic.proofs.store.put_text.Reads as put-text-reads
+use Rattle.writer_store.proofs.put_text.Reads as put-text-reads
 
 -- src/basic.rt:174:42
 code-of-requires : tie.Need-code-of-requires

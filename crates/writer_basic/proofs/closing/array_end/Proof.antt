@@ -6,10 +6,10 @@ use Rattle.writer_basic.proofs.closing.array_end.Statement.{statement}
 use Rattle.writer_basic.proofs.closing.array_end.Tie as tie
 use Rattle.writer_basic.proofs.closing.array_end.Reads as reads
 use Rattle.writer_basic.proofs.closing.array_end.Lts as lts
-use Rattle.writer_basic.proofs.ends.table.Reads as table-reads
-use Rattle.writer_basic.proofs.ends.width.Reads as width-reads
+use Rattle.writer_store.proofs.ends.table.Reads as table-reads
+use Rattle.writer_store.proofs.ends.width.Reads as width-reads
 use Rattle.writer_basic.proofs.refused.Reads as refused-reads
-use Rattle.writer_basic.proofs.store.add.Reads as add-reads
+use Rattle.writer_store.proofs.add.Reads as add-reads
 use Rattle.writer_basic.proofs.wrote.Reads as wrote-reads
 
 -- src/closing.rt:81:9

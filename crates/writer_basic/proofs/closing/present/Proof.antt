@@ -6,8 +6,8 @@ use Rattle.writer_basic.proofs.closing.present.Statement.{statement}
 use Rattle.writer_basic.proofs.closing.present.Tie as tie
 use Rattle.writer_basic.proofs.closing.present.Reads as reads
 use Rattle.writer_basic.proofs.closing.present.Lts as lts
-use Rattle.writer_basic.proofs.store.add.Reads as add-reads
-use Rattle.writer_basic.proofs.store.put.Reads as put-reads
+use Rattle.writer_store.proofs.add.Reads as add-reads
+use Rattle.writer_store.proofs.put.Reads as put-reads
 use Rattle.writer_basic.proofs.wrote.Reads as wrote-reads
 
 -- src/closing.rt:40:9

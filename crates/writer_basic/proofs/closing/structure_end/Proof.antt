@@ -6,11 +6,11 @@ use Rattle.writer_basic.proofs.closing.structure_end.Statement.{stateme
 use Rattle.writer_basic.proofs.closing.structure_end.Tie as tie
 use Rattle.writer_basic.proofs.closing.structure_end.Reads as reads
 use Rattle.writer_basic.proofs.closing.structure_end.Lts as lts
-use Rattle.writer_basic.proofs.ends.back_table.Reads as back-table-reads
-use Rattle.writer_basic.proofs.ends.width.Reads as width-reads
+use Rattle.writer_store.proofs.ends.back_table.Reads as back-table-reads
+use Rattle.writer_store.proofs.ends.width.Reads as width-reads
 use Rattle.writer_basic.proofs.refused.Reads as refused-reads
-use Rattle.writer_basic.proofs.store.add.Reads as add-reads
-use Rattle.writer_basic.proofs.store.pad.Reads as pad-reads
+use Rattle.writer_store.proofs.add.Reads as add-reads
+use Rattle.writer_store.proofs.pad.Reads as pad-reads
 use Rattle.writer_basic.proofs.wrote.Reads as wrote-reads
 
 -- src/closing.rt:108:9

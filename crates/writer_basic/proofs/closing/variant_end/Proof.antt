@@ -8,9 +8,9 @@ use Rattle.writer_basic.proofs.closing.variant_end.Reads as reads
 use Rattle.writer_basic.proofs.closing.variant_end.Lts as lts
 use Rattle.writer_basic.proofs.basic.plain_at.Reads as plain-at-reads
 use Rattle.writer_basic.proofs.refused.Reads as refused-reads
-use Rattle.writer_basic.proofs.store.add.Reads as add-reads
+use Rattle.writer_store.proofs.add.Reads as add-reads
 use Rattle.writer_basic.proofs.wrote.Reads as wrote-reads
-use Rattle.writer_basic.proofs.store.put_type.Reads as put-type-reads
+use Rattle.writer_store.proofs.put_type.Reads as put-type-reads
 
 -- src/closing.rt:136:9
 returns : tie.Need-returns

@@ -13,7 +13,7 @@ use Rattle.writer_basic.proofs.numbers.numbers.Lts as lts
 use Rattle.writer_basic.proofs.basic.number.Reads as number-reads
 use Rattle.writer_basic.proofs.ran.Reads as ran-reads
 use Rattle.writer_basic.proofs.stopped.Reads as stopped-reads
-use Rattle.writer_basic.proofs.store.add.Reads as add-reads
+use Rattle.writer_store.proofs.add.Reads as add-reads
 
 abbrev Inv-loop : tie.InvT-loop
 Inv-loop code width events big out₀ base e₀ k₀ out e k = NumbersLeft code width big events e₀ base out₀ e k out

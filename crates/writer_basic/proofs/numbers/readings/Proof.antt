@@ -18,12 +18,12 @@ use Rattle.writer_basic.proofs.numbers.readings.Statement.{statement}
 use Rattle.writer_basic.proofs.numbers.readings.Tie as tie
 use Rattle.writer_basic.proofs.numbers.readings.Reads as reads
 use Rattle.writer_basic.proofs.numbers.readings.Lts as lts
-use Rattle.writer_basic.proofs.ends.keep.Reads as keep-reads
+use Rattle.writer_store.proofs.ends.keep.Reads as keep-reads
 use Rattle.writer_basic.proofs.numbers.reading.Reads as reading-reads
 use Rattle.writer_basic.proofs.ran.Reads as ran-reads
 use Rattle.writer_basic.proofs.stopped.Reads as stopped-reads
-use Rattle.writer_basic.proofs.store.add.Reads as add-reads
-use Rattle.writer_basic.proofs.store.pad.Reads as pad-reads
+use Rattle.writer_store.proofs.add.Reads as add-reads
+use Rattle.writer_store.proofs.pad.Reads as pad-reads
 
 abbrev Inv-loop : tie.InvT-loop
 Inv-loop code width events context out₀ ends₀ base top e₀ k₀ j₀ out ends e k j =

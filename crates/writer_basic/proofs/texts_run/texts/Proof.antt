@@ -19,10 +19,10 @@ use Rattle.writer_basic.proofs.texts_run.texts.Tie as tie
 use Rattle.writer_basic.proofs.texts_run.texts.Reads as reads
 use Rattle.writer_basic.proofs.texts_run.texts.Lts as lts
 use Rattle.writer_basic.proofs.basic.text_value.Reads as text-value-reads
-use Rattle.writer_basic.proofs.ends.keep.Reads as keep-reads
+use Rattle.writer_store.proofs.ends.keep.Reads as keep-reads
 use Rattle.writer_basic.proofs.ran.Reads as ran-reads
 use Rattle.writer_basic.proofs.stopped.Reads as stopped-reads
-use Rattle.writer_basic.proofs.store.add.Reads as add-reads
+use Rattle.writer_store.proofs.add.Reads as add-reads
 
 abbrev Inv-loop : tie.InvT-loop
 Inv-loop code events texts out₀ ends₀ base top e₀ k₀ j₀ out ends e k j = (big : Bool) (d : Depths) → Left false (emitBasic texts big (keyBasic (Text code)) d) events e₀ base top out₀ ends₀ e k j out ends

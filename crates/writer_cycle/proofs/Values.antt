@@ -150,13 +150,13 @@ module _ (text : List ℕ) (at : ℕ) (t : Typed text at) (e : letterAt text at 
       pub value-maybe-deep : (r .refusal ≡ 0 → ⊥) → Done (valueOf texts big (d .variant) (treeAt text at) (depthsOf d) (drop i ns)) ns i start top l l s s (answer (r .refusal) 0 0)
       value-maybe-deep z = as-maybe l s _ (maybe-deep _ _ _ d ns i start top l s p r u l s z)
 
-      pub value-present : (c : Shape) (l′ s′ : List ℕ) (q : Answer) → r .refusal ≡ 0 → c .at ≡ at + 1 → c .fixed ≡ fixed (treeAt text (c .at))
-          → Done (aroundChild (alignment (treeAt text (c .at))) (c .fixed) (valueOf texts big (r .depths .variant) (treeAt text (c .at)) (depthsOf (r .depths)) (drop (i + 3) ns))) ns i start top l l′ s s′ q
+      pub value-present : (b : Bool) (c : Shape) (l′ s′ : List ℕ) (q : Answer) → b ≡ big → r .refusal ≡ 0 → c .at ≡ at + 1 → c .fixed ≡ fixed (treeAt text (c .at))
+          → Done (aroundChild (alignment (treeAt text (c .at))) (c .fixed) (valueOf texts b (r .depths .variant) (treeAt text (c .at)) (depthsOf (r .depths)) (drop (i + 3) ns))) ns i start top l l′ s s′ q
           → Done (valueOf texts big (d .variant) (treeAt text at) (depthsOf d) (drop i ns)) ns i start top l l′ s s′ q
-      value-present c l′ s′ q z k y g =
+      value-present b c l′ s′ q o z k y g =
           let v : r .depths .variant ≡ d .variant = ap (λ (x : Depths). x .variant) (raised-to Depth.maybe d r u z) in
           let f : fixed (treeAt text (at + 1)) ≡ c .fixed = sym (y ∙ ap (λ (x : ℕ). fixed (treeAt text x)) k) in
-          as-maybe l′ s′ q (maybe-on _ _ _ d ns i start top l s p r u l′ s′ q z (rw (← v, f, ← k) g))
+          as-maybe l′ s′ q (maybe-on _ _ _ d ns i start top l s p r u l′ s′ q z (rw (← o, ← v, f, ← k) g))
 
 -- ---- array
 module _ (text shapes : List ℕ) (at : ℕ) (it : Item) (h : ItemAt text shapes at it) (texts : List ℕ) (big : Bool) (d : ContainerDepths) (w : d .variant ≤ 64) (ns : List ℕ) (i start top : ℕ) (l s : List ℕ) where
@@ -171,12 +171,12 @@ module _ (text shapes : List ℕ) (at : ℕ) (it : Item) (h : ItemAt text shapes
     pub value-array-deep : (r .refusal ≡ 0 → ⊥) → Done (valueOf texts big (d .variant) (treeAt text at) (depthsOf d) (drop i ns)) ns i start top l l s s (answer (r .refusal) 0 0)
     value-array-deep z = as-array l s _ (array-deep (itemKind it) _ _ _ d ns i start top l s (rw e at p) r u l s z)
 
-    pub value-array : (l′ s′ : List ℕ) (q : Answer) → r .refusal ≡ 0 → Shorter (itemOf texts big (r .depths .variant) text it (depthsOf (r .depths)))
-        → Done (mapped (arrayPiece (itemKind it) (it .alignment) (it .fixed)) (sealed (buildMany (length (drop (i + 3) ns)) (itemOf texts big (r .depths .variant) text it (depthsOf (r .depths))) (drop (i + 3) ns)))) ns i start top l l′ s s′ q
+    pub value-array : (b : Bool) (l′ s′ : List ℕ) (q : Answer) → b ≡ big → r .refusal ≡ 0 → Shorter (itemOf texts b (r .depths .variant) text it (depthsOf (r .depths)))
+        → Done (mapped (arrayPiece (itemKind it) (it .alignment) (it .fixed)) (sealed (buildMany (length (drop (i + 3) ns)) (itemOf texts b (r .depths .variant) text it (depthsOf (r .depths))) (drop (i + 3) ns)))) ns i start top l l′ s s′ q
         → Done (valueOf texts big (d .variant) (treeAt text at) (depthsOf d) (drop i ns)) ns i start top l l′ s s′ q
-    value-array l′ s′ q z sh g =
+    value-array b l′ s′ q o z sh g =
         let v : r .depths .variant ≡ d .variant = ap (λ (x : Depths). x .variant) (raised-to Depth.array d r u z) in
-        as-array l′ s′ q (array-on (itemKind it) _ _ _ d ns i start top l s (rw e at p) r u l′ s′ q z (rw (← v) sh) (rw (← v) g))
+        as-array l′ s′ q (array-on (itemKind it) _ _ _ d ns i start top l s (rw e at p) r u l′ s′ q z (rw (← o, ← v) sh) (rw (← o, ← v) g))
 
 -- ---- structure
 module _ {text shapes : List ℕ} {c : Shape} (k : Described text shapes c) (e : letterAt text (c .at) ≡ OpenStructure) where
@@ -195,12 +195,12 @@ module _ {text shapes : List ℕ} {c : Shape} (k : Described text shapes c) (e :
       pub value-structure-deep : (r .refusal ≡ 0 → ⊥) → Done (valueOf texts big (d .variant) (treeAt text (c .at)) (depthsOf d) (drop i ns)) ns i start top l l s s (answer (r .refusal) 0 0)
       value-structure-deep z = as-structure l s _ (structure-deep _ _ _ d ns i start top l s p r u l s z)
 
-      pub value-structure : (l′ s′ : List ℕ) (q : Answer) → r .refusal ≡ 0
-          → Done (mapped (structurePiece (c .alignment) (c .fixed)) (sealed (fieldsOf texts big (r .depths .variant) (fieldsAt text (c .at + 1)) (depthsOf (r .depths)) (drop (i + 3) ns)))) ns i start top l l′ s s′ q
+      pub value-structure : (b : Bool) (l′ s′ : List ℕ) (q : Answer) → b ≡ big → r .refusal ≡ 0
+          → Done (mapped (structurePiece (c .alignment) (c .fixed)) (sealed (fieldsOf texts b (r .depths .variant) (fieldsAt text (c .at + 1)) (depthsOf (r .depths)) (drop (i + 3) ns)))) ns i start top l l′ s s′ q
           → Done (valueOf texts big (d .variant) (treeAt text (c .at)) (depthsOf d) (drop i ns)) ns i start top l l′ s s′ q
-      value-structure l′ s′ q z g =
+      value-structure b l′ s′ q o z g =
           let v : r .depths .variant ≡ d .variant = ap (λ (x : Depths). x .variant) (raised-to Depth.structure d r u z) in
-          as-structure l′ s′ q (structure-on _ _ _ d ns i start top l s p r u l′ s′ q z (rw (← v) g))
+          as-structure l′ s′ q (structure-on _ _ _ d ns i start top l s p r u l′ s′ q z (rw (← o, ← v) g))
 
 -- ---- variant
 module _ (texts : List ℕ) (big : Bool) (d : ContainerDepths) (w : d .variant ≤ 64) (ns : List ℕ) (i start top : ℕ) (l s : List ℕ) where
@@ -224,13 +224,13 @@ module _ (texts : List ℕ) (big : Bool) (d : ContainerDepths) (w : d .variant �
         value-variant-deep z = as-variant l s _ (variant-deep texts big _ d ns i start top l s p from to t _ (front _ e .type) r h l s z)
 
         -- the type stands at the front of its text, as the code has it
-        pub value-variant-on : (x : ℕ) (l′ s′ : List ℕ) (q : Answer) → x ≡ 0 → r .refusal ≡ 0
-            → Done (aroundValue (treeAt (take (to - from) (drop from texts)) x) (valueOf texts big (r .depths .variant) (treeAt (take (to - from) (drop from texts)) x) (depthsOf (r .depths)) (drop (i + 6) ns))) ns i start top l l′ s s′ q
+        pub value-variant-on : (b : Bool) (x : ℕ) (l′ s′ : List ℕ) (q : Answer) → b ≡ big → x ≡ 0 → r .refusal ≡ 0
+            → Done (aroundValue (treeAt (take (to - from) (drop from texts)) x) (valueOf texts b (r .depths .variant) (treeAt (take (to - from) (drop from texts)) x) (depthsOf (r .depths)) (drop (i + 6) ns))) ns i start top l l′ s s′ q
             → Done (valueOf texts big (d .variant) variant (depthsOf d) (drop i ns)) ns i start top l l′ s s′ q
-        value-variant-on x l′ s′ q o z g =
+        value-variant-on b x l′ s′ q m o z g =
             let v : r .depths .variant ≡ d .variant + 1 = ap (λ (x : Depths). x .variant) (raised-to Depth.variant d r h z) in
             let y : 65 - r .depths .variant ≡ 64 - d .variant = omega arith in
-            as-variant l′ s′ q (variant-on texts big _ d ns i start top l s p from to t _ (front _ e .type) r h l′ s′ q z (rw (o, y) at g))
+            as-variant l′ s′ q (variant-on texts big _ d ns i start top l s p from to t _ (front _ e .type) r h l′ s′ q z (rw (m, o, y) at g))
 
 pub structure-structured : (a : ℕ) (fx : Bool) → Structured a fx (structurePiece a fx)
 unfolding structurePiece

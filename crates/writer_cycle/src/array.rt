@@ -1,5 +1,6 @@
 // Arrays, and the walk over the entries of a dictionary.
 use crate::dictionary::entry;
+use crate::opening::in_array;
 use crate::value;
 use meaning::letters::CONTAINER_END;
 use meaning::refusals::NO_VALUE;
@@ -52,16 +53,12 @@ pub(crate) fn array(
     if !plain_at(events, i, item_kind(item)) {
         return refused(NO_VALUE);
     }
-    let raised = context.depths.inc_array();
-    let refusal = raised.refusal;
+    let inside = in_array(context);
+    let refusal = inside.refusal;
     if refusal != 0 {
         return refused(refusal);
     }
-    let depths = raised.depths;
-    let deeper = Context {
-        big: context.big,
-        depths,
-    };
+    let deeper = inside.context;
     let inner = Spot {
         next: i + 3,
         start: spot.start,

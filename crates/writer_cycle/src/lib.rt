@@ -3,6 +3,7 @@
 mod array;
 mod dictionary;
 mod maybe;
+mod opening;
 mod structure;
 mod variant;
 

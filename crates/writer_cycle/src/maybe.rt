@@ -1,4 +1,5 @@
 // Maybes: nothing, or a value and, where that is not fixed, a zero.
+use crate::opening::in_maybe;
 use crate::value;
 use meaning::letters::MAYBE_LETTER;
 use meaning::letters::NOTHING_LETTER;
@@ -42,16 +43,12 @@ pub(crate) fn maybe(
     if !plain_at(events, i, MAYBE_LETTER) {
         return refused(NO_VALUE);
     }
-    let raised = context.depths.inc_maybe();
-    let refusal = raised.refusal;
+    let inside = in_maybe(context);
+    let refusal = inside.refusal;
     if refusal != 0 {
         return refused(refusal);
     }
-    let depths = raised.depths;
-    let deeper = Context {
-        big: context.big,
-        depths,
-    };
+    let deeper = inside.context;
     let held = shape_in(text, shapes, shape.at + 1);
     let inner = Spot {
         next: i + 3,

@@ -1,4 +1,5 @@
 // Structures.
+use crate::opening::in_structure;
 use crate::value;
 use meaning::letters::STRUCTURE_LETTER;
 use meaning::refusals::NO_VALUE;
@@ -50,16 +51,12 @@ pub(crate) fn structure(
     if !plain_at(events, i, STRUCTURE_LETTER) {
         return refused(NO_VALUE);
     }
-    let raised = context.depths.inc_structure();
-    let refusal = raised.refusal;
+    let inside = in_structure(context);
+    let refusal = inside.refusal;
     if refusal != 0 {
         return refused(refusal);
     }
-    let depths = raised.depths;
-    let deeper = Context {
-        big: context.big,
-        depths,
-    };
+    let deeper = inside.context;
     let inner = Spot {
         next: i + 3,
         start,

@@ -1,4 +1,5 @@
 // Variants: after a variant's event come its type, as a text, and its value.
+use crate::opening::in_variant;
 use crate::value;
 use meaning::letters::SIGNATURE_LETTER;
 use meaning::letters::VARIANT_LETTER;
@@ -66,16 +67,12 @@ pub(crate) fn typed(
     if !shapes_of(text, &mut shapes) {
         return refused(VARIANT_TYPE_REFUSED);
     }
-    let raised = context.depths.inc_variant();
-    let refusal = raised.refusal;
+    let inside = in_variant(context);
+    let refusal = inside.refusal;
     if refusal != 0 {
         return refused(refusal);
     }
-    let depths = raised.depths;
-    let deeper = Context {
-        big: context.big,
-        depths,
-    };
+    let deeper = inside.context;
     let shape = shape_in(text, &shapes, 0);
     let here = Spot {
         next: spot.next + 6,

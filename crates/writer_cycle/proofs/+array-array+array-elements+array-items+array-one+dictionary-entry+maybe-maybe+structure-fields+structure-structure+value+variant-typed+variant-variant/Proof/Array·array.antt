@@ -6,13 +6,13 @@ use Rattle.writer_basic.proofs.Rows.{row-bounds}
 use Rattle.writer_cycle.proofs.EntryRows.{item-shorter}
 use Rattle.writer_cycle.proofs.ItemLaws.{item-at}
 use Rattle.writer_cycle.proofs.Values.{value-array, value-array-deep, value-array-not}
+use Rattle.writer_cycle.specs.Openings.{raisedOf}
 use borrow.Author.Needs.{needs}
 use borrow.Author.Tests.{not-false, not-true}
 use native.Mathlib.Omega.{arith}
 use Rattle.writer_cycle.proofs as of
 use Rattle.writer_cycle.proofs.+array-array+array-elements+array-items+array-one+dictionary-entry+maybe-maybe+structure-fields+structure-structure+value+variant-typed+variant-variant as cycle
 use cycle.Proof.Measures.{array·array-at, array·elements-below}
-use Rattle.container_depths.proofs.ContainerDepths.inc_array.Reads as inc-array-reads
 use Rattle.meaning.specs.Depths as Depth
 use Rattle.signature.proofs.items.item_of.Reads as item-of-reads
 use Rattle.writer_basic.proofs.basic.item_kind.Reads as item-kind-reads
@@ -21,6 +21,7 @@ use Rattle.writer_basic.proofs.closing.array_end.Reads as array-end-reads
 use Rattle.writer_basic.proofs.closing.ended.Reads as ended-reads
 use Rattle.writer_basic.proofs.refused.Reads as refused-reads
 use cycle.Lts-array-array as array·array-lts
+use of.opening.in_array.Reads as in-array-reads
 use of.array.array.Reads as array·array
 use of.array.elements.Reads as array·elements
 
@@ -34,8 +35,8 @@ array·array-callees t = (
   plain-at-reads.Learnt,
   refused-reads.Asked,
   refused-reads.Learnt,
-  inc-array-reads.Asked,
-  inc-array-reads.Learnt,
+  in-array-reads.Asked,
+  in-array-reads.Learnt,
   array·elements-below t,
   array·elements.Post,
   ended-reads.Asked,
@@ -68,8 +69,8 @@ array·array-returns t c =
     rw (c .refused .ensures)
     (value-array-not _ _ _ _ (item-at _ _ _ (start .pre .1 .0) (start .pre .1 .1) _ (at-item-of .item-of .ensures)) _ _ _ (few-variants (start .pre .1 .2)) _ _ _ _ _ _ _ (at-item-kind .item-kind .ensures) (at-plain-at .plain-at .ensures .not (not-true _ (at-if1 .if1 .taken))))
 
-array·array-inc-array-requires : (t : ℕ) → array·array-lts.Need-inc-array-requires (array·array-callees t) (array·array-at t) array·array.Post
-array·array-inc-array-requires t c κs = search needs
+array·array-in-array-requires : (t : ℕ) → array·array-lts.Need-in-array-requires (array·array-callees t) (array·array-at t) array·array.Post
+array·array-in-array-requires t c κs = search needs
 
 array·array-refused-requires-2 : (t : ℕ) → array·array-lts.Need-refused-requires-2 (array·array-callees t) (array·array-at t) array·array.Post
 array·array-refused-requires-2 t c κs = search needs
@@ -77,18 +78,18 @@ array·array-refused-requires-2 t c κs = search needs
 array·array-returns-2 : (t : ℕ) → array·array-lts.Need-returns-2 (array·array-callees t) (array·array-at t) array·array.Post
 array·array-returns-2 t c =
     let at-if2 = c .before in
-    let at-inc-array = at-if2 .before in
-    let at-if1 = at-inc-array .before in
+    let at-in-array = at-if2 .before in
+    let at-if1 = at-in-array .before in
     let at-plain-at = at-if1 .before in
     let at-item-kind = at-plain-at .before in
     let at-item-of = at-item-kind .before in
     let start = at-item-of .before .before .before .before .before .before .before in
     rw (c .refused2 .ensures)
     (value-array-deep _ _ _ _ (item-at _ _ _ (start .pre .1 .0) (start .pre .1 .1) _ (at-item-of .item-of .ensures)) _ _ _ (few-variants (start .pre .1 .2)) _ _ _ _ _ _ _ (at-item-kind .item-kind .ensures)
-    (at-plain-at .plain-at .ensures .here (not-false _ (at-if1 .if1 .left))) _ (at-inc-array .inc-array .ensures) (at-if2 .if2 .taken))
+    (at-plain-at .plain-at .ensures .here (not-false _ (at-if1 .if1 .left))) _ (at-in-array .in-array .ensures .depths) (at-if2 .if2 .taken))
 
-array·array-add-t22 : (t : ℕ) → array·array-lts.Need-add-t22 (array·array-callees t) (array·array-at t) array·array.Post
-array·array-add-t22 t c =
+array·array-add-t21 : (t : ℕ) → array·array-lts.Need-add-t21 (array·array-callees t) (array·array-at t) array·array.Post
+array·array-add-t21 t c =
     let at-if1 = c .before .before .before in
     let at-plain-at = at-if1 .before in
     omega (arith, at-plain-at .plain-at .ensures .here (not-false _ (at-if1 .if1 .left)) .whole, at-plain-at)
@@ -96,15 +97,15 @@ array·array-add-t22 t c =
 array·array-elements-requires : (t : ℕ) → array·array-lts.Need-elements-requires (array·array-callees t) (array·array-at t) array·array.Post
 array·array-elements-requires t c κs =
     let at-if2 = c .before .before .before in
-    let at-inc-array = at-if2 .before in
-    let at-if1 = at-inc-array .before in
+    let at-in-array = at-if2 .before in
+    let at-if1 = at-in-array .before in
     let at-plain-at = at-if1 .before in
     let at-item-of = at-plain-at .before .before in
     let start = at-item-of .before .before .before .before .before .before .before in (
-      omega (arith, level-falls Depth.array (start .args .context .depths) (at-inc-array .inc-array .result) (at-inc-array .inc-array .ensures) (at-if2 .if2 .left), start .pre .0),
+      omega (arith, level-falls Depth.array (start .args .context .depths) (raisedOf (at-in-array .in-array .result)) (at-in-array .in-array .ensures .depths) (at-if2 .if2 .left), start .pre .0),
       (
         (item-at _ _ _ (start .pre .1 .0) (start .pre .1 .1) _ (at-item-of .item-of .ensures)) .repeated,
-        raised-in Depth.array _ _ (at-inc-array .inc-array .ensures) _ (at-if2 .if2 .left),
+        raised-in Depth.array _ _ (at-in-array .in-array .ensures .depths) _ (at-if2 .if2 .left),
         record
             { within = (at-plain-at .plain-at .ensures .here (not-false _ (at-if1 .if1 .left))) .whole; near = start .pre .1 .3 .near; few = start .pre .1 .3 .few },
       ),
@@ -134,14 +135,14 @@ array·array-returns-3 t c =
     let at-ended = at-array-end .before .before .before in
     let at-elements = at-ended .before .before .before .before .before in
     let at-if2 = at-elements .before .before .before .before in
-    let at-inc-array = at-if2 .before in
-    let at-if1 = at-inc-array .before in
+    let at-in-array = at-if2 .before in
+    let at-if1 = at-in-array .before in
     let at-plain-at = at-if1 .before in
     let at-item-kind = at-plain-at .before in
     let at-item-of = at-item-kind .before in
     let start = at-item-of .before .before .before .before .before .before .before in
     value-array _ _ _ _ (item-at _ _ _ (start .pre .1 .0) (start .pre .1 .1) _ (at-item-of .item-of .ensures)) _ _ _ (few-variants (start .pre .1 .2)) _ _ _ _ _ _ _ (at-item-kind .item-kind .ensures)
-    (at-plain-at .plain-at .ensures .here (not-false _ (at-if1 .if1 .left))) _ (at-inc-array .inc-array .ensures) _ _ _ (at-if2 .if2 .left) (item-shorter _ _ _ _ _ _)
+    (at-plain-at .plain-at .ensures .here (not-false _ (at-if1 .if1 .left))) _ (at-in-array .in-array .ensures .depths) _ _ _ _ (at-in-array .in-array .ensures .order) (at-if2 .if2 .left) (item-shorter _ _ _ _ _ _)
     (at-array-end .array-end .ensures _ _ _ _ _ _ _ (omega (arith, at-elements .elements .kept)) (omega (arith, at-elements .elements .kept)) (at-ended .ended .ensures _ _ _ _ _ _ _ _ _ _ _ (at-elements .elements .ensures)))
 
 pub array·array-spec : {M : Type 1} (t : ℕ) → array·array-lts.Closed (array·array-callees t) (array·array-at t) array·array.Post M
@@ -152,10 +153,10 @@ array·array-spec t =
     (array·array-plain-at-requires t)
     (array·array-refused-requires t)
     (array·array-returns t)
-    (array·array-inc-array-requires t)
+    (array·array-in-array-requires t)
     (array·array-refused-requires-2 t)
     (array·array-returns-2 t)
-    (array·array-add-t22 t)
+    (array·array-add-t21 t)
     (array·array-elements-requires t)
     (array·array-ended-requires t)
     (array·array-array-end-requires t)

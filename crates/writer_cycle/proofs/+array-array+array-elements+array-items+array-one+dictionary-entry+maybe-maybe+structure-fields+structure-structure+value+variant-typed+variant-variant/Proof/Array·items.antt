@@ -13,14 +13,14 @@ use Rattle.writer_cycle.proofs as of
 use Rattle.writer_cycle.proofs.+array-array+array-elements+array-items+array-one+dictionary-entry+maybe-maybe+structure-fields+structure-structure+value+variant-typed+variant-variant as cycle
 use cycle.Proof.Measures.{array·items-at, array·one-below}
 use Rattle.writer_basic.proofs.child_spot.Reads as child-spot-reads
-use Rattle.writer_store.proofs.ends.keep.Reads as keep-reads
 use Rattle.writer_basic.proofs.ran.Reads as ran-reads
 use Rattle.writer_basic.proofs.stopped.Reads as stopped-reads
-use Rattle.writer_store.proofs.add.Reads as add-reads
-use Rattle.writer_store.proofs.pad.Reads as pad-reads
 use cycle.Lts-array-items as array·items-lts
 use of.array.items.Reads as array·items
 use of.array.one.Reads as array·one
+use Rattle.writer_store.proofs.add.Reads as add-reads
+use Rattle.writer_store.proofs.ends.keep.Reads as keep-reads
+use Rattle.writer_store.proofs.pad.Reads as pad-reads
 
 abbrev array·items-callees : ℕ → array·items-lts.Claims
 array·items-callees t = (

@@ -19,13 +19,13 @@ use cycle.Proof.Measures.{dictionary·entry-at, value-below}
 use Rattle.writer_basic.proofs.basic.basic_value.Reads as basic-value-reads
 use Rattle.writer_basic.proofs.child_spot.Reads as child-spot-reads
 use Rattle.writer_basic.proofs.closing.structure_end.Reads as structure-end-reads
-use Rattle.writer_store.proofs.ends.keep.Reads as keep-reads
 use Rattle.writer_basic.proofs.ran.Reads as ran-reads
-use Rattle.writer_store.proofs.add.Reads as add-reads
-use Rattle.writer_store.proofs.pad.Reads as pad-reads
 use cycle.Lts-dictionary-entry as dictionary·entry-lts
 use of.dictionary.entry.Reads as dictionary·entry
 use of.value.Reads as value
+use Rattle.writer_store.proofs.add.Reads as add-reads
+use Rattle.writer_store.proofs.ends.keep.Reads as keep-reads
+use Rattle.writer_store.proofs.pad.Reads as pad-reads
 
 abbrev dictionary·entry-callees : ℕ → dictionary·entry-lts.Claims
 dictionary·entry-callees t = (

@@ -8,6 +8,7 @@ use Rattle.signature.specs.declared.shapes.Shape.{Shape}
 use Rattle.writer_basic.proofs.Answers.{bounds}
 use Rattle.writer_basic.proofs.Openings.{raised-in}
 use Rattle.writer_cycle.proofs.Values.{value-maybe-deep, value-neither, value-nothing, value-present}
+use Rattle.writer_cycle.specs.Openings.{raisedOf}
 use borrow.Author.Needs.{needs}
 use borrow.Author.Tests.{not-false, not-true}
 use mathlib.Core.Path.{ap, refl}
@@ -15,7 +16,6 @@ use native.Mathlib.Omega.{arith}
 use Rattle.writer_cycle.proofs as of
 use Rattle.writer_cycle.proofs.+array-array+array-elements+array-items+array-one+dictionary-entry+maybe-maybe+structure-fields+structure-structure+value+variant-typed+variant-variant as cycle
 use cycle.Proof.Measures.{maybe·maybe-at, value-below}
-use Rattle.container_depths.proofs.ContainerDepths.inc_maybe.Reads as inc-maybe-reads
 use Rattle.meaning.specs.Depths as Depth
 use Rattle.signature.proofs.shapes.shape_in.Reads as shape-in-reads
 use Rattle.writer_basic.proofs.basic.plain_at.Reads as plain-at-reads
@@ -23,6 +23,7 @@ use Rattle.writer_basic.proofs.closing.present.Reads as present-reads
 use Rattle.writer_basic.proofs.refused.Reads as refused-reads
 use Rattle.writer_basic.proofs.wrote.Reads as wrote-reads
 use cycle.Lts-maybe-maybe as maybe·maybe-lts
+use of.opening.in_maybe.Reads as in-maybe-reads
 use of.maybe.maybe.Reads as maybe·maybe
 use of.value.Reads as value
 
@@ -34,8 +35,8 @@ maybe·maybe-callees t = (
   wrote-reads.Learnt,
   refused-reads.Asked,
   refused-reads.Learnt,
-  inc-maybe-reads.Asked,
-  inc-maybe-reads.Learnt,
+  in-maybe-reads.Asked,
+  in-maybe-reads.Learnt,
   shape-in-reads.Asked,
   shape-in-reads.Learnt,
   value-below t,
@@ -79,8 +80,8 @@ maybe·maybe-returns-2 t c =
     let start = at-plain-at .before .before .before .before .before .before .before in
     rw (c .refused .ensures) (value-neither _ _ (start .pre .1 .0 .typed) (start .pre .1 .1) _ _ _ _ _ _ _ _ _ (at-plain-at .plain-at .ensures .not (at-if1 .if1 .left)) (at-plain-at2 .plain-at2 .ensures .not (not-true _ (at-if2 .if2 .taken))))
 
-maybe·maybe-inc-maybe-requires : (t : ℕ) → maybe·maybe-lts.Need-inc-maybe-requires (maybe·maybe-callees t) (maybe·maybe-at t) maybe·maybe.Post
-maybe·maybe-inc-maybe-requires t c κs = search needs
+maybe·maybe-in-maybe-requires : (t : ℕ) → maybe·maybe-lts.Need-in-maybe-requires (maybe·maybe-callees t) (maybe·maybe-at t) maybe·maybe.Post
+maybe·maybe-in-maybe-requires t c κs = search needs
 
 maybe·maybe-refused-requires-2 : (t : ℕ) → maybe·maybe-lts.Need-refused-requires-2 (maybe·maybe-callees t) (maybe·maybe-at t) maybe·maybe.Post
 maybe·maybe-refused-requires-2 t c κs = search needs
@@ -88,11 +89,11 @@ maybe·maybe-refused-requires-2 t c κs = search needs
 maybe·maybe-returns-3 : (t : ℕ) → maybe·maybe-lts.Need-returns-3 (maybe·maybe-callees t) (maybe·maybe-at t) maybe·maybe.Post
 maybe·maybe-returns-3 t c =
     let at-if3 = c .before in
-    let at-inc-maybe = at-if3 .before in
-    let at-if2 = at-inc-maybe .before in
+    let at-in-maybe = at-if3 .before in
+    let at-if2 = at-in-maybe .before in
     let at-plain-at2 = at-if2 .before in
     let start = at-plain-at2 .before .before .before .before .before .before .before .before .before in
-    rw (c .refused2 .ensures) (value-maybe-deep _ _ (start .pre .1 .0 .typed) (start .pre .1 .1) _ _ _ _ _ _ _ _ _ (at-plain-at2 .plain-at2 .ensures .here (not-false _ (at-if2 .if2 .left))) _ (at-inc-maybe .inc-maybe .ensures) (at-if3 .if3 .taken))
+    rw (c .refused2 .ensures) (value-maybe-deep _ _ (start .pre .1 .0 .typed) (start .pre .1 .1) _ _ _ _ _ _ _ _ _ (at-plain-at2 .plain-at2 .ensures .here (not-false _ (at-if2 .if2 .left))) _ (at-in-maybe .in-maybe .ensures .depths) (at-if3 .if3 .taken))
 
 maybe·maybe-add-shape-in : (t : ℕ) → maybe·maybe-lts.Need-add-shape-in (maybe·maybe-callees t) (maybe·maybe-at t) maybe·maybe.Post
 maybe·maybe-add-shape-in t c =
@@ -102,8 +103,8 @@ maybe·maybe-add-shape-in t c =
 maybe·maybe-shape-in-requires : (t : ℕ) → maybe·maybe-lts.Need-shape-in-requires (maybe·maybe-callees t) (maybe·maybe-at t) maybe·maybe.Post
 maybe·maybe-shape-in-requires t c κs = search needs
 
-maybe·maybe-add-t23 : (t : ℕ) → maybe·maybe-lts.Need-add-t23 (maybe·maybe-callees t) (maybe·maybe-at t) maybe·maybe.Post
-maybe·maybe-add-t23 t c =
+maybe·maybe-add-t22 : (t : ℕ) → maybe·maybe-lts.Need-add-t22 (maybe·maybe-callees t) (maybe·maybe-at t) maybe·maybe.Post
+maybe·maybe-add-t22 t c =
     let at-if2 = c .before .before .before .before .before in
     let at-plain-at2 = at-if2 .before in
     omega (arith, at-plain-at2 .plain-at2 .ensures .here (not-false _ (at-if2 .if2 .left)) .whole, at-plain-at2)
@@ -112,14 +113,14 @@ maybe·maybe-value-requires : (t : ℕ) → maybe·maybe-lts.Need-value-requires
 maybe·maybe-value-requires t c κs =
     let at-shape-in = c .before .before in
     let at-if3 = at-shape-in .before .before .before in
-    let at-inc-maybe = at-if3 .before in
-    let at-if2 = at-inc-maybe .before in
+    let at-in-maybe = at-if3 .before in
+    let at-if2 = at-in-maybe .before in
     let at-plain-at2 = at-if2 .before in
     let start = at-plain-at2 .before .before .before .before .before .before .before .before .before in (
-      omega (arith, level-falls Depth.maybe (start .args .context .depths) (at-inc-maybe .inc-maybe .result) (at-inc-maybe .inc-maybe .ensures) (at-if3 .if3 .left), start .pre .0),
+      omega (arith, level-falls Depth.maybe (start .args .context .depths) (raisedOf (at-in-maybe .in-maybe .result)) (at-in-maybe .in-maybe .ensures .depths) (at-if3 .if3 .left), start .pre .0),
       (
         (described-as (at-shape-in .shape-in .ensures) (maybe-described _ _ (start .pre .1 .0 .typed) (start .pre .1 .1) _ (start .pre .1 .0 .table))),
-        raised-in Depth.maybe _ _ (at-inc-maybe .inc-maybe .ensures) _
+        raised-in Depth.maybe _ _ (at-in-maybe .in-maybe .ensures .depths) _
             (at-if3 .if3 .left),
         record { within = at-plain-at2 .plain-at2 .ensures .here (not-false _ (at-if2 .if2 .left)) .whole; near = start .pre .1 .3 .near; few = start .pre .1 .3 .few },
       ),
@@ -143,12 +144,12 @@ maybe·maybe-returns-4 t c =
     let at-value = at-present .before .before .before .before .before .before in
     let at-shape-in = at-value .before .before .before in
     let at-if3 = at-shape-in .before .before .before in
-    let at-inc-maybe = at-if3 .before in
-    let at-if2 = at-inc-maybe .before in
+    let at-in-maybe = at-if3 .before in
+    let at-if2 = at-in-maybe .before in
     let at-plain-at2 = at-if2 .before in
     let start = at-plain-at2 .before .before .before .before .before .before .before .before .before in
-    value-present _ _ (start .pre .1 .0 .typed) (start .pre .1 .1) _ _ _ _ _ _ _ _ _ (at-plain-at2 .plain-at2 .ensures .here (not-false _ (at-if2 .if2 .left))) _ (at-inc-maybe .inc-maybe .ensures) (at-shape-in .shape-in .result) _
-    _ _ (at-if3 .if3 .left) (ap (λ (s : Shape). s .at) (at-shape-in .shape-in .ensures))
+    value-present _ _ (start .pre .1 .0 .typed) (start .pre .1 .1) _ _ _ _ _ _ _ _ _ (at-plain-at2 .plain-at2 .ensures .here (not-false _ (at-if2 .if2 .left))) _ (at-in-maybe .in-maybe .ensures .depths) _ (at-shape-in .shape-in .result) _
+    _ _ (at-in-maybe .in-maybe .ensures .order) (at-if3 .if3 .left) (ap (λ (s : Shape). s .at) (at-shape-in .shape-in .ensures))
     (described-fixed (described-as (at-shape-in .shape-in .ensures) (maybe-described _ _ (start .pre .1 .0 .typed) (start .pre .1 .1) _ (start .pre .1 .0 .table))))
     (at-present .present .ensures _ _ _ _ _ _ _ _ (omega (arith, at-value .value .kept)) (at-value .value .ensures))
 
@@ -162,12 +163,12 @@ maybe·maybe-spec t =
     (maybe·maybe-plain-at-requires-2 t)
     (maybe·maybe-refused-requires t)
     (maybe·maybe-returns-2 t)
-    (maybe·maybe-inc-maybe-requires t)
+    (maybe·maybe-in-maybe-requires t)
     (maybe·maybe-refused-requires-2 t)
     (maybe·maybe-returns-3 t)
     (maybe·maybe-add-shape-in t)
     (maybe·maybe-shape-in-requires t)
-    (maybe·maybe-add-t23 t)
+    (maybe·maybe-add-t22 t)
     (maybe·maybe-value-requires t)
     (maybe·maybe-present-requires t)
     (maybe·maybe-same-length t)

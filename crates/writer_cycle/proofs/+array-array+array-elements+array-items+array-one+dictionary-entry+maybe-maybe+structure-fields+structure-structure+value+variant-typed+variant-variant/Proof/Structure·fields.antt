@@ -18,14 +18,14 @@ use cycle.Proof.Measures.{structure·fields-at, value-below}
 use Rattle.signature.proofs.letter_at.Reads as letter-at-reads
 use Rattle.signature.proofs.shapes.shape_in.Reads as shape-in-reads
 use Rattle.writer_basic.proofs.child_spot.Reads as child-spot-reads
-use Rattle.writer_store.proofs.ends.keep.Reads as keep-reads
 use Rattle.writer_basic.proofs.ran.Reads as ran-reads
 use Rattle.writer_basic.proofs.stopped.Reads as stopped-reads
-use Rattle.writer_store.proofs.add.Reads as add-reads
-use Rattle.writer_store.proofs.pad.Reads as pad-reads
 use cycle.Lts-structure-fields as structure·fields-lts
 use of.structure.fields.Reads as structure·fields
 use of.value.Reads as value
+use Rattle.writer_store.proofs.add.Reads as add-reads
+use Rattle.writer_store.proofs.ends.keep.Reads as keep-reads
+use Rattle.writer_store.proofs.pad.Reads as pad-reads
 
 abbrev structure·fields-callees : ℕ → structure·fields-lts.Claims
 structure·fields-callees t = (

@@ -17,7 +17,7 @@ ghost use Rattle.framing_offset_size.specs.Widths.{widthOf};
 ghost use Rattle.de.specs.Parts.{paddingAt, placeAfter, boolAt};
 
 // Whether so many bytes at a place are 0.
-fn zeros(part: &[u8], place: usize, count: usize) -> bool
+pub fn zeros(part: &[u8], place: usize, count: usize) -> bool
     requires { ⌜ place + count ≤ length (now part) ⌝ }
     ensures { λ r. ⌜ r ≡ leb count (leadingZeros (drop place (now (part .entry)))) ⌝ }
 {

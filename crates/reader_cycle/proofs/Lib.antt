@@ -4,6 +4,7 @@ pub mod Deepening
 pub mod Entries
 pub mod ItemLaws
 pub mod Maybes
+pub mod Paddings
 pub mod Readers
 pub mod Repeats
 pub mod Rides

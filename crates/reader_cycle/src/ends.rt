@@ -1,10 +1,14 @@
 // Where a child ends by an offset, and what is passed behind it; padding.
-use crate::ride::position_of;
-use de::parse_padding;
+use de::zeros;
+use meaning::refusals::OUT_OF_BOUNDS;
+use meaning::refusals::PADDING_NOT_ZERO;
 use reader_basic::Answer;
-use reader_basic::basic::end_padding;
+use reader_basic::behind;
 use reader_basic::done;
+use reader_basic::refused;
 use signature::shapes::alignment_of;
+use std::num::wrapping_add_usize;
+use std::num::wrapping_sub_usize;
 use utils::Checked;
 ghost use mathlib.Core.Path.{_≡_};
 ghost use mathlib.Core.Bool.{true};
@@ -61,16 +65,28 @@ pub(crate) fn past(answer: Answer, more: usize) -> Answer
     done(answer.used + more, answer.count)
 }
 
-// The padding that is due at a place of a part, by the shape of what stands there.
+// The padding that is due at a place of a part, by the shape of what stands there. A number that rides along has the position in its lowest
+// bits, so the bits that an alignment asks for are its own.
 pub(crate) fn padded(part: &[u8], j: usize, place: usize, ride: usize, shape: u16) -> Checked
-    requires { ⌜ (contextOf ride .position ≤ largestFrame) × (place ≤ largestFrame) ⌝ }
+    requires { ⌜ (contextOf ride .position ≤ largestFrame) × (place + length (now part) ≤ largestFrame) × (j ≤ length (now part)) × Aligns (shape % 16) ⌝ }
     ensures { λ r. ⌜ r ≡ paddingAt (contextOf ride .position + place) j (shape % 16) (now (part .entry)) ⌝ }
 {
-    let position = position_of(ride);
-    parse_padding(position + place, j, alignment_of(shape), part)
+    let alignment = alignment_of(shape);
+    let stands = wrapping_add_usize(ride, place + j);
+    let due = wrapping_sub_usize(0, stands) & (alignment - 1);
+    if due == 0 {
+        return Checked::passed(0);
+    }
+    if part.len() - j < due {
+        return Checked::failed(OUT_OF_BOUNDS);
+    }
+    if zeros(part, j, due) {
+        return Checked::passed(due);
+    }
+    Checked::failed(PADDING_NOT_ZERO)
 }
 
-// The padding at the end of what is fixed, by its shape.
+// The padding at the end of what is fixed, by its shape, judged from where it stands, whatever came of its last child.
 pub(crate) fn end_padded(
     part: &[u8],
     j: usize,
@@ -82,6 +98,10 @@ pub(crate) fn end_padded(
     requires { ⌜ (place + length (now part) ≤ largestFrame) × (contextOf ride .position ≤ largestFrame) × (j + r .used ≤ length (now part)) × Aligns (shape % 16) ⌝ }
     ensures { λ s. ⌜ ((o : Outcome) (end len n : ℕ) (l l′ : List ℕ) → len ≡ length (now (part .entry)) - j → Done o end len n l l′ r → Done (endPadding (contextOf ride .position) true (shape % 16) place (now (part .entry)) j o) len len n l l′ s) ⌝ }
 {
-    let position = position_of(ride);
-    end_padding(part, j, place, position, alignment_of(shape), r)
+    let padding = padded(part, j + r.used, place, ride, shape);
+    let refusal = padding.refusal;
+    if refusal != 0 {
+        return refused(refusal, r.used, r.count);
+    }
+    behind(padding.value, r)
 }

@@ -3,6 +3,7 @@ use Rattle.reader_cycle.proofs.Characters.{typed-within}
 use Prim.Native.Nat.{ℕ}
 use Rattle.reader_cycle.proofs.Deepening.{told}
 use Rattle.reader_cycle.proofs.Readers.{container-on, container-stop, lead-fits}
+use Rattle.signature.proofs.TreeLaws.{described-aligned}
 use borrow.Author.Needs.{needs}
 use mathlib.Core.Bool.{false}
 use mathlib.Core.List.{[]}
@@ -42,7 +43,7 @@ container-element-copy-out-padded t c =
 container-padded-requires : (t : ℕ) → container-lts.Need-padded-requires (container-callees t) (container-at t) container.Post
 container-padded-requires t c κs =
     let start = c .before .before .before .before in
-    (start .pre .1 .1 .near, omega (arith, start .pre .1 .1 .in-frame))
+    (start .pre .1 .1 .near, start .pre .1 .1 .in-frame, omega arith, described-aligned (start .pre .1 .0))
 
 container-refused-requires : (t : ℕ) → container-lts.Need-refused-requires (container-callees t) (container-at t) container.Post
 container-refused-requires t c κs = search needs

@@ -48,7 +48,7 @@ dictionary·entry-element-copy-out-padded t c =
 dictionary·entry-padded-requires : (t : ℕ) → dictionary·entry-lts.Need-padded-requires (dictionary·entry-callees t) (dictionary·entry-at t) dictionary·entry.Post
 dictionary·entry-padded-requires t c κs =
     let start = c .before .before .before .before in
-    (start .pre .1 .1 .near, omega (arith, start .pre .1 .1 .in-frame))
+    (start .pre .1 .1 .near, start .pre .1 .1 .in-frame, start .pre .1 .2, start .pre .1 .0 .aligned)
 
 dictionary·entry-refused-requires : (t : ℕ) → dictionary·entry-lts.Need-refused-requires (dictionary·entry-callees t) (dictionary·entry-at t) dictionary·entry.Post
 dictionary·entry-refused-requires t c κs = search needs

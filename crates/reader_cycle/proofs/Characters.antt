@@ -193,25 +193,25 @@ mark-code l at k c e m =
 
 -- and the letter of such a character
 module _ (l : List ℕ) (at : ℕ) (h : at < length l) where
-  pub at-maybe : getD l at 0 ≡ 109 → letterAt l at ≡ Maybe
+  pub code-maybe : getD l at 0 ≡ 109 → letterAt l at ≡ Maybe
   unfolding letterBy basicAmong
-  at-maybe e = letter-some l at h ∙ ap letterOf e
+  code-maybe e = letter-some l at h ∙ ap letterOf e
 
-  pub at-array : getD l at 0 ≡ 97 → letterAt l at ≡ Array
+  pub code-array : getD l at 0 ≡ 97 → letterAt l at ≡ Array
   unfolding letterBy basicAmong
-  at-array e = letter-some l at h ∙ ap letterOf e
+  code-array e = letter-some l at h ∙ ap letterOf e
 
-  pub at-structure : getD l at 0 ≡ 40 → letterAt l at ≡ OpenStructure
+  pub code-structure : getD l at 0 ≡ 40 → letterAt l at ≡ OpenStructure
   unfolding letterBy basicAmong
-  at-structure e = letter-some l at h ∙ ap letterOf e
+  code-structure e = letter-some l at h ∙ ap letterOf e
 
-  pub at-variant : getD l at 0 ≡ 118 → letterAt l at ≡ Variant
+  pub code-variant : getD l at 0 ≡ 118 → letterAt l at ≡ Variant
   unfolding letterBy basicAmong
-  at-variant e = letter-some l at h ∙ ap letterOf e
+  code-variant e = letter-some l at h ∙ ap letterOf e
 
-  pub at-entry : getD l at 0 ≡ 123 → letterAt l at ≡ OpenEntry
+  pub code-entry : getD l at 0 ≡ 123 → letterAt l at ≡ OpenEntry
   unfolding letterBy basicAmong
-  at-entry e = letter-some l at h ∙ ap letterOf e
+  code-entry e = letter-some l at h ∙ ap letterOf e
 
 basic-positive : (b : Basic) → keyAlignment (basicKind b) ≡ 0 → ⊥
 basic-positive bool h = omega arith
@@ -227,10 +227,10 @@ module _ {l : List ℕ} {at : ℕ} (t : Typed l at) where
   contains-code h = go (treeAt l at) (shown l at _ _ (t .found))
     where
       none-aligned : OneOfFour (getD l at 0) → keyAlignment (letterAt l at) ≡ 0
-      none-aligned (inl e) = ap keyAlignment (at-structure l at (typed-within t) e)
-      none-aligned (inr (inl e)) = ap keyAlignment (at-array l at (typed-within t) e)
-      none-aligned (inr (inr (inl e))) = ap keyAlignment (at-maybe l at (typed-within t) e)
-      none-aligned (inr (inr (inr e))) = ap keyAlignment (at-variant l at (typed-within t) e)
+      none-aligned (inl e) = ap keyAlignment (code-structure l at (typed-within t) e)
+      none-aligned (inr (inl e)) = ap keyAlignment (code-array l at (typed-within t) e)
+      none-aligned (inr (inr (inl e))) = ap keyAlignment (code-maybe l at (typed-within t) e)
+      none-aligned (inr (inr (inr e))) = ap keyAlignment (code-variant l at (typed-within t) e)
 
       go : (s : Tree) → Shown l at s (behindBy (firstType (drop at l))) → Contains s
       go (basic b) w = absurd (basic-positive b (ap keyAlignment (sym (w .letter)) ∙ none-aligned h))

@@ -25,7 +25,7 @@ use Rattle.reader_basic.specs.declared.Answer.{Answer}
 use Rattle.reader_basic.specs.declared.Context.{Context}
 use Rattle.reader_cycle.specs.Codes.{widthBy, isText, Held}
 use Rattle.reader_cycle.specs.Places.{valueIn, stepIn, elementKind, itemBy, itemOf, Repeated, ItemAt}
-use Rattle.reader_cycle.proofs.Characters.{number-code, text-code, typed-within, mark-code, at-entry}
+use Rattle.reader_cycle.proofs.Characters.{number-code, text-code, typed-within, mark-code, code-entry}
 use Rattle.reader_cycle.proofs.Entries.{step-child}
 use Rattle.reader_cycle.proofs.ItemLaws.{item-at}
 
@@ -44,7 +44,7 @@ module _ (l t : List ℕ) (at : ℕ) (d : Described l t (shapeIn l t at)) (first
       short = omega (arith, d .typed .short, behind-it)
 
       go : (b : Bool) → eqb (getD l (at + 1) 0) 123 ≡ b → itemBy b l t at ≡ itemIn l t (shapeIn l t at)
-      go true e = item-entry l t (shapeIn l t at) short _ _ refl refl (at-entry l (at + 1) behind-it (eqb-true _ _ e)) _ refl
+      go true e = item-entry l t (shapeIn l t at) short _ _ refl refl (code-entry l (at + 1) behind-it (eqb-true _ _ e)) _ refl
       go false e = item-element l t (shapeIn l t at) short _ _ refl refl (λ h. eqb-false _ _ e (mark-code l (at + 1) OpenEntry 123 h refl)) _ refl
 
   pub repeats : ItemAt l t at (itemOf l t at)
@@ -70,7 +70,7 @@ module _ (l t : List ℕ) (at : ℕ) (within : at + 1 < length l) where
 
       go : (b : Bool) → eqb (getD l (at + 1) 0) 123 ≡ b → pick b End (heldNumber (letterAt l (at + 1)) (letterAt l (at + 2))) ≡ Number (getD l (at + 1) 0) w
       go true e =
-          let y : OpenEntry ≡ Number (getD l (at + 1) 0) w = sym (at-entry l (at + 1) within (eqb-true _ _ e)) ∙ here in
+          let y : OpenEntry ≡ Number (getD l (at + 1) 0) w = sym (code-entry l (at + 1) within (eqb-true _ _ e)) ∙ here in
           let z : _≡_ {A = ℕ} 0 1 = cc in absurd (omega arith)
       go false e = ap (λ (x : Letter). heldNumber x (letterAt l (at + 2))) here
 
@@ -92,7 +92,7 @@ module _ (l t : List ℕ) (at : ℕ) (within : at + 1 < length l) where
 
       go : (b : Bool) → eqb (getD l (at + 1) 0) 123 ≡ b → Text (getD l (at + 1) 0) ≡ pick b End (letterAt l (pick b (at + 3) (at + 1)))
       go true e =
-          let y : OpenEntry ≡ Text (getD l (at + 1) 0) = sym (at-entry l (at + 1) within (eqb-true _ _ e)) ∙ here in
+          let y : OpenEntry ≡ Text (getD l (at + 1) 0) = sym (code-entry l (at + 1) within (eqb-true _ _ e)) ∙ here in
           let z : _≡_ {A = ℕ} 0 1 = cc in absurd (omega arith)
       go false e = sym here
 

@@ -36,7 +36,8 @@ ghost use Rattle.reader_cycle.specs.Places.{insideOf};
 ghost use Rattle.reader_cycle.specs.Children.{fieldEnds};
 ghost use Rattle.reader_cycle.specs.Rides.{contextOf};
 
-// A structure, in one function with the loop over its fields. A field that is neither fixed nor last takes its end from the back of the table.
+// A structure, in one function with the loop over all its fields but the last. A field that is neither fixed nor last takes its end from the
+// back of the table.
 pub(crate) fn structure(
     text: &[u8],
     shapes: &[u16; 255],
@@ -61,21 +62,14 @@ pub(crate) fn structure(
     let mut i = at + 1;
     let mut end = part.len();
     let mut u = 0;
-    loop {
+    while !closes_at(text, next_of(shapes[i])) {
         let field = shapes[i];
-        let next = next_of(field);
-        let j = lead + u;
-        if closes_at(text, next) {
-            let r = value(text, shapes, i, part, j, end, place, deeper, out, m);
-            let s = close_fields(shapes[at], part, j, end, place, deeper, r);
-            let all = behind(u, s);
-            return close(all, place + lead, out);
-        }
         let ends = field_ends(part, lead, field, end);
         let fault = ends.refusal;
         if fault != 0 {
             return refused(fault, u, m);
         }
+        let j = lead + u;
         let e = ends.child;
         let r = value(text, shapes, i, part, j, e, place, deeper, out, m);
         let refusal = r.refusal;
@@ -85,8 +79,13 @@ pub(crate) fn structure(
         end = end - ends.width;
         u = u + r.used;
         m = r.count;
-        i = next;
+        i = next_of(field);
     }
+    let j = lead + u;
+    let r = value(text, shapes, i, part, j, end, place, deeper, out, m);
+    let s = close_fields(shapes[at], part, j, end, place, deeper, r);
+    let all = behind(u, s);
+    close(all, place + lead, out)
 }
 
 // Where a field that is not the last ends, in a structure that begins at lead and whose table reaches to an end.

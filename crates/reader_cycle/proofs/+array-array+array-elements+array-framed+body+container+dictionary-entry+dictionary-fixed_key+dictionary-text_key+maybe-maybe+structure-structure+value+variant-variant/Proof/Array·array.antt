@@ -1,9 +1,9 @@
 -- The needs of `array·array`, and what answers each.
-use Rattle.reader_cycle.proofs.Repeats.{item-within, repeats}
 use Prim.Native.Nat.{ℕ}
 use Rattle.reader_basic.proofs.Loops.{stands-by, tail}
 use Rattle.reader_cycle.proofs.Arrays.{array-deep, array-fixed, array-framed, array-no-table}
 use Rattle.reader_cycle.proofs.Deepening.{inside-deeper, level-falls, told}
+use Rattle.reader_cycle.proofs.Repeats.{item-within, repeats}
 use borrow.Author.Needs.{needs}
 use mathlib.Core.Path.{_∙_, sym}
 use native.Mathlib.Omega.{arith}

@@ -1,5 +1,4 @@
 -- The needs of `array·elements`, and what answers each.
-use Rattle.reader_cycle.proofs.Repeats.{item-number, item-within, repeated-as, step-element, step-entry}
 use Prim.Native.Nat.{_+_, _-_, ℕ}
 use Rattle.container_depths.specs.Opening.{depthsOf}
 use Rattle.reader_basic.proofs.Loops.{ElementsLeft, elements-begin, elements-end, elements-next, elements-stop, kept}
@@ -7,6 +6,7 @@ use Rattle.reader_basic.specs.Answers.{Between}
 use Rattle.reader_cycle.proofs.Arrays.{item-least}
 use Rattle.reader_cycle.proofs.Deepening.{arrived, told}
 use Rattle.reader_cycle.proofs.ItemLaws.{plain-numbers}
+use Rattle.reader_cycle.proofs.Repeats.{item-number, item-within, repeated-as, step-element, step-entry}
 use Rattle.reader_cycle.proofs.Rides.{inside-as, numbers-as}
 use Rattle.reader_cycle.specs.Places.{itemOf, stepIn}
 use Rattle.reader_cycle.specs.Rides.{contextOf}
@@ -72,19 +72,26 @@ array·elements-context-of-requires t c κs = search needs
 
 array·elements-numbers-requires : (t : ℕ) → array·elements-lts.Need-numbers-requires (array·elements-callees t) (array·elements-at t) array·elements.Post array·elements-Inv-loop array·elements-μ-loop
 array·elements-numbers-requires t c κs =
-    let start = c .before .before .before .before .before .before .before .before in
-    (inside-as (c .before .context-of .ensures) (start .pre .1 .2), start .pre .1 .3, start .pre .1 .0 .number _ _ (item-number (start .args .text .now) (start .args .shapes .now) (start .args .at) (item-within (start .args .text .now) (start .args .shapes .now) (start .args .at) _ (start .pre .1 .0)) _ (c .before .before .before .number-width .ensures) (c .before .before .if1 .taken)) .aligned)
+    let at-context-of = c .before in
+    let at-if1 = at-context-of .before in
+    let at-number-width = at-if1 .before in
+    let start = at-number-width .before .before .before .before .before in
+    (inside-as (at-context-of .context-of .ensures) (start .pre .1 .2), start .pre .1 .3, start .pre .1 .0 .number _ _ (item-number (start .args .text .now) (start .args .shapes .now) (start .args .at) (item-within (start .args .text .now) (start .args .shapes .now) (start .args .at) _ (start .pre .1 .0)) _ (at-number-width .number-width .ensures) (at-if1 .if1 .taken)) .aligned)
 
 array·elements-same-length : (t : ℕ) → array·elements-lts.Need-same-length (array·elements-callees t) (array·elements-at t) array·elements.Post array·elements-Inv-loop array·elements-μ-loop
 array·elements-same-length t c = search needs
 
 array·elements-returns : (t : ℕ) → array·elements-lts.Need-returns (array·elements-callees t) (array·elements-at t) array·elements.Post array·elements-Inv-loop array·elements-μ-loop
 array·elements-returns t c =
-    let start = c .before .before .before .before .before .before .before .before .before .before .before in
-    plain-numbers _ _ _ _ (start .pre .1 .0 .number _ _ (item-number (start .args .text .now) (start .args .shapes .now) (start .args .at) (item-within (start .args .text .now) (start .args .shapes .now) (start .args .at) _ (start .pre .1 .0)) _ (c .before .before .before .before .before .before .number-width .ensures) (c .before .before .before .before .before .if1 .taken)))
+    let at-numbers = c .before .before in
+    let at-context-of = at-numbers .before .before in
+    let at-if1 = at-context-of .before in
+    let at-number-width = at-if1 .before in
+    let start = at-number-width .before .before .before .before .before in
+    plain-numbers _ _ _ _ (start .pre .1 .0 .number _ _ (item-number (start .args .text .now) (start .args .shapes .now) (start .args .at) (item-within (start .args .text .now) (start .args .shapes .now) (start .args .at) _ (start .pre .1 .0)) _ (at-number-width .number-width .ensures) (at-if1 .if1 .taken)))
     (contextOf (start .args .ride) .position) (contextOf (start .args .ride) .big)
     (contextOf (start .args .ride) .depths .variant) (depthsOf (contextOf (start .args .ride) .depths)) (start .args .place) (start .args .part .now)
-    (length (start .args .part .now)) (start .args .lead) _ _ _ _ _ _ (start .pre .1 .1) (numbers-as (c .before .before .before .before .context-of .ensures) _ _ (start .args .place) (start .args .part .now) (start .args .lead) (c .before .before .numbers .ensures))
+    (length (start .args .part .now)) (start .args .lead) _ _ _ _ _ _ (start .pre .1 .1) (numbers-as (at-context-of .context-of .ensures) _ _ (start .args .place) (start .args .part .now) (start .args .lead) (at-numbers .numbers .ensures))
 
 array·elements-loop-holds : (t : ℕ) → array·elements-lts.Need-loop-holds (array·elements-callees t) (array·elements-at t) array·elements.Post array·elements-Inv-loop array·elements-μ-loop
 array·elements-loop-holds t c =
@@ -105,15 +112,15 @@ array·elements-add-j t c =
 array·elements-entry-requires : (t : ℕ) → array·elements-lts.Need-entry-requires (array·elements-callees t) (array·elements-at t) array·elements.Post array·elements-Inv-loop array·elements-μ-loop
 array·elements-entry-requires t c κs =
     let at-if1 = c .before in
-    let at-loop = c .before .before .before in
-    let start = c .before .before .before .before .before .before .before .before .before .before in
+    let at-loop = at-if1 .before .before in
+    let start = at-loop .before .before .before .before .before .before .before in
     (omega (arith, start .pre .0), (repeated-as (start .args .text .now) (start .args .shapes .now) (start .args .at) (at-if1 .if2 .taken) (start .pre .1 .0), start .pre .1 .2, at-loop .loop .inv .bound, omega arith, omega arith, λ z. refl))
 
 array·elements-value-requires : (t : ℕ) → array·elements-lts.Need-value-requires (array·elements-callees t) (array·elements-at t) array·elements.Post array·elements-Inv-loop array·elements-μ-loop
 array·elements-value-requires t c κs =
     let at-if1 = c .before in
-    let at-loop = c .before .before .before in
-    let start = c .before .before .before .before .before .before .before .before .before .before in
+    let at-loop = at-if1 .before .before in
+    let start = at-loop .before .before .before .before .before .before .before in
     (omega (arith, start .pre .0), (repeated-as (start .args .text .now) (start .args .shapes .now) (start .args .at) (at-if1 .if2 .left) (start .pre .1 .0) .child, start .pre .1 .2, at-loop .loop .inv .bound))
 
 -- what one turn reads: an element, or an entry

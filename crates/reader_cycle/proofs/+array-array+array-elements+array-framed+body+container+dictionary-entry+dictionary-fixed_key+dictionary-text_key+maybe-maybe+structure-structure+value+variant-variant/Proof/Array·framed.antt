@@ -1,5 +1,4 @@
 -- The needs of `array·framed`, and what answers each.
-use Rattle.reader_cycle.proofs.Repeats.{fixed-as, item-held, item-text, item-within, repeated-as, step-element, step-entry}
 use Prim.Native.Nat.{_+_, _-_, ℕ}
 use Rattle.framing_offsets.specs.Tables.{tableIn}
 use Rattle.meaning.specs.Offsets.{endsOf}
@@ -7,6 +6,7 @@ use Rattle.reader_basic.proofs.Loops.{FramedLeft, ends-below, framed-begin, fra
 use Rattle.reader_basic.specs.Answers.{Between}
 use Rattle.reader_cycle.proofs.Deepening.{arrived, told}
 use Rattle.reader_cycle.proofs.ItemLaws.{held-numbers, held-texts}
+use Rattle.reader_cycle.proofs.Repeats.{fixed-as, item-held, item-text, item-within, repeated-as, step-element, step-entry}
 use Rattle.reader_cycle.proofs.Rides.{inside-as, readings-as}
 use Rattle.reader_cycle.specs.Places.{itemOf, stepIn}
 use Rattle.reader_cycle.specs.Rides.{contextOf}
@@ -80,23 +80,33 @@ array·framed-add-held t c =
     omega (arith, item-within (start .args .text .now) (start .args .shapes .now) (start .args .at) _ (start .pre .1 .0), start .pre .1 .0 .child .typed .short)
 
 array·framed-shared-slice-read-held : (t : ℕ) → array·framed-lts.Need-shared-slice-read-held (array·framed-callees t) (array·framed-at t) array·framed.Post array·framed-Inv-loop array·framed-μ-loop
-array·framed-shared-slice-read-held t c = omega (arith, c .before .before .held-width .ensures (c .before .if1 .taken) .within)
+array·framed-shared-slice-read-held t c =
+    let at-if1 = c .before in
+    let at-held-width = at-if1 .before in
+    omega (arith, at-held-width .held-width .ensures (at-if1 .if1 .taken) .within)
 
 array·framed-context-of-requires : (t : ℕ) → array·framed-lts.Need-context-of-requires (array·framed-callees t) (array·framed-at t) array·framed.Post array·framed-Inv-loop array·framed-μ-loop
 array·framed-context-of-requires t c κs = search needs
 
 array·framed-readings-requires : (t : ℕ) → array·framed-lts.Need-readings-requires (array·framed-callees t) (array·framed-at t) array·framed.Post array·framed-Inv-loop array·framed-μ-loop
 array·framed-readings-requires t c κs =
-    let start = c .before .before .before .before .before .before .before .before in
-    (inside-as (c .before .context-of .ensures) (start .pre .1 .2), record { begins = start .pre .1 .3; stands = start .pre .1 .4 }, start .pre .1 .0 .number _ _ (item-held (start .args .text .now) (start .args .shapes .now) (start .args .at) (item-within (start .args .text .now) (start .args .shapes .now) (start .args .at) _ (start .pre .1 .0)) _ (c .before .before .before .before .held-width .ensures (c .before .before .before .if1 .taken))) .aligned)
+    let at-context-of = c .before in
+    let at-if1 = at-context-of .before .before in
+    let at-held-width = at-if1 .before in
+    let start = at-held-width .before .before .before .before in
+    (inside-as (at-context-of .context-of .ensures) (start .pre .1 .2), record { begins = start .pre .1 .3; stands = start .pre .1 .4 }, start .pre .1 .0 .number _ _ (item-held (start .args .text .now) (start .args .shapes .now) (start .args .at) (item-within (start .args .text .now) (start .args .shapes .now) (start .args .at) _ (start .pre .1 .0)) _ (at-held-width .held-width .ensures (at-if1 .if1 .taken))) .aligned)
 
 array·framed-same-length : (t : ℕ) → array·framed-lts.Need-same-length (array·framed-callees t) (array·framed-at t) array·framed.Post array·framed-Inv-loop array·framed-μ-loop
 array·framed-same-length t c = search needs
 
 array·framed-returns : (t : ℕ) → array·framed-lts.Need-returns (array·framed-callees t) (array·framed-at t) array·framed.Post array·framed-Inv-loop array·framed-μ-loop
 array·framed-returns t c =
-    let start = c .before .before .before .before .before .before .before .before .before .before .before in
-    held-numbers _ _ _ _ (start .pre .1 .0 .number _ _ (item-held (start .args .text .now) (start .args .shapes .now) (start .args .at) (item-within (start .args .text .now) (start .args .shapes .now) (start .args .at) _ (start .pre .1 .0)) _ (c .before .before .before .before .before .before .before .held-width .ensures (c .before .before .before .before .before .before .if1 .taken)))) _ _ _ _ _ _ _ _ _ _ _ _ _ _ _ _ (start .pre .1 .1) (readings-as (c .before .before .before .before .context-of .ensures) _ _ _ _ _ _ (start .args .offsets) (c .before .before .readings .ensures))
+    let at-readings = c .before .before in
+    let at-context-of = at-readings .before .before in
+    let at-if1 = at-context-of .before .before in
+    let at-held-width = at-if1 .before in
+    let start = at-held-width .before .before .before .before in
+    held-numbers _ _ _ _ (start .pre .1 .0 .number _ _ (item-held (start .args .text .now) (start .args .shapes .now) (start .args .at) (item-within (start .args .text .now) (start .args .shapes .now) (start .args .at) _ (start .pre .1 .0)) _ (at-held-width .held-width .ensures (at-if1 .if1 .taken)))) _ _ _ _ _ _ _ _ _ _ _ _ _ _ _ _ (start .pre .1 .1) (readings-as (at-context-of .context-of .ensures) _ _ _ _ _ _ (start .args .offsets) (at-readings .readings .ensures))
 
 array·framed-shared-slice-read-code : (t : ℕ) → array·framed-lts.Need-shared-slice-read-code (array·framed-callees t) (array·framed-at t) array·framed.Post array·framed-Inv-loop array·framed-μ-loop
 array·framed-shared-slice-read-code t c =
@@ -116,10 +126,13 @@ array·framed-same-length-2 t c = search needs
 
 array·framed-returns-2 : (t : ℕ) → array·framed-lts.Need-returns-2 (array·framed-callees t) (array·framed-at t) array·framed.Post array·framed-Inv-loop array·framed-μ-loop
 array·framed-returns-2 t c =
-    let start = c .before .before .before .before .before .before .before .before .before .before .before .before in
+    let at-texts = c .before .before in
+    let at-if2 = at-texts .before .before in
+    let at-is-text = at-if2 .before in
+    let start = at-is-text .before .before .before .before .before .before .before in
     held-texts (contextOf (start .args .ride)) (start .args .text .now) (start .args .shapes .now) (itemOf (start .args .text .now) (start .args .shapes .now) (start .args .at)) _ (start .pre .1 .0)
-    (item-text (start .args .text .now) (start .args .shapes .now) (start .args .at) (item-within (start .args .text .now) (start .args .shapes .now) (start .args .at) _ (start .pre .1 .0)) (sym (c .before .before .before .before .if2 .taken) ∙ c .before .before .before .before .before .is-text .ensures)) (start .args .offsets) (start .args .place) (start .args .part .now)
-    (start .args .lead) _ _ _ _ _ _ (c .before .before .texts .ensures)
+    (item-text (start .args .text .now) (start .args .shapes .now) (start .args .at) (item-within (start .args .text .now) (start .args .shapes .now) (start .args .at) _ (start .pre .1 .0)) (sym (at-if2 .if2 .taken) ∙ at-is-text .is-text .ensures)) (start .args .offsets) (start .args .place) (start .args .part .now)
+    (start .args .lead) _ _ _ _ _ _ (at-texts .texts .ensures)
 
 array·framed-sub-table : (t : ℕ) → array·framed-lts.Need-sub-table (array·framed-callees t) (array·framed-at t) array·framed.Post array·framed-Inv-loop array·framed-μ-loop
 array·framed-sub-table t c = omega arith

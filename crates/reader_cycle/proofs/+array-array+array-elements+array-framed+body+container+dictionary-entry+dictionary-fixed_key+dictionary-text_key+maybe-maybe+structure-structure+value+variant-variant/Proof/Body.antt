@@ -1,6 +1,6 @@
 -- The needs of `body`, and what answers each.
-use Rattle.reader_cycle.proofs.Characters.{at-array, at-maybe, at-structure, at-variant, typed-within, variant-else}
 use Prim.Native.Nat.{ℕ}
+use Rattle.reader_cycle.proofs.Characters.{code-array, code-maybe, code-structure, code-variant, typed-within, variant-else}
 use Rattle.reader_cycle.proofs.Readers.{body-variant, reads-variant}
 use borrow.Author.Needs.{needs}
 use native.Mathlib.Omega.{arith}
@@ -33,18 +33,21 @@ body-shared-slice-read-code t c =
 
 body-maybe-requires : (t : ℕ) → body-lts.Need-maybe-requires (body-callees t) (body-at t) body.Post
 body-maybe-requires t c κs =
-    let start = c .before .before .before .before .before .before in
-    (omega (arith, start .pre .0), (start .pre .1 .0, at-maybe _ _ (typed-within (start .pre .1 .0 .typed)) (c .before .match .keys1), start .pre .1 .1, start .pre .1 .3))
+    let at-match = c .before in
+    let start = at-match .before .before .before .before .before in
+    (omega (arith, start .pre .0), (start .pre .1 .0, code-maybe _ _ (typed-within (start .pre .1 .0 .typed)) (at-match .match .keys1), start .pre .1 .1, start .pre .1 .3))
 
 body-array-requires : (t : ℕ) → body-lts.Need-array-requires (body-callees t) (body-at t) body.Post
 body-array-requires t c κs =
-    let start = c .before .before .before .before .before .before in
-    (omega (arith, start .pre .0), (start .pre .1 .0, at-array _ _ (typed-within (start .pre .1 .0 .typed)) (c .before .match .keys2), start .pre .1 .1, start .pre .1 .3))
+    let at-match = c .before in
+    let start = at-match .before .before .before .before .before in
+    (omega (arith, start .pre .0), (start .pre .1 .0, code-array _ _ (typed-within (start .pre .1 .0 .typed)) (at-match .match .keys2), start .pre .1 .1, start .pre .1 .3))
 
 body-structure-requires : (t : ℕ) → body-lts.Need-structure-requires (body-callees t) (body-at t) body.Post
 body-structure-requires t c κs =
-    let start = c .before .before .before .before .before .before in
-    (omega (arith, start .pre .0), (start .pre .1 .0, at-structure _ _ (typed-within (start .pre .1 .0 .typed)) (c .before .match .keys3), start .pre .1 .1, start .pre .1 .3))
+    let at-match = c .before in
+    let start = at-match .before .before .before .before .before in
+    (omega (arith, start .pre .0), (start .pre .1 .0, code-structure _ _ (typed-within (start .pre .1 .0 .typed)) (at-match .match .keys3), start .pre .1 .1, start .pre .1 .3))
 
 body-variant-requires : (t : ℕ) → body-lts.Need-variant-requires (body-callees t) (body-at t) body.Post
 body-variant-requires t c κs =
@@ -79,17 +82,21 @@ body-same-length-4 t c = search needs
 
 body-returns-4 : (t : ℕ) → body-lts.Need-returns-4 (body-callees t) (body-at t) body.Post
 body-returns-4 t c =
-    let start = c .before .before .before .before .before .before .before .before .before in
-    body-variant (start .args .text .now) (start .args .at) _ _ _ _ _ _ _ _ _ _ _ _ (reads-variant _ _ (start .pre .1 .0 .typed) (at-variant _ _ (typed-within (start .pre .1 .0 .typed)) (c .before .before .before .before .match .keys4))) (c .before .before .variant .ensures)
+    let at-variant = c .before .before in
+    let at-match = at-variant .before .before in
+    let start = at-match .before .before .before .before .before in
+    body-variant (start .args .text .now) (start .args .at) _ _ _ _ _ _ _ _ _ _ _ _ (reads-variant _ _ (start .pre .1 .0 .typed) (code-variant _ _ (typed-within (start .pre .1 .0 .typed)) (at-match .match .keys4))) (at-variant .variant .ensures)
 
 body-same-length-5 : (t : ℕ) → body-lts.Need-same-length-5 (body-callees t) (body-at t) body.Post
 body-same-length-5 t c = search needs
 
 body-returns-5 : (t : ℕ) → body-lts.Need-returns-5 (body-callees t) (body-at t) body.Post
 body-returns-5 t c =
-    let start = c .before .before .before .before .before .before .before .before .before in
-    let rest = c .before .before .before .before .match .rest in
-    body-variant (start .args .text .now) (start .args .at) _ _ _ _ _ _ _ _ _ _ _ _ (variant-else (start .pre .1 .0 .typed) (start .pre .1 .2) (rest .0 .0 .0 .1) (rest .0 .0 .1) (rest .0 .1)) (c .before .before .variant2 .ensures)
+    let at-variant2 = c .before .before in
+    let at-match = at-variant2 .before .before in
+    let start = at-match .before .before .before .before .before in
+    let rest = at-match .match .rest in
+    body-variant (start .args .text .now) (start .args .at) _ _ _ _ _ _ _ _ _ _ _ _ (variant-else (start .pre .1 .0 .typed) (start .pre .1 .2) (rest .0 .0 .0 .1) (rest .0 .0 .1) (rest .0 .1)) (at-variant2 .variant2 .ensures)
 
 pub body-spec : {M : Type 1} (t : ℕ) → body-lts.Closed (body-callees t) (body-at t) body.Post M
 body-spec t =

@@ -1,6 +1,6 @@
 -- The needs of `container`, and what answers each.
-use Rattle.reader_cycle.proofs.Characters.{typed-within}
 use Prim.Native.Nat.{ℕ}
+use Rattle.reader_cycle.proofs.Characters.{typed-within}
 use Rattle.reader_cycle.proofs.Deepening.{told}
 use Rattle.reader_cycle.proofs.Readers.{container-on, container-stop, lead-fits}
 use Rattle.signature.proofs.TreeLaws.{described-aligned}
@@ -50,26 +50,34 @@ container-refused-requires t c κs = search needs
 
 container-returns : (t : ℕ) → container-lts.Need-returns (container-callees t) (container-at t) container.Post
 container-returns t c =
-    let start = c .before .before .before .before .before .before .before in
-    told (c .refused .ensures) (container-stop _ _ _ _ _ _ _ _ _ _ _ (start .pre .1 .0) (start .pre .1 .1) (start .pre .1 .2) (c .before .before .padded .ensures) (c .before .if1 .taken))
+    let at-if1 = c .before in
+    let at-padded = at-if1 .before in
+    let start = at-padded .before .before .before .before .before in
+    told (c .refused .ensures) (container-stop _ _ _ _ _ _ _ _ _ _ _ (start .pre .1 .0) (start .pre .1 .1) (start .pre .1 .2) (at-padded .padded .ensures) (at-if1 .if1 .taken))
 
 container-body-requires : (t : ℕ) → container-lts.Need-body-requires (container-callees t) (container-at t) container.Post
 container-body-requires t c κs =
-    let start = c .before .before .before .before .before .before .before in
-    (omega (arith, start .pre .0), (start .pre .1 .0, start .pre .1 .1, start .pre .1 .2, lead-fits _ _ _ _ _ _ false _ 0 [] _ (start .pre .1 .0) (start .pre .1 .1) (start .pre .1 .2) (c .before .before .padded .ensures)))
+    let at-padded = c .before .before in
+    let start = at-padded .before .before .before .before .before in
+    (omega (arith, start .pre .0), (start .pre .1 .0, start .pre .1 .1, start .pre .1 .2, lead-fits _ _ _ _ _ _ false _ 0 [] _ (start .pre .1 .0) (start .pre .1 .1) (start .pre .1 .2) (at-padded .padded .ensures)))
 
 container-behind-requires : (t : ℕ) → container-lts.Need-behind-requires (container-callees t) (container-at t) container.Post
 container-behind-requires t c κs =
-    let start = c .before .before .before .before .before .before .before .before .before .before in
-    omega (arith, lead-fits _ _ _ _ _ _ false _ 0 [] _ (start .pre .1 .0) (start .pre .1 .1) (start .pre .1 .2) (c .before .before .before .before .before .padded .ensures), c .before .before .body .ensures .fits, start .pre .1 .1 .in-frame)
+    let at-body = c .before .before in
+    let at-padded = at-body .before .before .before in
+    let start = at-padded .before .before .before .before .before in
+    omega (arith, lead-fits _ _ _ _ _ _ false _ 0 [] _ (start .pre .1 .0) (start .pre .1 .1) (start .pre .1 .2) (at-padded .padded .ensures), at-body .body .ensures .fits, start .pre .1 .1 .in-frame)
 
 container-same-length : (t : ℕ) → container-lts.Need-same-length (container-callees t) (container-at t) container.Post
 container-same-length t c = search needs
 
 container-returns-2 : (t : ℕ) → container-lts.Need-returns-2 (container-callees t) (container-at t) container.Post
 container-returns-2 t c =
-    let start = c .before .before .before .before .before .before .before .before .before .before .before in
-    told (c .behind .ensures) (container-on _ _ _ _ _ _ _ _ _ _ _ (start .pre .1 .0) (start .pre .1 .1) (start .pre .1 .2) (c .before .before .before .before .before .before .padded .ensures) _ _ (c .before .before .before .before .before .if1 .left) (c .before .before .before .body .ensures))
+    let at-body = c .before .before .before in
+    let at-if1 = at-body .before .before in
+    let at-padded = at-if1 .before in
+    let start = at-padded .before .before .before .before .before in
+    told (c .behind .ensures) (container-on _ _ _ _ _ _ _ _ _ _ _ (start .pre .1 .0) (start .pre .1 .1) (start .pre .1 .2) (at-padded .padded .ensures) _ _ (at-if1 .if1 .left) (at-body .body .ensures))
 
 pub container-spec : {M : Type 1} (t : ℕ) → container-lts.Closed (container-callees t) (container-at t) container.Post M
 container-spec t =

@@ -1,12 +1,12 @@
 -- The needs of `dictionary·fixed_key`, and what answers each.
-use Rattle.reader_cycle.proofs.Characters.{key-read, part-fits}
-use Rattle.reader_cycle.proofs.Repeats.{and-second, value-within}
-use Rattle.reader_basic.proofs.Leaves.{child-before}
-use Rattle.reader_cycle.proofs.Readers.{within-child}
 use Prim.Native.Nat.{_+_, ℕ}
 use Rattle.container_depths.specs.Opening.{depthsOf}
+use Rattle.reader_basic.proofs.Leaves.{child-before}
+use Rattle.reader_cycle.proofs.Characters.{key-read, part-fits}
 use Rattle.reader_cycle.proofs.Deepening.{told}
 use Rattle.reader_cycle.proofs.Entries.{fixed-key-padded, fixed-key-stop, fixed-key-value}
+use Rattle.reader_cycle.proofs.Readers.{within-child}
+use Rattle.reader_cycle.proofs.Repeats.{and-second, value-within}
 use Rattle.reader_cycle.specs.Rides.{contextOf}
 use borrow.Author.Needs.{needs}
 use mathlib.Core.Path.{refl}
@@ -58,13 +58,15 @@ dictionary·fixed-key-shared-slice-read-leaf t c =
 
 dictionary·fixed-key-part-leaf-start : (t : ℕ) → dictionary·fixed-key-lts.Need-part-leaf-start (dictionary·fixed-key-callees t) (dictionary·fixed-key-at t) dictionary·fixed-key.Post
 dictionary·fixed-key-part-leaf-start t c =
-    let start = c .before .before .before .before .before in
-    omega (arith, c .before .if1 .left, start .pre .1 .3)
+    let at-if1 = c .before in
+    let start = at-if1 .before .before .before .before in
+    omega (arith, at-if1 .if1 .left, start .pre .1 .3)
 
 dictionary·fixed-key-part-leaf-end : (t : ℕ) → dictionary·fixed-key-lts.Need-part-leaf-end (dictionary·fixed-key-callees t) (dictionary·fixed-key-at t) dictionary·fixed-key.Post
 dictionary·fixed-key-part-leaf-end t c =
-    let start = c .before .before .before .before .before in
-    omega (arith, c .before .if1 .left, start .pre .1 .3)
+    let at-if1 = c .before in
+    let start = at-if1 .before .before .before .before in
+    omega (arith, at-if1 .if1 .left, start .pre .1 .3)
 
 dictionary·fixed-key-add-leaf-2 : (t : ℕ) → dictionary·fixed-key-lts.Need-add-leaf-2 (dictionary·fixed-key-callees t) (dictionary·fixed-key-at t) dictionary·fixed-key.Post
 dictionary·fixed-key-add-leaf-2 t c =
@@ -73,17 +75,20 @@ dictionary·fixed-key-add-leaf-2 t c =
 
 dictionary·fixed-key-leaf-requires : (t : ℕ) → dictionary·fixed-key-lts.Need-leaf-requires (dictionary·fixed-key-callees t) (dictionary·fixed-key-at t) dictionary·fixed-key.Post
 dictionary·fixed-key-leaf-requires t c κs =
-    let start = c .before .before .before .before .before .before .before in
-    within-child _ _ _ (start .pre .1 .1) (c .before .before .before .if1 .left) (start .pre .1 .3)
+    let at-if1 = c .before .before .before in
+    let start = at-if1 .before .before .before .before in
+    within-child _ _ _ (start .pre .1 .1) (at-if1 .if1 .left) (start .pre .1 .3)
 
 dictionary·fixed-key-same-length : (t : ℕ) → dictionary·fixed-key-lts.Need-same-length (dictionary·fixed-key-callees t) (dictionary·fixed-key-at t) dictionary·fixed-key.Post
 dictionary·fixed-key-same-length t c = search needs
 
 dictionary·fixed-key-returns-2 : (t : ℕ) → dictionary·fixed-key-lts.Need-returns-2 (dictionary·fixed-key-callees t) (dictionary·fixed-key-at t) dictionary·fixed-key.Post
 dictionary·fixed-key-returns-2 t c =
-    let start = c .before .before .before .before .before .before .before .before .before .before .before in
+    let at-leaf = c .before .before .before in
+    let at-if1 = at-leaf .before .before .before .before in
+    let start = at-if1 .before .before .before .before in
     let key = key-read (start .args .text .now) (start .args .at + 2) (omega (arith, value-within (start .args .text .now) (start .args .shapes .now) (start .args .at) (start .pre .1 .0))) (contextOf (start .args .ride) .position) (contextOf (start .args .ride) .big)
-    (start .args .place) (start .args .part .now) (start .args .j) (start .args .e) _ _ _ _ (c .before .before .before .before .before .before .before .if1 .left) (start .pre .1 .3) (c .before .before .before .leaf .ensures) (depthsOf (contextOf (start .args .ride) .depths)) in
+    (start .args .place) (start .args .part .now) (start .args .j) (start .args .e) _ _ _ _ (at-if1 .if1 .left) (start .pre .1 .3) (at-leaf .leaf .ensures) (depthsOf (contextOf (start .args .ride) .depths)) in
     λ b. fixed-key-stop _ _ _ _ _ _ _ _ b _ _ _ _ _ _ key (c .if2 .taken)
 
 dictionary·fixed-key-add-from : (t : ℕ) → dictionary·fixed-key-lts.Need-add-from (dictionary·fixed-key-callees t) (dictionary·fixed-key-at t) dictionary·fixed-key.Post
@@ -133,8 +138,10 @@ dictionary·fixed-key-element-copy-out-end-padded t c =
 
 dictionary·fixed-key-end-padded-requires : (t : ℕ) → dictionary·fixed-key-lts.Need-end-padded-requires (dictionary·fixed-key-callees t) (dictionary·fixed-key-at t) dictionary·fixed-key.Post
 dictionary·fixed-key-end-padded-requires t c κs =
-    let start = c .before .before .before .before .before .before .before .before .before .before .before .before .before .before .before .before .before .before .before in
-    (start .pre .1 .1 .in-frame, start .pre .1 .1 .near, omega (arith, part-fits (start .args .part .now) (start .args .j) (start .args .e) (c .before .before .before .before .before .before .before .before .before .before .before .leaf .ensures (depthsOf (contextOf (start .args .ride) .depths)) .fits), c .before .before .before .before .before .before .value .ensures .fits, start .pre .1 .2), start .pre .1 .0 .aligned)
+    let at-value = c .before .before .before .before .before .before in
+    let at-leaf = at-value .before .before .before .before .before in
+    let start = at-leaf .before .before .before .before .before .before .before .before in
+    (start .pre .1 .1 .in-frame, start .pre .1 .1 .near, omega (arith, part-fits (start .args .part .now) (start .args .j) (start .args .e) (at-leaf .leaf .ensures (depthsOf (contextOf (start .args .ride) .depths)) .fits), at-value .value .ensures .fits, start .pre .1 .2), start .pre .1 .0 .aligned)
 
 dictionary·fixed-key-behind-requires : (t : ℕ) → dictionary·fixed-key-lts.Need-behind-requires (dictionary·fixed-key-callees t) (dictionary·fixed-key-at t) dictionary·fixed-key.Post
 dictionary·fixed-key-behind-requires t c κs =
@@ -148,10 +155,17 @@ dictionary·fixed-key-same-length-2 t c = search needs
 
 dictionary·fixed-key-returns-3 : (t : ℕ) → dictionary·fixed-key-lts.Need-returns-3 (dictionary·fixed-key-callees t) (dictionary·fixed-key-at t) dictionary·fixed-key.Post
 dictionary·fixed-key-returns-3 t c =
-    let start = c .before .before .before .before .before .before .before .before .before .before .before .before .before .before .before .before .before .before .before .before .before in
+    let at-end-padded = c .before in
+    let at-if3 = at-end-padded .before .before in
+    let at-fixed-of = at-if3 .before in
+    let at-value = at-fixed-of .before .before .before .before in
+    let at-if2 = at-value .before .before in
+    let at-leaf = at-if2 .before .before .before in
+    let at-if1 = at-leaf .before .before .before .before in
+    let start = at-if1 .before .before .before .before in
     let key = key-read (start .args .text .now) (start .args .at + 2) (omega (arith, value-within (start .args .text .now) (start .args .shapes .now) (start .args .at) (start .pre .1 .0))) (contextOf (start .args .ride) .position) (contextOf (start .args .ride) .big)
-    (start .args .place) (start .args .part .now) (start .args .j) (start .args .e) _ _ _ _ (c .before .before .before .before .before .before .before .before .before .before .before .before .before .before .before .before .before .if1 .left) (start .pre .1 .3) (c .before .before .before .before .before .before .before .before .before .before .before .before .before .leaf .ensures) (depthsOf (contextOf (start .args .ride) .depths)) in
-    λ b. told (c .behind .ensures) (fixed-key-padded _ _ _ _ _ _ _ _ b _ _ _ _ _ _ key (c .before .before .before .before .before .before .before .before .before .before .if2 .left) _ _ (c .before .before .before .before .before .before .before .before .value .ensures) _ (and-second (start .pre .1 .5) (c .before .before .before .before .fixed-of .ensures) (c .before .before .before .if3 .taken)) (start .pre .1 .4 (and-second (start .pre .1 .5) (c .before .before .before .before .fixed-of .ensures) (c .before .before .before .if3 .taken))) (c .before .end-padded .ensures))
+    (start .args .place) (start .args .part .now) (start .args .j) (start .args .e) _ _ _ _ (at-if1 .if1 .left) (start .pre .1 .3) (at-leaf .leaf .ensures) (depthsOf (contextOf (start .args .ride) .depths)) in
+    λ b. told (c .behind .ensures) (fixed-key-padded _ _ _ _ _ _ _ _ b _ _ _ _ _ _ key (at-if2 .if2 .left) _ _ (at-value .value .ensures) _ (and-second (start .pre .1 .5) (at-fixed-of .fixed-of .ensures) (at-if3 .if3 .taken)) (start .pre .1 .4 (and-second (start .pre .1 .5) (at-fixed-of .fixed-of .ensures) (at-if3 .if3 .taken))) (at-end-padded .end-padded .ensures))
 
 dictionary·fixed-key-behind-requires-2 : (t : ℕ) → dictionary·fixed-key-lts.Need-behind-requires-2 (dictionary·fixed-key-callees t) (dictionary·fixed-key-at t) dictionary·fixed-key.Post
 dictionary·fixed-key-behind-requires-2 t c κs =
@@ -165,10 +179,16 @@ dictionary·fixed-key-same-length-3 t c = search needs
 
 dictionary·fixed-key-returns-4 : (t : ℕ) → dictionary·fixed-key-lts.Need-returns-4 (dictionary·fixed-key-callees t) (dictionary·fixed-key-at t) dictionary·fixed-key.Post
 dictionary·fixed-key-returns-4 t c =
-    let start = c .before .before .before .before .before .before .before .before .before .before .before .before .before .before .before .before .before .before .before in
+    let at-if3 = c .before in
+    let at-fixed-of = at-if3 .before in
+    let at-value = at-fixed-of .before .before .before .before in
+    let at-if2 = at-value .before .before in
+    let at-leaf = at-if2 .before .before .before in
+    let at-if1 = at-leaf .before .before .before .before in
+    let start = at-if1 .before .before .before .before in
     let key = key-read (start .args .text .now) (start .args .at + 2) (omega (arith, value-within (start .args .text .now) (start .args .shapes .now) (start .args .at) (start .pre .1 .0))) (contextOf (start .args .ride) .position) (contextOf (start .args .ride) .big)
-    (start .args .place) (start .args .part .now) (start .args .j) (start .args .e) _ _ _ _ (c .before .before .before .before .before .before .before .before .before .before .before .before .before .before .before .if1 .left) (start .pre .1 .3) (c .before .before .before .before .before .before .before .before .before .before .before .leaf .ensures) (depthsOf (contextOf (start .args .ride) .depths)) in
-    λ b. told (c .behind2 .ensures) (fixed-key-value _ _ _ _ _ _ _ _ b _ _ _ _ _ _ key (c .before .before .before .before .before .before .before .before .if2 .left) _ _ (c .before .before .before .before .before .before .value .ensures) (and-second (start .pre .1 .5) (c .before .before .fixed-of .ensures) (c .before .if3 .left)))
+    (start .args .place) (start .args .part .now) (start .args .j) (start .args .e) _ _ _ _ (at-if1 .if1 .left) (start .pre .1 .3) (at-leaf .leaf .ensures) (depthsOf (contextOf (start .args .ride) .depths)) in
+    λ b. told (c .behind2 .ensures) (fixed-key-value _ _ _ _ _ _ _ _ b _ _ _ _ _ _ key (at-if2 .if2 .left) _ _ (at-value .value .ensures) (and-second (start .pre .1 .5) (at-fixed-of .fixed-of .ensures) (at-if3 .if3 .left)))
 
 pub dictionary·fixed-key-spec : {M : Type 1} (t : ℕ) → dictionary·fixed-key-lts.Closed (dictionary·fixed-key-callees t) (dictionary·fixed-key-at t) dictionary·fixed-key.Post M
 dictionary·fixed-key-spec t =

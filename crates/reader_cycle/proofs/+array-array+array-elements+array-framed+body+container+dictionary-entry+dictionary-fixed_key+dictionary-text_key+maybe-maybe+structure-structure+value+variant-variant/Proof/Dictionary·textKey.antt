@@ -1,11 +1,11 @@
 -- The needs of `dictionary·text_key`, and what answers each.
-use Rattle.reader_cycle.proofs.Characters.{key-read, part-fits}
-use Rattle.reader_cycle.proofs.Repeats.{value-within}
-use Rattle.reader_cycle.proofs.Readers.{within-child}
 use Prim.Native.Nat.{_+_, _-_, ℕ}
 use Rattle.container_depths.specs.Opening.{depthsOf}
+use Rattle.reader_cycle.proofs.Characters.{key-read, part-fits}
 use Rattle.reader_cycle.proofs.Deepening.{told}
 use Rattle.reader_cycle.proofs.Entries.{key-there, text-key-missing, text-key-narrow, text-key-stop, text-key-value}
+use Rattle.reader_cycle.proofs.Readers.{within-child}
+use Rattle.reader_cycle.proofs.Repeats.{value-within}
 use Rattle.reader_cycle.proofs.Structures.{width-small}
 use Rattle.reader_cycle.specs.Rides.{contextOf}
 use borrow.Author.Needs.{needs}
@@ -64,17 +64,24 @@ dictionary·text-key-shared-slice-read-leaf t c =
     omega (arith, value-within (start .args .text .now) (start .args .shapes .now) (start .args .at) (start .pre .1 .0))
 
 dictionary·text-key-sub-leaf : (t : ℕ) → dictionary·text-key-lts.Need-sub-leaf (dictionary·text-key-callees t) (dictionary·text-key-at t) dictionary·text-key.Post
-dictionary·text-key-sub-leaf t c = omega (arith, (key-there _ _ _ _ _ (c .before .before .key-ends .ensures) (c .before .if1 .left)) .end)
+dictionary·text-key-sub-leaf t c =
+    let at-if1 = c .before in
+    let at-key-ends = at-if1 .before in
+    omega (arith, (key-there _ _ _ _ _ (at-key-ends .key-ends .ensures) (at-if1 .if1 .left)) .end)
 
 dictionary·text-key-part-leaf-start : (t : ℕ) → dictionary·text-key-lts.Need-part-leaf-start (dictionary·text-key-callees t) (dictionary·text-key-at t) dictionary·text-key.Post
 dictionary·text-key-part-leaf-start t c =
-    let start = c .before .before .before .before .before .before in
-    omega (arith, (key-there _ _ _ _ _ (c .before .before .key-ends .ensures) (c .before .if1 .left)) .end, (key-there _ _ _ _ _ (c .before .before .key-ends .ensures) (c .before .if1 .left)) .within, start .pre .1 .4)
+    let at-if1 = c .before in
+    let at-key-ends = at-if1 .before in
+    let start = at-key-ends .before .before .before .before in
+    omega (arith, (key-there _ _ _ _ _ (at-key-ends .key-ends .ensures) (at-if1 .if1 .left)) .end, (key-there _ _ _ _ _ (at-key-ends .key-ends .ensures) (at-if1 .if1 .left)) .within, start .pre .1 .4)
 
 dictionary·text-key-part-leaf-end : (t : ℕ) → dictionary·text-key-lts.Need-part-leaf-end (dictionary·text-key-callees t) (dictionary·text-key-at t) dictionary·text-key.Post
 dictionary·text-key-part-leaf-end t c =
-    let start = c .before .before .before .before .before .before in
-    omega (arith, (key-there _ _ _ _ _ (c .before .before .key-ends .ensures) (c .before .if1 .left)) .end, (key-there _ _ _ _ _ (c .before .before .key-ends .ensures) (c .before .if1 .left)) .within, start .pre .1 .4)
+    let at-if1 = c .before in
+    let at-key-ends = at-if1 .before in
+    let start = at-key-ends .before .before .before .before in
+    omega (arith, (key-there _ _ _ _ _ (at-key-ends .key-ends .ensures) (at-if1 .if1 .left)) .end, (key-there _ _ _ _ _ (at-key-ends .key-ends .ensures) (at-if1 .if1 .left)) .within, start .pre .1 .4)
 
 dictionary·text-key-add-leaf-2 : (t : ℕ) → dictionary·text-key-lts.Need-add-leaf-2 (dictionary·text-key-callees t) (dictionary·text-key-at t) dictionary·text-key.Post
 dictionary·text-key-add-leaf-2 t c =
@@ -83,24 +90,30 @@ dictionary·text-key-add-leaf-2 t c =
 
 dictionary·text-key-leaf-requires : (t : ℕ) → dictionary·text-key-lts.Need-leaf-requires (dictionary·text-key-callees t) (dictionary·text-key-at t) dictionary·text-key.Post
 dictionary·text-key-leaf-requires t c κs =
-    let start = c .before .before .before .before .before .before .before .before in
-    within-child (start .args .part .now) (start .args .j) (c .before .before .before .before .key-ends .result .child) (start .pre .1 .1) (omega (arith, (key-there _ _ _ _ _ (c .before .before .before .before .key-ends .ensures) (c .before .before .before .if1 .left)) .end)) (omega (arith, (key-there _ _ _ _ _ (c .before .before .before .before .key-ends .ensures) (c .before .before .before .if1 .left)) .within, start .pre .1 .4))
+    let at-if1 = c .before .before .before in
+    let at-key-ends = at-if1 .before in
+    let start = at-key-ends .before .before .before .before in
+    within-child (start .args .part .now) (start .args .j) (at-key-ends .key-ends .result .child) (start .pre .1 .1) (omega (arith, (key-there _ _ _ _ _ (at-key-ends .key-ends .ensures) (at-if1 .if1 .left)) .end)) (omega (arith, (key-there _ _ _ _ _ (at-key-ends .key-ends .ensures) (at-if1 .if1 .left)) .within, start .pre .1 .4))
 
 dictionary·text-key-same-length : (t : ℕ) → dictionary·text-key-lts.Need-same-length (dictionary·text-key-callees t) (dictionary·text-key-at t) dictionary·text-key.Post
 dictionary·text-key-same-length t c = search needs
 
 dictionary·text-key-returns-2 : (t : ℕ) → dictionary·text-key-lts.Need-returns-2 (dictionary·text-key-callees t) (dictionary·text-key-at t) dictionary·text-key.Post
 dictionary·text-key-returns-2 t c =
-    let start = c .before .before .before .before .before .before .before .before .before .before .before .before in
+    let at-leaf = c .before .before .before in
+    let at-if1 = at-leaf .before .before .before .before in
+    let at-key-ends = at-if1 .before in
+    let start = at-key-ends .before .before .before .before in
     let key = key-read (start .args .text .now) (start .args .at + 2) (omega (arith, value-within (start .args .text .now) (start .args .shapes .now) (start .args .at) (start .pre .1 .0))) (contextOf (start .args .ride) .position) (contextOf (start .args .ride) .big)
-    (start .args .place) (start .args .part .now) (start .args .j) (c .before .before .before .before .before .before .before .before .key-ends .result .child) _ _ _ _ (omega (arith, (key-there _ _ _ _ _ (c .before .before .before .before .before .before .before .before .key-ends .ensures) (c .before .before .before .before .before .before .before .if1 .left)) .end)) (omega (arith, (key-there _ _ _ _ _ (c .before .before .before .before .before .before .before .before .key-ends .ensures) (c .before .before .before .before .before .before .before .if1 .left)) .within, start .pre .1 .4)) (c .before .before .before .leaf .ensures) (depthsOf (contextOf (start .args .ride) .depths)) in
-    text-key-stop _ _ _ _ _ _ _ (key-there _ _ _ _ _ (c .before .before .before .before .before .before .before .before .key-ends .ensures) (c .before .before .before .before .before .before .before .if1 .left)) _ _ (start .pre .1 .3) (start .pre .1 .4) _ _ key (c .if2 .taken)
+    (start .args .place) (start .args .part .now) (start .args .j) (at-key-ends .key-ends .result .child) _ _ _ _ (omega (arith, (key-there _ _ _ _ _ (at-key-ends .key-ends .ensures) (at-if1 .if1 .left)) .end)) (omega (arith, (key-there _ _ _ _ _ (at-key-ends .key-ends .ensures) (at-if1 .if1 .left)) .within, start .pre .1 .4)) (at-leaf .leaf .ensures) (depthsOf (contextOf (start .args .ride) .depths)) in
+    text-key-stop _ _ _ _ _ _ _ (key-there _ _ _ _ _ (at-key-ends .key-ends .ensures) (at-if1 .if1 .left)) _ _ (start .pre .1 .3) (start .pre .1 .4) _ _ key (c .if2 .taken)
 
 dictionary·text-key-add-from : (t : ℕ) → dictionary·text-key-lts.Need-add-from (dictionary·text-key-callees t) (dictionary·text-key-at t) dictionary·text-key.Post
 dictionary·text-key-add-from t c =
     let at-child-key = c .before .before .before in
-    let start = at-child-key .before .before .before .before .before .before .before .before .before in
-    omega (arith, part-fits (start .args .part .now) (start .args .j) (c .before .before .before .before .before .before .before .before .key-ends .result .child) (at-child-key .leaf .ensures (depthsOf (contextOf (start .args .ride) .depths)) .fits), start .pre .1 .1 .in-frame, start .pre .1 .2)
+    let at-key-ends = at-child-key .before .before .before .before .before in
+    let start = at-key-ends .before .before .before .before in
+    omega (arith, part-fits (start .args .part .now) (start .args .j) (at-key-ends .key-ends .result .child) (at-child-key .leaf .ensures (depthsOf (contextOf (start .args .ride) .depths)) .fits), start .pre .1 .1 .in-frame, start .pre .1 .2)
 
 dictionary·text-key-add-if3 : (t : ℕ) → dictionary·text-key-lts.Need-add-if3 (dictionary·text-key-callees t) (dictionary·text-key-at t) dictionary·text-key.Post
 dictionary·text-key-add-if3 t c =
@@ -110,7 +123,7 @@ dictionary·text-key-add-if3 t c =
     let start = at-key-ends .before .before .before .before in
     omega (
       arith,
-      part-fits (start .args .part .now) (start .args .j) (c .before .before .before .before .before .before .before .before .before .key-ends .result .child) (at-child-key .leaf .ensures (depthsOf (contextOf (start .args .ride) .depths)) .fits),
+      part-fits (start .args .part .now) (start .args .j) (at-key-ends .key-ends .result .child) (at-child-key .leaf .ensures (depthsOf (contextOf (start .args .ride) .depths)) .fits),
       start .pre .1 .1 .in-frame,
       start .pre .1 .2,
       (key-there _ _ _ _ _ (at-key-ends .key-ends .ensures) (at-if1 .if1 .left)) .width,
@@ -126,10 +139,15 @@ dictionary·text-key-same-length-2 t c = search needs
 
 dictionary·text-key-returns-3 : (t : ℕ) → dictionary·text-key-lts.Need-returns-3 (dictionary·text-key-callees t) (dictionary·text-key-at t) dictionary·text-key.Post
 dictionary·text-key-returns-3 t c =
-    let start = c .before .before .before .before .before .before .before .before .before .before .before .before .before .before .before in
+    let at-if3 = c .before in
+    let at-if2 = at-if3 .before .before in
+    let at-leaf = at-if2 .before .before .before in
+    let at-if1 = at-leaf .before .before .before .before in
+    let at-key-ends = at-if1 .before in
+    let start = at-key-ends .before .before .before .before in
     let key = key-read (start .args .text .now) (start .args .at + 2) (omega (arith, value-within (start .args .text .now) (start .args .shapes .now) (start .args .at) (start .pre .1 .0))) (contextOf (start .args .ride) .position) (contextOf (start .args .ride) .big)
-    (start .args .place) (start .args .part .now) (start .args .j) (c .before .before .before .before .before .before .before .before .before .before .before .key-ends .result .child) _ _ _ _ (omega (arith, (key-there _ _ _ _ _ (c .before .before .before .before .before .before .before .before .before .before .before .key-ends .ensures) (c .before .before .before .before .before .before .before .before .before .before .if1 .left)) .end)) (omega (arith, (key-there _ _ _ _ _ (c .before .before .before .before .before .before .before .before .before .before .before .key-ends .ensures) (c .before .before .before .before .before .before .before .before .before .before .if1 .left)) .within, start .pre .1 .4)) (c .before .before .before .before .before .before .leaf .ensures) (depthsOf (contextOf (start .args .ride) .depths)) in
-    told (c .refused2 .ensures) (text-key-narrow _ _ _ _ _ _ _ (key-there _ _ _ _ _ (c .before .before .before .before .before .before .before .before .before .before .before .key-ends .ensures) (c .before .before .before .before .before .before .before .before .before .before .if1 .left)) _ _ (start .pre .1 .3) (start .pre .1 .4) _ _ key (c .before .before .before .if2 .left) (c .before .if3 .taken))
+    (start .args .place) (start .args .part .now) (start .args .j) (at-key-ends .key-ends .result .child) _ _ _ _ (omega (arith, (key-there _ _ _ _ _ (at-key-ends .key-ends .ensures) (at-if1 .if1 .left)) .end)) (omega (arith, (key-there _ _ _ _ _ (at-key-ends .key-ends .ensures) (at-if1 .if1 .left)) .within, start .pre .1 .4)) (at-leaf .leaf .ensures) (depthsOf (contextOf (start .args .ride) .depths)) in
+    told (c .refused2 .ensures) (text-key-narrow _ _ _ _ _ _ _ (key-there _ _ _ _ _ (at-key-ends .key-ends .ensures) (at-if1 .if1 .left)) _ _ (start .pre .1 .3) (start .pre .1 .4) _ _ key (at-if2 .if2 .left) (at-if3 .if3 .taken))
 
 dictionary·text-key-sub-end : (t : ℕ) → dictionary·text-key-lts.Need-sub-end (dictionary·text-key-callees t) (dictionary·text-key-at t) dictionary·text-key.Post
 dictionary·text-key-sub-end t c = omega (arith, c .before .if3 .left)
@@ -142,8 +160,9 @@ dictionary·text-key-add-value t c =
 dictionary·text-key-value-requires : (t : ℕ) → dictionary·text-key-lts.Need-value-requires (dictionary·text-key-callees t) (dictionary·text-key-at t) dictionary·text-key.Post
 dictionary·text-key-value-requires t c κs =
     let at-child-key = c .before .before .before .before .before .before .before in
-    let start = at-child-key .before .before .before .before .before .before .before .before .before in
-    (omega (arith, start .pre .0), (start .pre .1 .0 .child, start .pre .1 .1, omega (arith, part-fits (start .args .part .now) (start .args .j) (c .before .before .before .before .before .before .before .before .before .before .before .before .key-ends .result .child) (at-child-key .leaf .ensures (depthsOf (contextOf (start .args .ride) .depths)) .fits), start .pre .1 .2)))
+    let at-key-ends = at-child-key .before .before .before .before .before in
+    let start = at-key-ends .before .before .before .before in
+    (omega (arith, start .pre .0), (start .pre .1 .0 .child, start .pre .1 .1, omega (arith, part-fits (start .args .part .now) (start .args .j) (at-key-ends .key-ends .result .child) (at-child-key .leaf .ensures (depthsOf (contextOf (start .args .ride) .depths)) .fits), start .pre .1 .2)))
 
 dictionary·text-key-past-requires : (t : ℕ) → dictionary·text-key-lts.Need-past-requires (dictionary·text-key-callees t) (dictionary·text-key-at t) dictionary·text-key.Post
 dictionary·text-key-past-requires t c κs =
@@ -158,10 +177,11 @@ dictionary·text-key-behind-requires t c κs =
     let at-value = c .before .before .before in
     let at-if3 = at-value .before .before .before in
     let at-child-key = at-if3 .before .before .before .before .before in
-    let start = at-child-key .before .before .before .before .before .before .before .before .before in
+    let at-key-ends = at-child-key .before .before .before .before .before in
+    let start = at-key-ends .before .before .before .before in
     omega (
       arith,
-      part-fits (start .args .part .now) (start .args .j) (c .before .before .before .before .before .before .before .before .before .before .before .before .before .before .before .before .key-ends .result .child) (at-child-key .leaf .ensures (depthsOf (contextOf (start .args .ride) .depths)) .fits),
+      part-fits (start .args .part .now) (start .args .j) (at-key-ends .key-ends .result .child) (at-child-key .leaf .ensures (depthsOf (contextOf (start .args .ride) .depths)) .fits),
       c .past .ensures _
           (start .args .e - (start .args .j + at-child-key .leaf .result .used)) _
           (length (start .args .part .now) - (start .args .j + at-child-key .leaf .result .used)) _ _ _
@@ -176,11 +196,18 @@ dictionary·text-key-same-length-3 t c = search needs
 
 dictionary·text-key-returns-4 : (t : ℕ) → dictionary·text-key-lts.Need-returns-4 (dictionary·text-key-callees t) (dictionary·text-key-at t) dictionary·text-key.Post
 dictionary·text-key-returns-4 t c =
-    let start = c .before .before .before .before .before .before .before .before .before .before .before .before .before .before .before .before .before .before .before .before .before in
+    let at-past = c .before in
+    let at-value = at-past .before .before .before in
+    let at-if3 = at-value .before .before .before in
+    let at-if2 = at-if3 .before .before in
+    let at-leaf = at-if2 .before .before .before in
+    let at-if1 = at-leaf .before .before .before .before in
+    let at-key-ends = at-if1 .before in
+    let start = at-key-ends .before .before .before .before in
     let key = key-read (start .args .text .now) (start .args .at + 2) (omega (arith, value-within (start .args .text .now) (start .args .shapes .now) (start .args .at) (start .pre .1 .0))) (contextOf (start .args .ride) .position) (contextOf (start .args .ride) .big)
-    (start .args .place) (start .args .part .now) (start .args .j) (c .before .before .before .before .before .before .before .before .before .before .before .before .before .before .before .before .before .key-ends .result .child) _ _ _ _ (omega (arith, (key-there _ _ _ _ _ (c .before .before .before .before .before .before .before .before .before .before .before .before .before .before .before .before .before .key-ends .ensures) (c .before .before .before .before .before .before .before .before .before .before .before .before .before .before .before .before .if1 .left)) .end)) (omega (arith, (key-there _ _ _ _ _ (c .before .before .before .before .before .before .before .before .before .before .before .before .before .before .before .before .before .key-ends .ensures) (c .before .before .before .before .before .before .before .before .before .before .before .before .before .before .before .before .if1 .left)) .within, start .pre .1 .4)) (c .before .before .before .before .before .before .before .before .before .before .before .before .leaf .ensures) (depthsOf (contextOf (start .args .ride) .depths)) in
-    told (c .behind .ensures) (text-key-value _ _ _ _ _ _ _ (key-there _ _ _ _ _ (c .before .before .before .before .before .before .before .before .before .before .before .before .before .before .before .before .before .key-ends .ensures) (c .before .before .before .before .before .before .before .before .before .before .before .before .before .before .before .before .if1 .left)) _ _ (start .pre .1 .3) (start .pre .1 .4) _ _ key (c .before .before .before .before .before .before .before .before .before .if2 .left) (c .before .before .before .before .before .before .before .if3 .left) _ _ _
-    (c .before .before .before .before .value .ensures) (c .before .past .ensures))
+    (start .args .place) (start .args .part .now) (start .args .j) (at-key-ends .key-ends .result .child) _ _ _ _ (omega (arith, (key-there _ _ _ _ _ (at-key-ends .key-ends .ensures) (at-if1 .if1 .left)) .end)) (omega (arith, (key-there _ _ _ _ _ (at-key-ends .key-ends .ensures) (at-if1 .if1 .left)) .within, start .pre .1 .4)) (at-leaf .leaf .ensures) (depthsOf (contextOf (start .args .ride) .depths)) in
+    told (c .behind .ensures) (text-key-value _ _ _ _ _ _ _ (key-there _ _ _ _ _ (at-key-ends .key-ends .ensures) (at-if1 .if1 .left)) _ _ (start .pre .1 .3) (start .pre .1 .4) _ _ key (at-if2 .if2 .left) (at-if3 .if3 .left) _ _ _
+    (at-value .value .ensures) (at-past .past .ensures))
 
 pub dictionary·text-key-spec : {M : Type 1} (t : ℕ) → dictionary·text-key-lts.Closed (dictionary·text-key-callees t) (dictionary·text-key-at t) dictionary·text-key.Post M
 dictionary·text-key-spec t =

@@ -1,6 +1,6 @@
 -- The needs of `maybe·maybe`, and what answers each.
-use Rattle.reader_cycle.proofs.Characters.{typed-within}
 use Prim.Native.Nat.{ℕ}
+use Rattle.reader_cycle.proofs.Characters.{typed-within}
 use Rattle.reader_cycle.proofs.Deepening.{inside-deeper, level-falls, told}
 use Rattle.reader_cycle.proofs.Maybes.{maybe-deep, maybe-fixed, maybe-none, maybe-other}
 use Rattle.signature.proofs.TreeLaws.{described-fixed, maybe-described}

@@ -1,9 +1,10 @@
 -- The needs of `structure·structure`, and what answers each.
-use Rattle.reader_cycle.proofs.Characters.{rowed-typed, typed-within}
 use Prim.Native.Nat.{_+_, _-_, ℕ}
 use Rattle.container_depths.specs.Opening.{depthsOf}
 use Rattle.meaning.specs.Offsets.{encodedWidth}
+use Rattle.reader_basic.proofs.Answers.{denied, granted}
 use Rattle.reader_basic.proofs.Loops.{kept}
+use Rattle.reader_cycle.proofs.Characters.{rowed-typed, typed-within}
 use Rattle.reader_cycle.proofs.Deepening.{few-variants, inside-deeper, level-falls, told}
 use Rattle.reader_cycle.proofs.Structures.{FieldsLeft, ends-room, field-turn, fields-begin, fields-last, fields-next, fields-no-offset, fields-stop, last-by, next-by, structure-deep, structure-on, structure-stop}
 use Rattle.reader_cycle.specs.Rides.{contextOf}
@@ -43,16 +44,16 @@ structure·structure-callees t = (
   next-of-reads.Learnt,
   closes-at-reads.Asked,
   closes-at-reads.Learnt,
-  value-below t,
-  value.Post,
-  close-fields-reads.Asked,
-  close-fields-reads.Learnt,
-  behind-reads.Asked,
-  behind-reads.Learnt,
-  close-reads.Asked,
-  close-reads.Learnt,
   field-ends-reads.Asked,
   field-ends-reads.Learnt,
+  value-below t,
+  value.Post,
+  behind-reads.Asked,
+  behind-reads.Learnt,
+  close-fields-reads.Asked,
+  close-fields-reads.Learnt,
+  close-reads.Asked,
+  close-reads.Learnt,
 )
 
 abbrev structure·structure-Inv-loop : structure·structure-lts.InvT-loop
@@ -96,8 +97,8 @@ structure·structure-loop-holds t c =
     let start = c .before .before .before .before .before .before .before .before .before in
     fields-begin _ _ _ _ _ _ _ _ _ _ _ _ _ _ (structure-rowed (start .pre .1 .0) (start .pre .1 .1)) (structure-fixed (start .pre .1 .0) (start .pre .1 .1)) (start .pre .1 .3)
 
-structure·structure-mul-field : (t : ℕ) → structure·structure-lts.Need-mul-field (structure·structure-callees t) (structure·structure-at t) structure·structure.Post structure·structure-Inv-loop structure·structure-μ-loop
-structure·structure-mul-field t c =
+structure·structure-mul-next-of : (t : ℕ) → structure·structure-lts.Need-mul-next-of (structure·structure-callees t) (structure·structure-at t) structure·structure.Post structure·structure-Inv-loop structure·structure-μ-loop
+structure·structure-mul-next-of t c =
     let at-loop = c in
     let at-emit = c .before .before .before in
     let at-open = c .before .before .before .before .before in
@@ -106,8 +107,8 @@ structure·structure-mul-field t c =
     let d = at-in-structure .in-structure .ensures .deeper (at-open .if1 .left) in
     omega (arith, typed-within (rowed-typed (at-loop .loop .inv .rowed)), start .pre .1 .0 .typed .short)
 
-structure·structure-element-copy-out-field : (t : ℕ) → structure·structure-lts.Need-element-copy-out-field (structure·structure-callees t) (structure·structure-at t) structure·structure.Post structure·structure-Inv-loop structure·structure-μ-loop
-structure·structure-element-copy-out-field t c =
+structure·structure-element-copy-out-next-of : (t : ℕ) → structure·structure-lts.Need-element-copy-out-next-of (structure·structure-callees t) (structure·structure-at t) structure·structure.Post structure·structure-Inv-loop structure·structure-μ-loop
+structure·structure-element-copy-out-next-of t c =
     let at-loop = c in
     let at-emit = c .before .before .before in
     let at-open = c .before .before .before .before .before in
@@ -119,22 +120,50 @@ structure·structure-element-copy-out-field t c =
 structure·structure-next-of-requires : (t : ℕ) → structure·structure-lts.Need-next-of-requires (structure·structure-callees t) (structure·structure-at t) structure·structure.Post structure·structure-Inv-loop structure·structure-μ-loop
 structure·structure-next-of-requires t c κs = search needs
 
-structure·structure-add-j : (t : ℕ) → structure·structure-lts.Need-add-j (structure·structure-callees t) (structure·structure-at t) structure·structure.Post structure·structure-Inv-loop structure·structure-μ-loop
-structure·structure-add-j t c =
-    let at-loop = c .before .before in
+structure·structure-closes-at-requires : (t : ℕ) → structure·structure-lts.Need-closes-at-requires (structure·structure-callees t) (structure·structure-at t) structure·structure.Post structure·structure-Inv-loop structure·structure-μ-loop
+structure·structure-closes-at-requires t c κs = search needs
+
+structure·structure-mul-field : (t : ℕ) → structure·structure-lts.Need-mul-field (structure·structure-callees t) (structure·structure-at t) structure·structure.Post structure·structure-Inv-loop structure·structure-μ-loop
+structure·structure-mul-field t c =
+    let at-loop = c .before .before .before .before in
+    let at-emit = c .before .before .before .before .before .before .before in
+    let at-open = c .before .before .before .before .before .before .before .before .before in
+    let at-in-structure = c .before .before .before .before .before .before .before .before .before .before in
+    let start = c .before .before .before .before .before .before .before .before .before .before .before .before .before .before in
+    let d = at-in-structure .in-structure .ensures .deeper (at-open .if1 .left) in
+    omega (arith, typed-within (rowed-typed (at-loop .loop .inv .rowed)), start .pre .1 .0 .typed .short)
+
+structure·structure-element-copy-out-field : (t : ℕ) → structure·structure-lts.Need-element-copy-out-field (structure·structure-callees t) (structure·structure-at t) structure·structure.Post structure·structure-Inv-loop structure·structure-μ-loop
+structure·structure-element-copy-out-field t c =
+    let at-loop = c .before .before .before .before in
+    let at-emit = c .before .before .before .before .before .before .before in
+    let at-open = c .before .before .before .before .before .before .before .before .before in
+    let at-in-structure = c .before .before .before .before .before .before .before .before .before .before in
+    let start = c .before .before .before .before .before .before .before .before .before .before .before .before .before .before in
+    let d = at-in-structure .in-structure .ensures .deeper (at-open .if1 .left) in
+    omega (arith, typed-within (rowed-typed (at-loop .loop .inv .rowed)), start .pre .1 .0 .typed .short)
+
+structure·structure-field-ends-requires : (t : ℕ) → structure·structure-lts.Need-field-ends-requires (structure·structure-callees t) (structure·structure-at t) structure·structure.Post structure·structure-Inv-loop structure·structure-μ-loop
+structure·structure-field-ends-requires t c κs =
+    let at-loop = c .before .before .before .before .before in
     let at-emit = at-loop .before .before .before in
     let at-open = at-emit .before .before in
     let at-in-structure = at-open .before in
     let start = at-in-structure .before .before .before .before in
     let d = at-in-structure .in-structure .ensures .deeper (at-open .if1 .left) in
-    omega (arith, at-loop .loop .inv .within, start .pre .1 .2 .in-frame)
+    (start .pre .1 .3, at-loop .loop .inv .inside, omega (arith, start .pre .1 .2 .in-frame))
 
-structure·structure-closes-at-requires : (t : ℕ) → structure·structure-lts.Need-closes-at-requires (structure·structure-callees t) (structure·structure-at t) structure·structure.Post structure·structure-Inv-loop structure·structure-μ-loop
-structure·structure-closes-at-requires t c κs = search needs
+structure·structure-refused-requires-2 : (t : ℕ) → structure·structure-lts.Need-refused-requires-2 (structure·structure-callees t) (structure·structure-at t) structure·structure.Post structure·structure-Inv-loop structure·structure-μ-loop
+structure·structure-refused-requires-2 t c κs = search needs
 
-structure·structure-value-requires : (t : ℕ) → structure·structure-lts.Need-value-requires (structure·structure-callees t) (structure·structure-at t) structure·structure.Post structure·structure-Inv-loop structure·structure-μ-loop
-structure·structure-value-requires t c κs =
-    let at-if1 = c .before in
+structure·structure-same-length : (t : ℕ) → structure·structure-lts.Need-same-length (structure·structure-callees t) (structure·structure-at t) structure·structure.Post structure·structure-Inv-loop structure·structure-μ-loop
+structure·structure-same-length t c = search needs
+
+structure·structure-returns-2 : (t : ℕ) → structure·structure-lts.Need-returns-2 (structure·structure-callees t) (structure·structure-at t) structure·structure.Post structure·structure-Inv-loop structure·structure-μ-loop
+structure·structure-returns-2 t c =
+    let at-if2 = c .before in
+    let at-field-ends = at-if2 .before in
+    let at-if1 = at-field-ends .before .before in
     let at-closes-at = at-if1 .before in
     let at-shape-in = at-closes-at .before in
     let at-loop = at-shape-in .before .before in
@@ -143,7 +172,140 @@ structure·structure-value-requires t c κs =
     let at-in-structure = at-open .before in
     let start = at-in-structure .before .before .before .before in
     let d = at-in-structure .in-structure .ensures .deeper (at-open .if1 .left) in
-    (omega (arith, level-falls d, start .pre .0), ((last-by _ _ _ (at-loop .loop .inv .rowed) (start .pre .1 .0 .table) (at-shape-in .next-of .ensures) (at-closes-at .closes-at .ensures) (at-if1 .if2 .taken)) .shape, inside-deeper d (start .pre .1 .2), at-loop .loop .inv .within))
+    structure-stop (start .pre .1 .0) (start .pre .1 .1) _ _ _ _ _ _ d _ _ _ _ _ (at-emit .emit .ensures .0) (at-emit .emit .ensures .1) (c .refused2 .ensures) (at-if2 .if3 .taken) (fields-no-offset (at-loop .loop .inv) (few-variants (inside-deeper d (start .pre .1 .2)))
+    (next-by _ _ _ (at-loop .loop .inv .rowed) (start .pre .1 .0 .table) (at-shape-in .next-of .ensures) (at-closes-at .closes-at .ensures) (denied (at-if1 .if2 .taken))) _ (at-field-ends .field-ends .ensures) (at-if2 .if3 .taken))
+
+structure·structure-add-j : (t : ℕ) → structure·structure-lts.Need-add-j (structure·structure-callees t) (structure·structure-at t) structure·structure.Post structure·structure-Inv-loop structure·structure-μ-loop
+structure·structure-add-j t c =
+    let at-loop = c .before .before .before .before .before .before .before in
+    let at-emit = c .before .before .before .before .before .before .before .before .before .before in
+    let at-open = c .before .before .before .before .before .before .before .before .before .before .before .before in
+    let at-in-structure = c .before .before .before .before .before .before .before .before .before .before .before .before .before in
+    let start = c .before .before .before .before .before .before .before .before .before .before .before .before .before .before .before .before .before in
+    let d = at-in-structure .in-structure .ensures .deeper (at-open .if1 .left) in
+    omega (arith, at-loop .loop .inv .within, start .pre .1 .2 .in-frame)
+
+structure·structure-value-requires : (t : ℕ) → structure·structure-lts.Need-value-requires (structure·structure-callees t) (structure·structure-at t) structure·structure.Post structure·structure-Inv-loop structure·structure-μ-loop
+structure·structure-value-requires t c κs =
+    let at-if1 = c .before .before .before .before in
+    let at-closes-at = at-if1 .before in
+    let at-shape-in = at-closes-at .before in
+    let at-loop = at-shape-in .before .before in
+    let at-emit = at-loop .before .before .before in
+    let at-open = at-emit .before .before in
+    let at-in-structure = at-open .before in
+    let start = at-in-structure .before .before .before .before in
+    let d = at-in-structure .in-structure .ensures .deeper (at-open .if1 .left) in
+    (omega (arith, level-falls d, start .pre .0), ((next-by _ _ _ (at-loop .loop .inv .rowed) (start .pre .1 .0 .table) (at-shape-in .next-of .ensures) (at-closes-at .closes-at .ensures) (denied (at-if1 .if2 .taken))) .shape, inside-deeper d (start .pre .1 .2), at-loop .loop .inv .within))
+
+structure·structure-behind-requires : (t : ℕ) → structure·structure-lts.Need-behind-requires (structure·structure-callees t) (structure·structure-at t) structure·structure.Post structure·structure-Inv-loop structure·structure-μ-loop
+structure·structure-behind-requires t c κs =
+    let at-value2 = c .before .before .before in
+    let at-loop = at-value2 .before .before .before .before .before .before .before .before .before in
+    let at-emit = at-loop .before .before .before in
+    let at-open = at-emit .before .before in
+    let at-in-structure = at-open .before in
+    let start = at-in-structure .before .before .before .before in
+    let d = at-in-structure .in-structure .ensures .deeper (at-open .if1 .left) in
+    omega (arith, at-value2 .value .ensures .fits, start .pre .1 .2 .in-frame, at-loop .loop .inv .within)
+
+structure·structure-same-length-2 : (t : ℕ) → structure·structure-lts.Need-same-length-2 (structure·structure-callees t) (structure·structure-at t) structure·structure.Post structure·structure-Inv-loop structure·structure-μ-loop
+structure·structure-same-length-2 t c = search needs
+
+structure·structure-returns-3 : (t : ℕ) → structure·structure-lts.Need-returns-3 (structure·structure-callees t) (structure·structure-at t) structure·structure.Post structure·structure-Inv-loop structure·structure-μ-loop
+structure·structure-returns-3 t c =
+    let at-if3 = c .before in
+    let at-value2 = at-if3 .before .before .before in
+    let at-if2 = at-value2 .before .before in
+    let at-field-ends = at-if2 .before in
+    let at-if1 = at-field-ends .before .before in
+    let at-closes-at = at-if1 .before in
+    let at-shape-in = at-closes-at .before in
+    let at-loop = at-shape-in .before .before in
+    let at-emit = at-loop .before .before .before in
+    let at-open = at-emit .before .before in
+    let at-in-structure = at-open .before in
+    let start = at-in-structure .before .before .before .before in
+    let d = at-in-structure .in-structure .ensures .deeper (at-open .if1 .left) in
+    structure-stop (start .pre .1 .0) (start .pre .1 .1) _ _ _ _ _ _ d _ _ _ _ _ (at-emit .emit .ensures .0) (at-emit .emit .ensures .1) (c .behind .ensures) (at-if3 .if4 .taken) (fields-stop (at-loop .loop .inv) (few-variants (inside-deeper d (start .pre .1 .2)))
+    (next-by _ _ _ (at-loop .loop .inv .rowed) (start .pre .1 .0 .table) (at-shape-in .next-of .ensures) (at-closes-at .closes-at .ensures) (denied (at-if1 .if2 .taken)))
+    (field-turn (at-loop .loop .inv) (few-variants (inside-deeper d (start .pre .1 .2)))
+    (next-by _ _ _ (at-loop .loop .inv .rowed) (start .pre .1 .0 .table) (at-shape-in .next-of .ensures) (at-closes-at .closes-at .ensures) (denied (at-if1 .if2 .taken))) _ (at-field-ends .field-ends .ensures) (at-if2 .if3 .left)) _ _
+    (at-value2 .value .ensures) (at-if3 .if4 .taken))
+
+structure·structure-sub-end : (t : ℕ) → structure·structure-lts.Need-sub-end (structure·structure-callees t) (structure·structure-at t) structure·structure.Post structure·structure-Inv-loop structure·structure-μ-loop
+structure·structure-sub-end t c =
+    let at-if2 = c .before .before .before .before .before .before in
+    let at-field-ends = at-if2 .before in
+    omega (arith, ends-room _ _ _ _ _ _ (at-field-ends .field-ends .ensures) (at-if2 .if3 .left))
+
+structure·structure-add-u : (t : ℕ) → structure·structure-lts.Need-add-u (structure·structure-callees t) (structure·structure-at t) structure·structure.Post structure·structure-Inv-loop structure·structure-μ-loop
+structure·structure-add-u t c =
+    let at-value2 = c .before .before .before .before .before in
+    let at-loop = at-value2 .before .before .before .before .before .before .before .before .before in
+    let at-emit = at-loop .before .before .before in
+    let at-open = at-emit .before .before in
+    let at-in-structure = at-open .before in
+    let start = at-in-structure .before .before .before .before in
+    let d = at-in-structure .in-structure .ensures .deeper (at-open .if1 .left) in
+    omega (arith, at-value2 .value .ensures .fits, start .pre .1 .2 .in-frame, at-loop .loop .inv .within)
+
+structure·structure-next-of-requires-2 : (t : ℕ) → structure·structure-lts.Need-next-of-requires-2 (structure·structure-callees t) (structure·structure-at t) structure·structure.Post structure·structure-Inv-loop structure·structure-μ-loop
+structure·structure-next-of-requires-2 t c κs = search needs
+
+structure·structure-loop-less : (t : ℕ) → structure·structure-lts.Need-loop-less (structure·structure-callees t) (structure·structure-at t) structure·structure.Post structure·structure-Inv-loop structure·structure-μ-loop
+structure·structure-loop-less t c =
+    let at-if1 = c .before .before .before .before .before .before .before .before .before .before .before in
+    let at-closes-at = at-if1 .before in
+    let at-shape-in = at-closes-at .before in
+    let at-loop = at-shape-in .before .before in
+    let at-emit = at-loop .before .before .before in
+    let at-open = at-emit .before .before in
+    let at-in-structure = at-open .before in
+    let start = at-in-structure .before .before .before .before in
+    let d = at-in-structure .in-structure .ensures .deeper (at-open .if1 .left) in
+    let g = (next-by _ _ _ (at-loop .loop .inv .rowed) (start .pre .1 .0 .table) (at-shape-in .next-of .ensures) (at-closes-at .closes-at .ensures) (denied (at-if1 .if2 .taken))) in omega (arith, g .onward, g .within, c .next-of2 .ensures)
+
+structure·structure-loop-again : (t : ℕ) → structure·structure-lts.Need-loop-again (structure·structure-callees t) (structure·structure-at t) structure·structure.Post structure·structure-Inv-loop structure·structure-μ-loop
+structure·structure-loop-again t c =
+    let at-if3 = c .before .before .before in
+    let at-value2 = at-if3 .before .before .before in
+    let at-if2 = at-value2 .before .before in
+    let at-field-ends = at-if2 .before in
+    let at-if1 = at-field-ends .before .before in
+    let at-closes-at = at-if1 .before in
+    let at-shape-in = at-closes-at .before in
+    let at-loop = at-shape-in .before .before in
+    let at-emit = at-loop .before .before .before in
+    let at-open = at-emit .before .before in
+    let at-in-structure = at-open .before in
+    let start = at-in-structure .before .before .before .before in
+    let d = at-in-structure .in-structure .ensures .deeper (at-open .if1 .left) in
+    rw (c .next-of2 .ensures) (fields-next (at-loop .loop .inv) (few-variants (inside-deeper d (start .pre .1 .2)))
+    (next-by _ _ _ (at-loop .loop .inv .rowed) (start .pre .1 .0 .table) (at-shape-in .next-of .ensures) (at-closes-at .closes-at .ensures) (denied (at-if1 .if2 .taken)))
+    (field-turn (at-loop .loop .inv) (few-variants (inside-deeper d (start .pre .1 .2)))
+    (next-by _ _ _ (at-loop .loop .inv .rowed) (start .pre .1 .0 .table) (at-shape-in .next-of .ensures) (at-closes-at .closes-at .ensures) (denied (at-if1 .if2 .taken))) _ (at-field-ends .field-ends .ensures) (at-if2 .if3 .left)) _ _
+    (at-value2 .value .ensures) (at-if3 .if4 .left))
+
+structure·structure-add-j-2 : (t : ℕ) → structure·structure-lts.Need-add-j-2 (structure·structure-callees t) (structure·structure-at t) structure·structure.Post structure·structure-Inv-loop structure·structure-μ-loop
+structure·structure-add-j-2 t c =
+    let at-loop = c .before .before .before .before in
+    let at-emit = c .before .before .before .before .before .before .before in
+    let at-open = c .before .before .before .before .before .before .before .before .before in
+    let at-in-structure = c .before .before .before .before .before .before .before .before .before .before in
+    let start = c .before .before .before .before .before .before .before .before .before .before .before .before .before .before in
+    let d = at-in-structure .in-structure .ensures .deeper (at-open .if1 .left) in
+    omega (arith, at-loop .loop .inv .within, start .pre .1 .2 .in-frame)
+
+structure·structure-value-requires-2 : (t : ℕ) → structure·structure-lts.Need-value-requires-2 (structure·structure-callees t) (structure·structure-at t) structure·structure.Post structure·structure-Inv-loop structure·structure-μ-loop
+structure·structure-value-requires-2 t c κs =
+    let at-loop = c .before .before .before .before .before in
+    let at-emit = c .before .before .before .before .before .before .before .before in
+    let at-open = c .before .before .before .before .before .before .before .before .before .before in
+    let at-in-structure = c .before .before .before .before .before .before .before .before .before .before .before in
+    let start = c .before .before .before .before .before .before .before .before .before .before .before .before .before .before .before in
+    let d = at-in-structure .in-structure .ensures .deeper (at-open .if1 .left) in
+    (omega (arith, level-falls d, start .pre .0), ((last-by _ _ _ (at-loop .loop .inv .rowed) (start .pre .1 .0 .table) (c .before .before .before .next-of .ensures) (c .before .before .closes-at .ensures) (granted (c .before .if2 .left))) .shape, inside-deeper d (start .pre .1 .2), at-loop .loop .inv .within))
 
 structure·structure-mul-close-fields : (t : ℕ) → structure·structure-lts.Need-mul-close-fields (structure·structure-callees t) (structure·structure-at t) structure·structure.Post structure·structure-Inv-loop structure·structure-μ-loop
 structure·structure-mul-close-fields t c =
@@ -163,27 +325,21 @@ structure·structure-close-fields-requires t c κs =
     let at-in-structure = c .before .before .before .before .before .before .before .before .before .before .before .before .before .before .before in
     let start = c .before .before .before .before .before .before .before .before .before .before .before .before .before .before .before .before .before .before .before in
     let d = at-in-structure .in-structure .ensures .deeper (at-open .if1 .left) in
-    (start .pre .1 .2 .in-frame, inside-deeper d (start .pre .1 .2) .near, described-aligned (start .pre .1 .0), omega (arith, c .before .before .before .value .ensures .fits, at-loop .loop .inv .within), at-loop .loop .inv .inside, at-loop .loop .inv .whole)
+    (start .pre .1 .2 .in-frame, inside-deeper d (start .pre .1 .2) .near, described-aligned (start .pre .1 .0), omega (arith, c .before .before .before .value2 .ensures .fits, at-loop .loop .inv .within), at-loop .loop .inv .inside, at-loop .loop .inv .whole)
 
-structure·structure-behind-requires : (t : ℕ) → structure·structure-lts.Need-behind-requires (structure·structure-callees t) (structure·structure-at t) structure·structure.Post structure·structure-Inv-loop structure·structure-μ-loop
-structure·structure-behind-requires t c κs =
-    let at-value = c .before .before .before .before in
-    let at-loop = at-value .before .before .before .before .before .before in
-    let at-emit = at-loop .before .before .before in
-    let at-open = at-emit .before .before in
-    let at-in-structure = at-open .before in
-    let start = at-in-structure .before .before .before .before in
+structure·structure-behind-requires-2 : (t : ℕ) → structure·structure-lts.Need-behind-requires-2 (structure·structure-callees t) (structure·structure-at t) structure·structure.Post structure·structure-Inv-loop structure·structure-μ-loop
+structure·structure-behind-requires-2 t c κs =
+    let at-loop = c .before .before .before .before .before .before .before .before .before .before in
+    let at-emit = c .before .before .before .before .before .before .before .before .before .before .before .before .before in
+    let at-open = c .before .before .before .before .before .before .before .before .before .before .before .before .before .before .before in
+    let at-in-structure = c .before .before .before .before .before .before .before .before .before .before .before .before .before .before .before .before in
+    let start = c .before .before .before .before .before .before .before .before .before .before .before .before .before .before .before .before .before .before .before .before in
     let d = at-in-structure .in-structure .ensures .deeper (at-open .if1 .left) in
-    omega (arith, c .close-fields .ensures _ _ _ _ (at-value .value .ensures) .fits, start .pre .1 .2 .in-frame, at-loop .loop .inv .within)
+    omega (arith, c .close-fields .ensures _ _ _ _ (c .before .before .before .before .value2 .ensures) .fits, start .pre .1 .2 .in-frame, at-loop .loop .inv .within)
 
 structure·structure-add-close : (t : ℕ) → structure·structure-lts.Need-add-close (structure·structure-callees t) (structure·structure-at t) structure·structure.Post structure·structure-Inv-loop structure·structure-μ-loop
 structure·structure-add-close t c =
-    let at-loop = c .before .before .before .before .before .before .before .before .before .before .before in
-    let at-emit = at-loop .before .before .before in
-    let at-open = at-emit .before .before in
-    let at-in-structure = at-open .before in
-    let start = at-in-structure .before .before .before .before in
-    let d = at-in-structure .in-structure .ensures .deeper (at-open .if1 .left) in
+    let start = c .before .before .before .before .before .before .before .before .before .before .before .before .before .before .before .before .before .before .before .before .before in
     omega (arith, start .pre .1 .2 .in-frame, start .pre .1 .3)
 
 structure·structure-close-requires : (t : ℕ) → structure·structure-lts.Need-close-requires (structure·structure-callees t) (structure·structure-at t) structure·structure.Post structure·structure-Inv-loop structure·structure-μ-loop
@@ -194,12 +350,12 @@ structure·structure-close-requires t c κs =
     let at-in-structure = c .before .before .before .before .before .before .before .before .before .before .before .before .before .before .before .before .before .before in
     let start = c .before .before .before .before .before .before .before .before .before .before .before .before .before .before .before .before .before .before .before .before .before .before in
     let d = at-in-structure .in-structure .ensures .deeper (at-open .if1 .left) in
-    let whole = told (c .before .behind .ensures) (fields-last (at-loop .loop .inv) (few-variants (inside-deeper d (start .pre .1 .2))) _ _
-    (last-by _ _ _ (at-loop .loop .inv .rowed) (start .pre .1 .0 .table) (c .before .before .before .before .before .before .before .before .before .before .next-of .ensures) (c .before .before .before .before .before .before .before .before .before .closes-at .ensures) (c .before .before .before .before .before .before .before .before .if2 .taken)) (c .before .before .close-fields .ensures _ _ _ _ (c .before .before .before .before .before .before .value .ensures))) in
+    let whole = told (c .before .behind2 .ensures) (fields-last (at-loop .loop .inv) (few-variants (inside-deeper d (start .pre .1 .2))) _ _
+    (last-by _ _ _ (at-loop .loop .inv .rowed) (start .pre .1 .0 .table) (c .before .before .before .before .before .before .before .before .before .before .next-of .ensures) (c .before .before .before .before .before .before .before .before .before .closes-at .ensures) (granted (c .before .before .before .before .before .before .before .before .if2 .left))) (c .before .before .close-fields .ensures _ _ _ _ (c .before .before .before .before .before .before .value2 .ensures))) in
     omega (arith, whole .fits, start .pre .1 .2 .in-frame, start .pre .1 .3)
 
-structure·structure-same-length : (t : ℕ) → structure·structure-lts.Need-same-length (structure·structure-callees t) (structure·structure-at t) structure·structure.Post structure·structure-Inv-loop structure·structure-μ-loop
-structure·structure-same-length t c =
+structure·structure-same-length-3 : (t : ℕ) → structure·structure-lts.Need-same-length-3 (structure·structure-callees t) (structure·structure-at t) structure·structure.Post structure·structure-Inv-loop structure·structure-μ-loop
+structure·structure-same-length-3 t c =
     let at-loop = c .before .before .before .before .before .before .before .before .before .before .before .before .before .before .before in
     let at-emit = c .before .before .before .before .before .before .before .before .before .before .before .before .before .before .before .before .before .before in
     let at-open = c .before .before .before .before .before .before .before .before .before .before .before .before .before .before .before .before .before .before .before .before in
@@ -207,11 +363,11 @@ structure·structure-same-length t c =
     let start = c .before .before .before .before .before .before .before .before .before .before .before .before .before .before .before .before .before .before .before .before .before .before .before .before .before in
     let d = at-in-structure .in-structure .ensures .deeper (at-open .if1 .left) in
     kept (structure-on (start .pre .1 .0) (start .pre .1 .1) (start .args .part .now) (start .args .lead) (start .args .place) (contextOf (start .args .ride)) (start .args .n) (start .args .out .now) d _ _ _ _ (at-emit .emit .ensures .0) (at-emit .emit .ensures .1)
-    (c .before .before .close .ensures _ _ _ _ _ (told (c .before .before .before .before .behind .ensures) (fields-last (at-loop .loop .inv) (few-variants (inside-deeper d (start .pre .1 .2))) _ _
-    (last-by _ _ _ (at-loop .loop .inv .rowed) (start .pre .1 .0 .table) (c .before .before .before .before .before .before .before .before .before .before .before .before .before .next-of .ensures) (c .before .before .before .before .before .before .before .before .before .before .before .before .closes-at .ensures) (c .before .before .before .before .before .before .before .before .before .before .before .if2 .taken)) (c .before .before .before .before .before .close-fields .ensures _ _ _ _ (c .before .before .before .before .before .before .before .before .before .value .ensures))))))
+    (c .before .before .close .ensures _ _ _ _ _ (told (c .before .before .before .before .behind2 .ensures) (fields-last (at-loop .loop .inv) (few-variants (inside-deeper d (start .pre .1 .2))) _ _
+    (last-by _ _ _ (at-loop .loop .inv .rowed) (start .pre .1 .0 .table) (c .before .before .before .before .before .before .before .before .before .before .before .before .before .next-of .ensures) (c .before .before .before .before .before .before .before .before .before .before .before .before .closes-at .ensures) (granted (c .before .before .before .before .before .before .before .before .before .before .before .if2 .left))) (c .before .before .before .before .before .close-fields .ensures _ _ _ _ (c .before .before .before .before .before .before .before .before .before .value2 .ensures))))))
 
-structure·structure-returns-2 : (t : ℕ) → structure·structure-lts.Need-returns-2 (structure·structure-callees t) (structure·structure-at t) structure·structure.Post structure·structure-Inv-loop structure·structure-μ-loop
-structure·structure-returns-2 t c =
+structure·structure-returns-4 : (t : ℕ) → structure·structure-lts.Need-returns-4 (structure·structure-callees t) (structure·structure-at t) structure·structure.Post structure·structure-Inv-loop structure·structure-μ-loop
+structure·structure-returns-4 t c =
     let at-loop = c .before .before .before .before .before .before .before .before .before .before .before .before .before .before .before in
     let at-emit = c .before .before .before .before .before .before .before .before .before .before .before .before .before .before .before .before .before .before in
     let at-open = c .before .before .before .before .before .before .before .before .before .before .before .before .before .before .before .before .before .before .before .before in
@@ -219,139 +375,8 @@ structure·structure-returns-2 t c =
     let start = c .before .before .before .before .before .before .before .before .before .before .before .before .before .before .before .before .before .before .before .before .before .before .before .before .before in
     let d = at-in-structure .in-structure .ensures .deeper (at-open .if1 .left) in
     structure-on (start .pre .1 .0) (start .pre .1 .1) _ _ _ _ _ _ d _ _ _ _ (at-emit .emit .ensures .0) (at-emit .emit .ensures .1)
-    (c .before .before .close .ensures _ _ _ _ _ (told (c .before .before .before .before .behind .ensures) (fields-last (at-loop .loop .inv) (few-variants (inside-deeper d (start .pre .1 .2))) _ _
-    (last-by _ _ _ (at-loop .loop .inv .rowed) (start .pre .1 .0 .table) (c .before .before .before .before .before .before .before .before .before .before .before .before .before .next-of .ensures) (c .before .before .before .before .before .before .before .before .before .before .before .before .closes-at .ensures) (c .before .before .before .before .before .before .before .before .before .before .before .if2 .taken)) (c .before .before .before .before .before .close-fields .ensures _ _ _ _ (c .before .before .before .before .before .before .before .before .before .value .ensures)))))
-
-structure·structure-field-ends-requires : (t : ℕ) → structure·structure-lts.Need-field-ends-requires (structure·structure-callees t) (structure·structure-at t) structure·structure.Post structure·structure-Inv-loop structure·structure-μ-loop
-structure·structure-field-ends-requires t c κs =
-    let at-loop = c .before .before .before .before in
-    let at-emit = at-loop .before .before .before in
-    let at-open = at-emit .before .before in
-    let at-in-structure = at-open .before in
-    let start = at-in-structure .before .before .before .before in
-    let d = at-in-structure .in-structure .ensures .deeper (at-open .if1 .left) in
-    (start .pre .1 .3, at-loop .loop .inv .inside, omega (arith, start .pre .1 .2 .in-frame))
-
-structure·structure-refused-requires-2 : (t : ℕ) → structure·structure-lts.Need-refused-requires-2 (structure·structure-callees t) (structure·structure-at t) structure·structure.Post structure·structure-Inv-loop structure·structure-μ-loop
-structure·structure-refused-requires-2 t c κs = search needs
-
-structure·structure-same-length-2 : (t : ℕ) → structure·structure-lts.Need-same-length-2 (structure·structure-callees t) (structure·structure-at t) structure·structure.Post structure·structure-Inv-loop structure·structure-μ-loop
-structure·structure-same-length-2 t c = search needs
-
-structure·structure-returns-3 : (t : ℕ) → structure·structure-lts.Need-returns-3 (structure·structure-callees t) (structure·structure-at t) structure·structure.Post structure·structure-Inv-loop structure·structure-μ-loop
-structure·structure-returns-3 t c =
-    let at-if2 = c .before in
-    let at-field-ends = at-if2 .before in
-    let at-if1 = at-field-ends .before in
-    let at-closes-at = at-if1 .before in
-    let at-shape-in = at-closes-at .before in
-    let at-loop = at-shape-in .before .before in
-    let at-emit = at-loop .before .before .before in
-    let at-open = at-emit .before .before in
-    let at-in-structure = at-open .before in
-    let start = at-in-structure .before .before .before .before in
-    let d = at-in-structure .in-structure .ensures .deeper (at-open .if1 .left) in
-    structure-stop (start .pre .1 .0) (start .pre .1 .1) _ _ _ _ _ _ d _ _ _ _ _ (at-emit .emit .ensures .0) (at-emit .emit .ensures .1) (c .refused2 .ensures) (at-if2 .if3 .taken) (fields-no-offset (at-loop .loop .inv) (few-variants (inside-deeper d (start .pre .1 .2)))
-    (next-by _ _ _ (at-loop .loop .inv .rowed) (start .pre .1 .0 .table) (at-shape-in .next-of .ensures) (at-closes-at .closes-at .ensures) (at-if1 .if2 .left)) _ (at-field-ends .field-ends .ensures) (at-if2 .if3 .taken))
-
-structure·structure-value-requires-2 : (t : ℕ) → structure·structure-lts.Need-value-requires-2 (structure·structure-callees t) (structure·structure-at t) structure·structure.Post structure·structure-Inv-loop structure·structure-μ-loop
-structure·structure-value-requires-2 t c κs =
-    let at-if1 = c .before .before .before in
-    let at-closes-at = at-if1 .before in
-    let at-shape-in = at-closes-at .before in
-    let at-loop = at-shape-in .before .before in
-    let at-emit = at-loop .before .before .before in
-    let at-open = at-emit .before .before in
-    let at-in-structure = at-open .before in
-    let start = at-in-structure .before .before .before .before in
-    let d = at-in-structure .in-structure .ensures .deeper (at-open .if1 .left) in
-    (omega (arith, level-falls d, start .pre .0), ((next-by _ _ _ (at-loop .loop .inv .rowed) (start .pre .1 .0 .table) (at-shape-in .next-of .ensures) (at-closes-at .closes-at .ensures) (at-if1 .if2 .left)) .shape, inside-deeper d (start .pre .1 .2), at-loop .loop .inv .within))
-
-structure·structure-behind-requires-2 : (t : ℕ) → structure·structure-lts.Need-behind-requires-2 (structure·structure-callees t) (structure·structure-at t) structure·structure.Post structure·structure-Inv-loop structure·structure-μ-loop
-structure·structure-behind-requires-2 t c κs =
-    let at-value2 = c .before .before .before in
-    let at-loop = at-value2 .before .before .before .before .before .before .before .before in
-    let at-emit = at-loop .before .before .before in
-    let at-open = at-emit .before .before in
-    let at-in-structure = at-open .before in
-    let start = at-in-structure .before .before .before .before in
-    let d = at-in-structure .in-structure .ensures .deeper (at-open .if1 .left) in
-    omega (arith, at-value2 .value2 .ensures .fits, start .pre .1 .2 .in-frame, at-loop .loop .inv .within)
-
-structure·structure-same-length-3 : (t : ℕ) → structure·structure-lts.Need-same-length-3 (structure·structure-callees t) (structure·structure-at t) structure·structure.Post structure·structure-Inv-loop structure·structure-μ-loop
-structure·structure-same-length-3 t c = search needs
-
-structure·structure-returns-4 : (t : ℕ) → structure·structure-lts.Need-returns-4 (structure·structure-callees t) (structure·structure-at t) structure·structure.Post structure·structure-Inv-loop structure·structure-μ-loop
-structure·structure-returns-4 t c =
-    let at-if3 = c .before in
-    let at-value2 = at-if3 .before .before .before in
-    let at-if2 = at-value2 .before .before in
-    let at-field-ends = at-if2 .before in
-    let at-if1 = at-field-ends .before in
-    let at-closes-at = at-if1 .before in
-    let at-shape-in = at-closes-at .before in
-    let at-loop = at-shape-in .before .before in
-    let at-emit = at-loop .before .before .before in
-    let at-open = at-emit .before .before in
-    let at-in-structure = at-open .before in
-    let start = at-in-structure .before .before .before .before in
-    let d = at-in-structure .in-structure .ensures .deeper (at-open .if1 .left) in
-    structure-stop (start .pre .1 .0) (start .pre .1 .1) _ _ _ _ _ _ d _ _ _ _ _ (at-emit .emit .ensures .0) (at-emit .emit .ensures .1) (c .behind2 .ensures) (at-if3 .if4 .taken) (fields-stop (at-loop .loop .inv) (few-variants (inside-deeper d (start .pre .1 .2)))
-    (next-by _ _ _ (at-loop .loop .inv .rowed) (start .pre .1 .0 .table) (at-shape-in .next-of .ensures) (at-closes-at .closes-at .ensures) (at-if1 .if2 .left))
-    (field-turn (at-loop .loop .inv) (few-variants (inside-deeper d (start .pre .1 .2)))
-    (next-by _ _ _ (at-loop .loop .inv .rowed) (start .pre .1 .0 .table) (at-shape-in .next-of .ensures) (at-closes-at .closes-at .ensures) (at-if1 .if2 .left)) _ (at-field-ends .field-ends .ensures) (at-if2 .if3 .left)) _ _
-    (at-value2 .value2 .ensures) (at-if3 .if4 .taken))
-
-structure·structure-sub-end : (t : ℕ) → structure·structure-lts.Need-sub-end (structure·structure-callees t) (structure·structure-at t) structure·structure.Post structure·structure-Inv-loop structure·structure-μ-loop
-structure·structure-sub-end t c =
-    let at-if2 = c .before .before .before .before .before .before in
-    let at-field-ends = at-if2 .before in
-    omega (arith, ends-room _ _ _ _ _ _ (at-field-ends .field-ends .ensures) (at-if2 .if3 .left))
-
-structure·structure-add-u : (t : ℕ) → structure·structure-lts.Need-add-u (structure·structure-callees t) (structure·structure-at t) structure·structure.Post structure·structure-Inv-loop structure·structure-μ-loop
-structure·structure-add-u t c =
-    let at-value2 = c .before .before .before .before .before in
-    let at-loop = at-value2 .before .before .before .before .before .before .before .before in
-    let at-emit = at-loop .before .before .before in
-    let at-open = at-emit .before .before in
-    let at-in-structure = at-open .before in
-    let start = at-in-structure .before .before .before .before in
-    let d = at-in-structure .in-structure .ensures .deeper (at-open .if1 .left) in
-    omega (arith, at-value2 .value2 .ensures .fits, start .pre .1 .2 .in-frame, at-loop .loop .inv .within)
-
-structure·structure-loop-less : (t : ℕ) → structure·structure-lts.Need-loop-less (structure·structure-callees t) (structure·structure-at t) structure·structure.Post structure·structure-Inv-loop structure·structure-μ-loop
-structure·structure-loop-less t c =
-    let at-if1 = c .before .before .before .before .before .before .before .before .before in
-    let at-closes-at = at-if1 .before in
-    let at-shape-in = at-closes-at .before in
-    let at-loop = at-shape-in .before .before in
-    let at-emit = at-loop .before .before .before in
-    let at-open = at-emit .before .before in
-    let at-in-structure = at-open .before in
-    let start = at-in-structure .before .before .before .before in
-    let d = at-in-structure .in-structure .ensures .deeper (at-open .if1 .left) in
-    let g = (next-by _ _ _ (at-loop .loop .inv .rowed) (start .pre .1 .0 .table) (at-shape-in .next-of .ensures) (at-closes-at .closes-at .ensures) (at-if1 .if2 .left)) in omega (arith, g .onward, g .within, at-shape-in .next-of .ensures)
-
-structure·structure-loop-again : (t : ℕ) → structure·structure-lts.Need-loop-again (structure·structure-callees t) (structure·structure-at t) structure·structure.Post structure·structure-Inv-loop structure·structure-μ-loop
-structure·structure-loop-again t c =
-    let at-if3 = c .before .before in
-    let at-value2 = at-if3 .before .before .before in
-    let at-if2 = at-value2 .before .before in
-    let at-field-ends = at-if2 .before in
-    let at-if1 = at-field-ends .before in
-    let at-closes-at = at-if1 .before in
-    let at-shape-in = at-closes-at .before in
-    let at-loop = at-shape-in .before .before in
-    let at-emit = at-loop .before .before .before in
-    let at-open = at-emit .before .before in
-    let at-in-structure = at-open .before in
-    let start = at-in-structure .before .before .before .before in
-    let d = at-in-structure .in-structure .ensures .deeper (at-open .if1 .left) in
-    rw (at-shape-in .next-of .ensures) (fields-next (at-loop .loop .inv) (few-variants (inside-deeper d (start .pre .1 .2)))
-    (next-by _ _ _ (at-loop .loop .inv .rowed) (start .pre .1 .0 .table) (at-shape-in .next-of .ensures) (at-closes-at .closes-at .ensures) (at-if1 .if2 .left))
-    (field-turn (at-loop .loop .inv) (few-variants (inside-deeper d (start .pre .1 .2)))
-    (next-by _ _ _ (at-loop .loop .inv .rowed) (start .pre .1 .0 .table) (at-shape-in .next-of .ensures) (at-closes-at .closes-at .ensures) (at-if1 .if2 .left)) _ (at-field-ends .field-ends .ensures) (at-if2 .if3 .left)) _ _
-    (at-value2 .value2 .ensures) (at-if3 .if4 .left))
+    (c .before .before .close .ensures _ _ _ _ _ (told (c .before .before .before .before .behind2 .ensures) (fields-last (at-loop .loop .inv) (few-variants (inside-deeper d (start .pre .1 .2))) _ _
+    (last-by _ _ _ (at-loop .loop .inv .rowed) (start .pre .1 .0 .table) (c .before .before .before .before .before .before .before .before .before .before .before .before .before .next-of .ensures) (c .before .before .before .before .before .before .before .before .before .before .before .before .closes-at .ensures) (granted (c .before .before .before .before .before .before .before .before .before .before .before .if2 .left))) (c .before .before .before .before .before .close-fields .ensures _ _ _ _ (c .before .before .before .before .before .before .before .before .before .value2 .ensures)))))
 
 pub structure·structure-spec : {M : Type 1} (t : ℕ) → structure·structure-lts.Closed (structure·structure-callees t) (structure·structure-at t) structure·structure.Post M
 structure·structure-spec t =
@@ -365,29 +390,33 @@ structure·structure-spec t =
     (structure·structure-emit-requires t)
     (structure·structure-add-i t)
     (structure·structure-loop-holds t)
+    (structure·structure-mul-next-of t)
+    (structure·structure-element-copy-out-next-of t)
+    (structure·structure-next-of-requires t)
+    (structure·structure-closes-at-requires t)
     (structure·structure-mul-field t)
     (structure·structure-element-copy-out-field t)
-    (structure·structure-next-of-requires t)
+    (structure·structure-field-ends-requires t)
+    (structure·structure-refused-requires-2 t)
+    (structure·structure-same-length t)
+    (structure·structure-returns-2 t)
     (structure·structure-add-j t)
-    (structure·structure-closes-at-requires t)
     (structure·structure-value-requires t)
+    (structure·structure-behind-requires t)
+    (structure·structure-same-length-2 t)
+    (structure·structure-returns-3 t)
+    (structure·structure-sub-end t)
+    (structure·structure-add-u t)
+    (structure·structure-next-of-requires-2 t)
+    (structure·structure-loop-less t)
+    (structure·structure-loop-again t)
+    (structure·structure-add-j-2 t)
+    (structure·structure-value-requires-2 t)
     (structure·structure-mul-close-fields t)
     (structure·structure-element-copy-out-close-fields t)
     (structure·structure-close-fields-requires t)
-    (structure·structure-behind-requires t)
+    (structure·structure-behind-requires-2 t)
     (structure·structure-add-close t)
     (structure·structure-close-requires t)
-    (structure·structure-same-length t)
-    (structure·structure-returns-2 t)
-    (structure·structure-field-ends-requires t)
-    (structure·structure-refused-requires-2 t)
-    (structure·structure-same-length-2 t)
-    (structure·structure-returns-3 t)
-    (structure·structure-value-requires-2 t)
-    (structure·structure-behind-requires-2 t)
     (structure·structure-same-length-3 t)
     (structure·structure-returns-4 t)
-    (structure·structure-sub-end t)
-    (structure·structure-add-u t)
-    (structure·structure-loop-less t)
-    (structure·structure-loop-again t)

@@ -1,7 +1,7 @@
 -- The needs of `value`, and what answers each.
-use Rattle.reader_cycle.proofs.Characters.{contains-code, typed-within, value-leaf}
 use Prim.Native.Nat.{ℕ}
 use Rattle.reader_basic.proofs.Leaves.{child-before, child-past, child-there}
+use Rattle.reader_cycle.proofs.Characters.{contains-code, typed-within, value-leaf}
 use Rattle.reader_cycle.proofs.Deepening.{told}
 use Rattle.reader_cycle.proofs.Readers.{within-child}
 use borrow.Author.Needs.{needs}
@@ -60,16 +60,16 @@ value-shared-slice-read-code t c =
 value-container-requires : (t : ℕ) → value-lts.Need-container-requires (value-callees t) (value-at t) value.Post
 value-container-requires t c κs =
     let at-match = c .before in
-    let at-if2 = c .before .before .before .before in
-    let at-if1 = c .before .before .before .before .before in
-    let start = c .before .before .before .before .before .before .before .before .before in
+    let at-if2 = at-match .before .before .before in
+    let at-if1 = at-if2 .before in
+    let start = at-if1 .before .before .before .before in
     (omega (arith, start .pre .0), (start .pre .1 .0, within-child _ _ _ (start .pre .1 .1) (at-if1 .if1 .left) (at-if2 .if2 .left), contains-code (start .pre .1 .0 .typed) (at-match .match .keys1)))
 
 value-leaf-requires : (t : ℕ) → value-lts.Need-leaf-requires (value-callees t) (value-at t) value.Post
 value-leaf-requires t c κs =
     let at-if2 = c .before .before .before .before in
-    let at-if1 = c .before .before .before .before .before in
-    let start = c .before .before .before .before .before .before .before .before .before in
+    let at-if1 = at-if2 .before in
+    let start = at-if1 .before .before .before .before in
     within-child _ _ _ (start .pre .1 .1) (at-if1 .if1 .left) (at-if2 .if2 .left)
 
 value-same-length : (t : ℕ) → value-lts.Need-same-length (value-callees t) (value-at t) value.Post
@@ -77,20 +77,22 @@ value-same-length t c = search needs
 
 value-returns-3 : (t : ℕ) → value-lts.Need-returns-3 (value-callees t) (value-at t) value.Post
 value-returns-3 t c =
-    let at-if2 = c .before .before .before .before .before .before .before in
-    let at-if1 = c .before .before .before .before .before .before .before .before in
-    child-there _ _ _ _ _ _ _ _ _ (at-if1 .if1 .left) (at-if2 .if2 .left) (c .before .before .container .ensures)
+    let at-container = c .before .before in
+    let at-if2 = at-container .before .before .before .before .before in
+    let at-if1 = at-if2 .before in
+    child-there _ _ _ _ _ _ _ _ _ (at-if1 .if1 .left) (at-if2 .if2 .left) (at-container .container .ensures)
 
 value-same-length-2 : (t : ℕ) → value-lts.Need-same-length-2 (value-callees t) (value-at t) value.Post
 value-same-length-2 t c = search needs
 
 value-returns-4 : (t : ℕ) → value-lts.Need-returns-4 (value-callees t) (value-at t) value.Post
 value-returns-4 t c =
-    let at-match = c .before .before .before .before in
-    let at-if2 = c .before .before .before .before .before .before .before in
-    let at-if1 = c .before .before .before .before .before .before .before .before in
-    let start = c .before .before .before .before .before .before .before .before .before .before .before .before in
-    child-there _ _ _ _ _ _ _ _ _ (at-if1 .if1 .left) (at-if2 .if2 .left) (value-leaf (start .pre .1 .0 .typed) (at-match .match .rest .1) _ _ _ _ _ _ _ _ _ _ _ _ (c .before .before .leaf .ensures))
+    let at-leaf = c .before .before in
+    let at-match = at-leaf .before .before in
+    let at-if2 = at-match .before .before .before in
+    let at-if1 = at-if2 .before in
+    let start = at-if1 .before .before .before .before in
+    child-there _ _ _ _ _ _ _ _ _ (at-if1 .if1 .left) (at-if2 .if2 .left) (value-leaf (start .pre .1 .0 .typed) (at-match .match .rest .1) _ _ _ _ _ _ _ _ _ _ _ _ (at-leaf .leaf .ensures))
 
 pub value-spec : {M : Type 1} (t : ℕ) → value-lts.Closed (value-callees t) (value-at t) value.Post M
 value-spec t =

@@ -91,9 +91,11 @@ variant·variant-only-basic-requires t c κs = search needs
 
 variant·variant-basic-variant-requires : (t : ℕ) → variant·variant-lts.Need-basic-variant-requires (variant·variant-callees t) (variant·variant-at t) variant·variant.Post
 variant·variant-basic-variant-requires t c κs =
-    let at-if1 = c .before .before .before .before in
-    let at-separator = c .before .before .before .before .before in
-    let start = c .before .before .before .before .before .before .before .before .before in (
+    let at-if2 = c .before in
+    let at-only-basic = at-if2 .before in
+    let at-if1 = at-only-basic .before .before in
+    let at-separator = at-if1 .before in
+    let start = at-separator .before .before .before .before in (
       start .pre .1 .0,
       holds-basic _ _ _ _ (rw (tail (start .args .lead) (start .args .part .now)) at (at-separator .separator .ensures .0))
           (at-if1 .if1 .left) (omega (
@@ -104,7 +106,7 @@ variant·variant-basic-variant-requires t c κs =
             length-take
                 (length (start .args .part .now) - start .args .lead) (drop (start .args .lead) (start .args .part .now)),
           ))
-          ((c .before .before .only-basic .ensures (c .before .if2 .taken)) .0 ∙ ap onlyLetter (tail (start .args .lead + at-separator .separator .result) (start .args .part .now))) ((c .before .before .only-basic .ensures (c .before .if2 .taken)) .1),
+          ((at-only-basic .only-basic .ensures (at-if2 .if2 .taken)) .0 ∙ ap onlyLetter (tail (start .args .lead + at-separator .separator .result) (start .args .part .now))) ((at-only-basic .only-basic .ensures (at-if2 .if2 .taken)) .1),
     )
 
 variant·variant-same-length : (t : ℕ) → variant·variant-lts.Need-same-length (variant·variant-callees t) (variant·variant-at t) variant·variant.Post
@@ -202,10 +204,10 @@ variant·variant-sub-e t c =
 variant·variant-value-requires : (t : ℕ) → variant·variant-lts.Need-value-requires (variant·variant-callees t) (variant·variant-at t) variant·variant.Post
 variant·variant-value-requires t c κs =
     let at-if5 = c .before .before in
-    let at-in-variant = c .before .before .before in
-    let at-if4 = c .before .before .before .before in
-    let at-shapes-of = c .before .before .before .before .before .before in
-    let start = c .before .before .before .before .before .before .before .before .before .before .before .before .before .before .before .before .before .before .before .before .before in (
+    let at-in-variant = at-if5 .before in
+    let at-if4 = at-in-variant .before in
+    let at-shapes-of = at-if4 .before .before in
+    let start = at-shapes-of .before .before .before .before .before .before .before .before .before .before .before .before .before .before .before in (
       omega (arith, level-falls (at-in-variant .in-variant .ensures .deeper (at-if5 .if5 .left)), start .pre .0),
       (
         front-described _ _
@@ -225,16 +227,16 @@ variant·variant-close-variant-requires t c κs =
 variant·variant-same-length-5 : (t : ℕ) → variant·variant-lts.Need-same-length-5 (variant·variant-callees t) (variant·variant-at t) variant·variant.Post
 variant·variant-same-length-5 t c =
     let at-close-variant = c .before .before in
-    let at-value = c .before .before .before .before .before .before in
-    let at-if5 = c .before .before .before .before .before .before .before .before .before in
-    let at-in-variant = c .before .before .before .before .before .before .before .before .before .before in
-    let at-if4 = c .before .before .before .before .before .before .before .before .before .before .before in
-    let at-shapes-of = c .before .before .before .before .before .before .before .before .before .before .before .before .before in
-    let at-if3 = c .before .before .before .before .before .before .before .before .before .before .before .before .before .before .before in
-    let at-type-text = c .before .before .before .before .before .before .before .before .before .before .before .before .before .before .before .before .before .before in
-    let at-if1 = c .before .before .before .before .before .before .before .before .before .before .before .before .before .before .before .before .before .before .before .before .before .before .before in
-    let at-separator = c .before .before .before .before .before .before .before .before .before .before .before .before .before .before .before .before .before .before .before .before .before .before .before .before in
-    let start = c .before .before .before .before .before .before .before .before .before .before .before .before .before .before .before .before .before .before .before .before .before .before .before .before .before .before .before .before in
+    let at-value = at-close-variant .before .before .before .before in
+    let at-if5 = at-value .before .before .before in
+    let at-in-variant = at-if5 .before in
+    let at-if4 = at-in-variant .before in
+    let at-shapes-of = at-if4 .before .before in
+    let at-if3 = at-shapes-of .before .before in
+    let at-type-text = at-if3 .before .before .before in
+    let at-if1 = at-type-text .before .before .before .before .before in
+    let at-separator = at-if1 .before in
+    let start = at-separator .before .before .before .before in
     kept (variant-closed (start .args .part .now) (start .args .lead) (start .args .place) (contextOf (start .args .ride)) (start .args .n)
     (start .args .out .now) (at-separator .separator .result) (rw (tail (start .args .lead) (start .args .part .now)) at
     (at-separator .separator .ensures .0)) (at-if1 .if1 .left) _ _
@@ -249,16 +251,16 @@ variant·variant-same-length-5 t c =
 variant·variant-returns-6 : (t : ℕ) → variant·variant-lts.Need-returns-6 (variant·variant-callees t) (variant·variant-at t) variant·variant.Post
 variant·variant-returns-6 t c =
     let at-close-variant = c .before .before in
-    let at-value = c .before .before .before .before .before .before in
-    let at-if5 = c .before .before .before .before .before .before .before .before .before in
-    let at-in-variant = c .before .before .before .before .before .before .before .before .before .before in
-    let at-if4 = c .before .before .before .before .before .before .before .before .before .before .before in
-    let at-shapes-of = c .before .before .before .before .before .before .before .before .before .before .before .before .before in
-    let at-if3 = c .before .before .before .before .before .before .before .before .before .before .before .before .before .before .before in
-    let at-type-text = c .before .before .before .before .before .before .before .before .before .before .before .before .before .before .before .before .before .before in
-    let at-if1 = c .before .before .before .before .before .before .before .before .before .before .before .before .before .before .before .before .before .before .before .before .before .before .before in
-    let at-separator = c .before .before .before .before .before .before .before .before .before .before .before .before .before .before .before .before .before .before .before .before .before .before .before .before in
-    let start = c .before .before .before .before .before .before .before .before .before .before .before .before .before .before .before .before .before .before .before .before .before .before .before .before .before .before .before .before in
+    let at-value = at-close-variant .before .before .before .before in
+    let at-if5 = at-value .before .before .before in
+    let at-in-variant = at-if5 .before in
+    let at-if4 = at-in-variant .before in
+    let at-shapes-of = at-if4 .before .before in
+    let at-if3 = at-shapes-of .before .before in
+    let at-type-text = at-if3 .before .before .before in
+    let at-if1 = at-type-text .before .before .before .before .before in
+    let at-separator = at-if1 .before in
+    let start = at-separator .before .before .before .before in
     variant-closed _ _ _ _ _ _ _ (rw (tail (start .args .lead) (start .args .part .now)) at (at-separator .separator .ensures .0)) (at-if1 .if1 .left) _
     _ (rw (tail (start .args .lead + at-separator .separator .result) (start .args .part .now)) at (at-type-text .type-text .ensures))
     (at-if3 .if3 .left) _ ((front _ (rw (tail (start .args .lead + at-separator .separator .result) (start .args .part .now)) at

@@ -4,7 +4,7 @@ use Prim.Native.Nat.{_+_}
 use native.Mathlib.Omega.{arith}
 use borrow.Author.Needs.{needs}
 use Rattle.signature.proofs.Letters.{letter-some}
-use Rattle.reader_cycle.proofs.Characters.{at-maybe, number-code}
+use Rattle.reader_cycle.proofs.Characters.{code-maybe, number-code}
 use Rattle.reader_cycle.proofs.codes.held_width.Statement.{statement}
 use Rattle.reader_cycle.proofs.codes.held_width.Tie as tie
 use Rattle.reader_cycle.proofs.codes.number_width.Reads as number-width-reads
@@ -32,7 +32,7 @@ number-width-requires c κs = search needs
 
 returns-3 : tie.Need-returns-3
 returns-3 c = λ z. record {
-  maybe = at-maybe (c .before .before .before .before .before .before .args .text .now) (c .before .before .before .before .before .before .args .at) (c .before .before .before .before .before .before .pre) (c .before .before .before .if1 .left);
+  maybe = code-maybe (c .before .before .before .before .before .before .args .text .now) (c .before .before .before .before .before .before .args .at) (c .before .before .before .before .before .before .pre) (c .before .before .before .if1 .left);
   within = omega (arith, c .before .before .if2 .left);
   number = letter-some (c .before .before .before .before .before .before .args .text .now) (c .before .before .before .before .before .before .args .at + 1) (omega (arith, c .before .before .if2 .left)) ∙ number-code _ _ (c .number-width .ensures) z;
 }

@@ -1,20 +1,16 @@
 // The monthly report: report FIRST LAST < LINES. Standard input is lines of hexadecimal, one frame of type (tamn) a line; standard output
-// is what the lines within the span of seconds say of each sensor. What is counted and printed is proved in the modules; here arguments
-// and input are read and output written, block by block.
-pub mod figures;
-pub mod frame;
-pub mod print;
-pub mod states;
-
-use crate::states::State;
-use crate::states::finish;
-use crate::states::fresh;
-use crate::states::take;
+// is what the lines within the span of seconds say of each sensor. What is counted and printed is proved in the crate `reporting`; here
+// arguments and input are read and output written, block by block.
 use libc::STDERR_FILENO;
 use libc::STDIN_FILENO;
 use libc::STDOUT_FILENO;
 use lines::Number;
 use lines::decimal;
+use reporting::print::print;
+use reporting::states::State;
+use reporting::states::finish;
+use reporting::states::fresh;
+use reporting::states::take;
 
 // A second that stands in the arguments; one of more than 64 bytes is none.
 fn second_given(i: usize) -> Number {
@@ -26,7 +22,7 @@ fn second_given(i: usize) -> Number {
 // Writes the report, for which there is room: 66 lines of 192 bytes.
 fn write_report(state: State, figures: &[u64; 512]) {
     let mut out = [0u8; 12672];
-    let printed = print::print(state, figures, 0, &mut out);
+    let printed = print(state, figures, 0, &mut out);
     let written = printed.written;
     if written == 0 {
         io::write_all(

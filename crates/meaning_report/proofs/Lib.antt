@@ -1,0 +1,4 @@
+pub mod Theorems
+pub mod AnyOrder
+pub mod Table
+pub mod Standing

@@ -13,6 +13,8 @@ use Rattle.lines.proofs.word.Kinds as word-kinds
 use Rattle.lines.proofs.word.Reads as word
 use Rattle.lines.proofs.digit.Kinds as digit-kinds
 use Rattle.lines.proofs.digit.Reads as digit
+use Rattle.lines.proofs.begun.Kinds as begun-kinds
+use Rattle.lines.proofs.begun.Reads as begun
 use Rattle.lines.proofs.bytes.Kinds as bytes-kinds
 use Rattle.lines.proofs.bytes.Reads as bytes
 use Rattle.lines.proofs.decimal.Kinds as decimal-kinds
@@ -44,6 +46,9 @@ word-unique κs a z z′ w w′ p q = (p ∙ sym q, refl)
 
 pub digit-unique : OneAnswer digit-kinds.ps digit-kinds.r digit.Learnt
 digit-unique κs a z z′ w w′ p q = (p .0 ∙ sym (q .0), refl)
+
+pub begun-unique : OneAnswer begun-kinds.ps begun-kinds.r begun.Learnt
+begun-unique κs a z z′ w w′ p q = (p ∙ sym q, refl)
 
 pub bytes-unique : OneAnswer bytes-kinds.ps bytes-kinds.r bytes.Learnt
 bytes-unique κs a z z′ w w′ p q =

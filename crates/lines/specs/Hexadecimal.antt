@@ -31,6 +31,10 @@ unfoldable mutual
   bytesBehind first [] = none
   bytesBehind first (b ∷ l) = pick (ltb (digit b) 16) (before ((16 * first + digit b) ∷ []) (bytesOf l)) none
 
+-- whether a line has a byte, by what is kept of it: a byte that is no digit, a first digit's value, below 16, or a pair
+unfoldable pub hasByte : Bool → ℕ → ℕ → Bool
+hasByte spoilt half kept = pick spoilt true (pick (ltb half 16) true (ltb 0 kept))
+
 -- bytes that have room
 unfoldable pub within : ℕ → Option (List ℕ) → Option (List ℕ)
 within room none = none

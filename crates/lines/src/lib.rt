@@ -6,7 +6,7 @@ ghost use Prim.Native.Nat.{_+_, _*_, _≤_};
 ghost use lib.ListN.{length, take, drop};
 ghost use lib.Seq.{sets};
 ghost use Rattle.lines.specs.Storing.{Stores};
-ghost use Rattle.lines.specs.Hexadecimal.{digit as digitOf, bytesOf, spelt, allDigits, Spells};
+ghost use Rattle.lines.specs.Hexadecimal.{digit as digitOf, hasByte, bytesOf, spelt, allDigits, Spells};
 ghost use Rattle.lines.specs.Decimals.{digits, numeral, numberOf, understood};
 ghost use Rattle.lines.specs.Lines.{more, stored, Gathers};
 ghost use Rattle.lines.specs.Words.{place, wordAt};
@@ -132,6 +132,20 @@ pub fn digit(byte: u8) -> u8
         return byte - 87;
     }
     16
+}
+
+// Whether a line of hexadecimal has a byte, by what is kept of it: whether it is spoilt by a byte that is no digit, the value of a pair's
+// first digit, 16 where none waits, and how many bytes its pairs have spelled.
+pub fn begun(spoilt: bool, half: u8, kept: usize) -> bool
+    ensures { λ r. ⌜ r ≡ hasByte spoilt half kept ⌝ }
+{
+    if spoilt {
+        return true;
+    }
+    if half < 16 {
+        return true;
+    }
+    0 < kept
 }
 
 // Puts the bytes that a text spells at the front of a slice, if it spells bytes and they have room.

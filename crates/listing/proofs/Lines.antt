@@ -12,7 +12,7 @@ use borrow.Author.Tests.{lt-ltb, le-leb, lt-leb, leb-true, leb-false}
 use Rattle.meaning.specs.Choice.{pick}
 use Rattle.meaning.specs.TypeText.{typeOf}
 use Rattle.meaning.specs.Calls.{counts, size, sized, frameOf as frameBehind, frameReading}
-use Rattle.lines.specs.Hexadecimal.{digit, before, bytesOf, bytesBehind}
+use Rattle.lines.specs.Hexadecimal.{digit, hasByte, before, bytesOf, bytesBehind}
 use Rattle.lines.specs.Lines.{more, stored, Keeps}
 use Rattle.lines.proofs.ByteLaws.{before-none, before-before}
 use Rattle.lines.proofs.GatherLaws.{keeps-none, keeps-more}
@@ -53,10 +53,10 @@ pub record Spells (p : List ℕ) (kept half : ℕ) (spoilt : Bool) (frame : List
   pub front : List ℕ
   pub keeps : Keeps 16384 front kept frame
   pub rest : (q : List ℕ) → bytesOf (p ++ q) ≡ restBy spoilt (ltb half 16) half front q
-  pub seen : pick spoilt true (pick (ltb half 16) true (ltb 0 kept)) ≡ nonempty p
+  pub seen : hasByte spoilt half kept ≡ nonempty p
 
 pub spells-none : (frame : List ℕ) → length frame ≡ 16384 → Spells [] 0 16 false frame
-unfolding restBy
+unfolding restBy hasByte
 spells-none frame h =
     record { front = []; keeps = keeps-none 16384 frame h; rest = λ q. before-none (bytesOf q); seen = refl }
 
@@ -70,7 +70,7 @@ module _ {p : List ℕ} {kept half : ℕ} {spoilt : Bool} {frame : List ℕ} (s 
   behind q = ap bytesOf (append-assoc p (b ∷ []) q) ∙ s .rest (b ∷ q)
 
   pub spells-other : ltb (digit b) 16 ≡ false → Spells (p ++ (b ∷ [])) kept half true frame
-  unfolding restBy
+  unfolding restBy hasByte
   spells-other h = record {
     front = s .front;
     keeps = s .keeps;
@@ -79,6 +79,7 @@ module _ {p : List ℕ} {kept half : ℕ} {spoilt : Bool} {frame : List ℕ} (s 
   }
 
   pub spells-first : ltb (digit b) 16 ≡ true → ltb half 16 ≡ false → Spells (p ++ (b ∷ [])) kept (digit b) spoilt frame
+  unfolding hasByte
   spells-first h k = record {
     front = s .front;
     keeps = s .keeps;
@@ -90,7 +91,7 @@ module _ {p : List ℕ} {kept half : ℕ} {spoilt : Bool} {frame : List ℕ} (s 
   }
 
   pub spells-second : ltb (digit b) 16 ≡ true → ltb half 16 ≡ true → Spells (p ++ (b ∷ [])) (more 16384 kept) 16 spoilt (stored 16384 frame kept (16 * half + digit b))
-  unfolding more
+  unfolding more hasByte
   spells-second h k = record {
     front = s .front ++ ((16 * half + digit b) ∷ []);
     keeps = keeps-more (16 * half + digit b) (s .keeps);

@@ -3,17 +3,14 @@ use mathlib.Core.Path.{_≡_, sym, ap, ap₂, _∙_}
 use mathlib.Core.List.{List, []}
 use mathlib.Core.Bool.{Bool, true, false}
 use Prim.Native.Nat.{ℕ, _+_, _*_, _≤_, _<_}
-use lib.Dec.{ltb}
 use lib.ListN.{length, take}
 use borrow.Author.Tests.{lt-ltb, le-ltb, le-leb, lt-leb, eq-eqb, ne-eqb}
-use Rattle.meaning.specs.Choice.{pick}
 use Rattle.meaning.specs.Calls.{Counts, counts, size}
 use Rattle.signature.specs.Places.{isType}
 use Rattle.lines.specs.Hexadecimal.{digit}
 use Rattle.lines.specs.Lines.{more, stored}
 use Rattle.listing.specs.Listing.{printed, nextNumber}
 use Rattle.listing.specs.States.{Machine, machine, stateOf, ended, lettered, paired, halved, spoiled, valued, step, frameBy, frameOf, answerOf, lineText, output, begun, ending, finalText}
-use Rattle.listing.specs.declared.State.{State}
 
 module _ (m : Machine) (b : ℕ) where
   pub step-ended : b ≡ 10 → step m b ≡ ended m
@@ -102,22 +99,6 @@ module _ (m : Machine) (t : List ℕ) (is : t ≡ take (m .state .letters) (m .t
   unfolding frameOf
   answer-size f e h k l w =
       ap₂ (λ (x y : List ℕ). size x false 0 y) is e ∙ by-size _ _ _ _ k (le-ltb (m .state .half) 16 l) (le-leb (m .state .kept) 16384 w) ∙ answer-frame h
-
--- whether a line has a byte
-module _ (s : State) where
-  pub begun-spoilt : s .spoilt ≡ true → true ≡ begun s
-  unfolding begun
-  begun-spoilt h = ap (λ (x : Bool). pick x true (pick (ltb (s .half) 16) true (ltb 0 (s .kept)))) (sym h)
-
-  pub begun-odd : s .spoilt ≡ false → s .half < 16 → true ≡ begun s
-  unfolding begun
-  begun-odd h k =
-      ap₂ (λ (x y : Bool). pick x true (pick y true (ltb 0 (s .kept)))) (sym h) (sym (lt-ltb (s .half) 16 k))
-
-  pub begun-even : s .spoilt ≡ false → 16 ≤ s .half → ltb 0 (s .kept) ≡ begun s
-  unfolding begun
-  begun-even h k =
-      ap₂ (λ (x y : Bool). pick x true (pick y true (ltb 0 (s .kept)))) (sym h) (sym (le-ltb (s .half) 16 k))
 
 -- what a line end, a byte and the end of the input print
 pub line-type : (m : Machine) → m .state .line ≡ 0 → [] ≡ lineText m

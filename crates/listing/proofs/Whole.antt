@@ -79,7 +79,7 @@ module _ (type : List ℕ) (n : ℕ) (p : List ℕ) (m : Machine) (f : InFrame t
       rw (ne-eqb (m .state .line) 0 (λ z. f .positive (sym (f .numbered) ∙ z))) (ap₂ (λ k c. printed k c) (f .numbered) right-answer)
 
   right-ending : ending m ≡ listedFrom type n (lastLine p)
-  unfolding ending begun lastLine listedFrom
+  unfolding ending lastLine listedFrom
   right-ending = ap (λ (x : Bool). pick x (lineText m) []) (f .spells .seen) ∙ go p right-line
     where
       go : (q : List ℕ) → lineText m ≡ printed n (answer type q) → pick (nonempty q) (lineText m) [] ≡ listedFrom type n (lastLine q)

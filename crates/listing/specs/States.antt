@@ -10,7 +10,7 @@ use Rattle.meaning.specs.Choice.{pick}
 use Rattle.meaning.specs.Refusals.{typeRefused, overLimit, notHexadecimal}
 use Rattle.meaning.specs.Calls.{Counts, counts, size}
 use Rattle.lines.specs.Storing.{over}
-use Rattle.lines.specs.Hexadecimal.{digit}
+use Rattle.lines.specs.Hexadecimal.{digit, hasByte}
 use Rattle.lines.specs.Lines.{more, stored}
 use Rattle.signature.specs.Places.{isType}
 use Rattle.listing.specs.Listing.{mostBytes, printed, nextNumber}
@@ -94,8 +94,8 @@ unfoldable pub output : Machine → ℕ → List ℕ
 output m b = pick (eqb b 10) (lineText m) []
 
 -- whether the present frame's line has a byte
-unfoldable pub begun : State → Bool
-begun s = pick (s .spoilt) true (pick (ltb (s .half) 16) true (ltb 0 (s .kept)))
+abbrev pub begun : State → Bool
+begun s = hasByte (s .spoilt) (s .half) (s .kept)
 
 -- what the end of the input prints: a last line without a line end is a line if it has a byte
 unfoldable pub ending : Machine → List ℕ

@@ -1,5 +1,6 @@
 // The frame lister's work: input comes in blocks, and the text to print goes out through a lent slice. The first line is the type,
 // each other line a frame in hexadecimal. Memory is fixed, and a byte costs the same in a line of any length.
+use lines::begun;
 use lines::digit;
 use lines::front;
 use lines::keep;
@@ -17,7 +18,7 @@ ghost use Rattle.meaning.specs.Calls.{counts};
 ghost use Rattle.lines.specs.Storing.{Puts};
 ghost use Rattle.reader.specs.Answers.{countsOf};
 ghost use Rattle.listing.specs.Listing.{printed, nextNumber};
-ghost use Rattle.listing.specs.States.{machine, freshState, step as stepOf, answerOf, lineText, output, begun as hasByte, Lists, Finishes};
+ghost use Rattle.listing.specs.States.{machine, freshState, step as stepOf, answerOf, lineText, output, Lists, Finishes};
 
 // Where the input stands. Line 0 is the type; a frame's line has its number, which stays at the largest. `letters` counts the type's
 // bytes, to 257, and `kept` the frame's, to 16,385: one above what the memories hold. `half` is the value of a pair's first digit, 16
@@ -90,22 +91,10 @@ pub fn finish(state: State, text: &[u8; 256], frame: &[u8; 16384], out: &mut [u8
     if out.len() < 84 {
         return 0;
     }
-    if !begun(state) {
+    if !begun(state.spoilt, state.half, state.kept) {
         return 0;
     }
     put_line(state, text, frame, out, 0)
-}
-
-fn begun(s: State) -> bool
-    ensures { λ r. ⌜ r ≡ hasByte s ⌝ }
-{
-    if s.spoilt {
-        return true;
-    }
-    if s.half < 16 {
-        return true;
-    }
-    0 < s.kept
 }
 
 // What a byte leaves of the state and the memories.

@@ -1,7 +1,7 @@
 -- What a character of a type text says, and a type by the character that it begins with. Assumes nothing.
 use mathlib.Core.Path.{_≡_, refl, sym, ap, subst⁻¹, _∙_}
 use mathlib.Core.Logic.{_⊎_, inl, inr}
-use mathlib.Core.List.{List, [], _∷_}
+use mathlib.Core.List.{List, _∷_}
 use mathlib.Core.Option.{Option, none, some}
 use mathlib.Core.Bool.{Bool, true, false, false≢true}
 use Prim.Native.Nat.{ℕ, suc, _+_, _-_, _≤_, _<_}
@@ -13,7 +13,7 @@ use borrow.Author.Tests.{leb-true, leb-false}
 use Rattle.meaning.specs.Choice.{pick}
 use Rattle.meaning.specs.Depths.{Depths}
 use Rattle.meaning.specs.Padding.{Aligns}
-use Rattle.meaning.specs.Types.{Number as NumberType, Text as TextType, byte, int16, uint16, int32, uint32, int64, uint64, double, string, objectPath, signature, Basic, bool, number, text, Tree, basic, variant, maybe, array, dictionary, structure}
+use Rattle.meaning.specs.Types.{Number as NumberType, Text as TextType, Basic, bool, number, text, Tree, basic, variant, maybe, array, dictionary, structure}
 use Rattle.meaning.specs.Letters.{numberLetter, textLetter, basicLetter}
 use Rattle.meaning.specs.TypeText.{basicAmong, basicOf, found, firstType}
 use Rattle.meaning.specs.Reading.{Reader, child, readBool}
@@ -23,7 +23,7 @@ use Rattle.signature.specs.Places.{basicKind, letterBy, letterOf, letterAt, fie
 use Rattle.signature.specs.Steps.{keyAlignment, keyFixed}
 use Rattle.signature.specs.Trees.{treeAt, behindBy, Typed, Rowed}
 use Rattle.signature.specs.declared.Letter.{Letter}
-use Rattle.signature.specs.declared.Letter.the-variants.{Bad, Boolean, Number, Text, Variant, Maybe, Array, OpenStructure, CloseStructure, OpenEntry, CloseEntry}
+use Rattle.signature.specs.declared.Letter.the-variants.{Bad, Number, Text, Variant, Maybe, Array, OpenStructure, CloseStructure, OpenEntry, CloseEntry}
 use Rattle.signature.proofs.Letters.{letter-some, mark, cut}
 use Rattle.signature.proofs.Dispatch.{Shown, shown, is-last, is-next}
 use Rattle.signature.proofs.TreeLaws.{typed-by}
@@ -31,8 +31,7 @@ use Rattle.reader_basic.specs.Answers.{Done, Whole, Between}
 use Rattle.reader_basic.specs.Parts.{keyReader}
 use Rattle.reader_basic.specs.declared.Answer.{Answer}
 use Rattle.reader_basic.proofs.Leaves.{child-there}
-use Rattle.reader_cycle.specs.Codes.{widthBy, isText, Held, HeldWidth}
-use Rattle.reader_cycle.specs.Children.{onlyLetter, OnlyBasic}
+use Rattle.reader_cycle.specs.Codes.{widthBy, isText}
 use Rattle.reader_cycle.specs.Places.{Contains, readerOf}
 use Rattle.reader_cycle.proofs.Readers.{reading-basic, width-by}
 use Rattle.reader_cycle.proofs.ItemLaws.{key-reader}

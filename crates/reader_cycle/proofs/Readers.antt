@@ -1,43 +1,32 @@
 -- A law for each way out of a value and of a container, and what tells the containers apart. Assumes nothing.
-use mathlib.Core.Path.{_≡_, refl, ap, sym, _∙_, subst, subst⁻¹}
-use types.Run.{OneOf, miss}
-use denote.Enum.Declared.{tagOf}
-use mathlib.Core.List.{List, [], _∷_}
-use mathlib.Core.Bool.{Bool, true, false}
-use Prim.Native.Nat.{ℕ, zero, suc, _+_, _-_, _≤_, _<_}
+use mathlib.Core.Path.{_≡_, refl}
+use mathlib.Core.List.{List}
+use mathlib.Core.Bool.{Bool}
+use Prim.Native.Nat.{ℕ, zero, suc, _+_, _-_, _≤_}
 use native.Mathlib.Omega.{arith}
-use lib.Dec.{ltb, eqb}
-use lib.ListN.{length, take, drop, getD, length-take, length-drop}
-use borrow.Author.Tests.{eq-eqb, ne-eqb, le-leb, lt-leb, ltb-false}
-use Rattle.meaning.specs.Choice.{pick}
-use Rattle.meaning.specs.Depths.{Depths}
-use Rattle.meaning.specs.Types.{Number as NumberType, Text as TextType, numberWidth, Basic, bool, number, text, Tree, basic, variant, maybe, array, dictionary, structure, alignment, fixed}
+use lib.ListN.{length, take, drop, length-take, length-drop}
+use Rattle.meaning.specs.Types.{Number as NumberType, Text as TextType, numberWidth, Basic, bool, number, text, Tree, basic, variant, maybe, array, dictionary, structure, alignment}
 use Rattle.meaning.specs.Letters.{numberLetter, textLetter}
-use Rattle.meaning.specs.TypeText.{firstType}
-use Rattle.meaning.specs.Events.{event, present, nothing, opening}
-use Rattle.meaning.specs.Offsets.{encodedWidth}
-use Rattle.meaning.specs.Outcome.{Outcome, done, after, chain, closingAt, enclosed}
-use Rattle.meaning.specs.Reading.{arrayIn, fieldsIn, structureBody, structureIn, Reader, child, within, readBool, readNumber, readText, readBasic, endByte, presentIn, maybeIn, pad, readMaybe, readTree, readVariant, readArray, readStructure, reading}
+use Rattle.meaning.specs.Events.{nothing}
+use Rattle.meaning.specs.Outcome.{chain}
+use Rattle.meaning.specs.Reading.{readBool, readNumber, readText, readBasic, pad, readMaybe, readTree, readVariant, readArray, readStructure, reading}
 use Rattle.meaning.specs.Padding.{Aligns}
 use Rattle.meaning.proofs.TypeLaws.{number-aligned as aligned-number}
 use Rattle.container_depths.specs.Opening.{depthsOf}
 use Rattle.de.specs.Parts.{paddingAt}
 use Rattle.utils.specs.declared.Checked as leafs
 use Rattle.container_depths.specs.declared.ContainerDepths.{ContainerDepths}
-use Rattle.signature.specs.Places.{basicKind, letterAt}
-use Rattle.signature.specs.declared.Letter.{Letter}
-use Rattle.signature.specs.declared.Letter.the-variants.{Boolean, Number, Text, Variant, Maybe, Array, OpenStructure}
+use Rattle.signature.specs.Places.{letterAt}
+use Rattle.signature.specs.declared.Letter.the-variants.{Boolean, Number, Text, Variant}
 use Rattle.signature.specs.declared.shapes.Shape.{Shape}
-use Rattle.signature.specs.Trees.{treeAt, behindBy, Typed, fieldsAt, Described}
-use Rattle.signature.proofs.TreeLaws.{described-alignment, described-aligned, maybe-tree, structure-tree, structure-fixed, structure-alignment}
-use Rattle.signature.proofs.Letter.{the-type}
-use Rattle.signature.proofs.Dispatch.{Shown, shown, is-boolean, is-number, is-text, is-variant}
-use Rattle.events.specs.Slices.{nextEvent, put}
+use Rattle.signature.specs.Trees.{treeAt, Typed, Described}
+use Rattle.signature.proofs.TreeLaws.{described-alignment, described-aligned}
+use Rattle.signature.proofs.Dispatch.{is-boolean, is-number, is-text, is-variant}
 use Rattle.reader_basic.specs.Answers.{Done}
-use Rattle.reader_cycle.specs.Places.{Contains, readerOf, readersOf, bodyIn}
+use Rattle.reader_cycle.specs.Places.{Contains, readerOf, bodyIn}
 use Rattle.reader_basic.specs.Parts.{Within}
 use Rattle.reader_basic.specs.declared.Answer.{Answer}
-use Rattle.reader_basic.proofs.Answers.{answer, refusing, single, wider, after-event, both, stopped, ended, ended-refused}
+use Rattle.reader_basic.proofs.Answers.{answer, both, stopped}
 use Rattle.reader_basic.proofs.Leaves.{Pads, pads-first, pads-done}
 use Rattle.reader_cycle.proofs.Deepening.{few-variants}
 
@@ -119,56 +108,7 @@ module _ (text shapes : List ℕ) (s : Shape) (part : List ℕ) (place position 
       (both (length part) (length part) (length part - p .value) (length part) (length part) (length part - p .value) n l l l′ _ (bodyIn position big (d .variant) (treeAt text (s .at)) d place part) (answer (p .refusal) (p .value) n) r z (omega arith) (omega arith)
       (pads-done n l container-pads) g)
 
--- ---- the ways out of value, by the letter
-
-module _ (text : List ℕ) (at : ℕ) (t : Typed text at) (position : ℕ) (big : Bool) (nested : ℕ) (D : Depths) (k : ℕ) (part : List ℕ) (end len n : ℕ) (l l′ : List ℕ) (r : Answer) where
-  pub value-bool : letterAt text at ≡ Boolean → ((d : Depths) → Done (readBool d k part) end len n l l′ r) → Done (readerOf position big nested (treeAt text at) D k part) end len n l l′ r
-  value-bool e g = subst⁻¹ (λ (R : Reader). Done (R D k part) end len n l l′ r) (reads-bool text at t position big nested e) (g D)
-
-  pub value-number : (c w : ℕ) → letterAt text at ≡ Number c w → ((d : Depths) → Done (readNumber position big c w d k part) end len n l l′ r) → Done (readerOf position big nested (treeAt text at) D k part) end len n l l′ r
-  value-number c w e g = subst⁻¹ (λ (R : Reader). Done (R D k part) end len n l l′ r) (reads-number text at t position big nested c w e) (g D)
-
-  pub value-text : (c : ℕ) → letterAt text at ≡ Text c → ((d : Depths) → Done (readText c d k part) end len n l l′ r) → Done (readerOf position big nested (treeAt text at) D k part) end len n l l′ r
-  value-text c e g = subst⁻¹ (λ (R : Reader). Done (R D k part) end len n l l′ r) (reads-text text at t position big nested c e) (g D)
-
--- the numbers of the letters that are no basic one, and of those that begin no maybe, array or structure
-abbrev notBasic : List ℕ
-notBasic = 0 ∷ 1 ∷ 5 ∷ 6 ∷ 7 ∷ 8 ∷ 9 ∷ 10 ∷ 11 ∷ []
-
-abbrev notNested : List ℕ
-notNested = 0 ∷ 1 ∷ 2 ∷ 3 ∷ 4 ∷ 9 ∷ 10 ∷ 11 ∷ []
-
--- a letter that is no basic one begins a container
-basic-not : (b : Basic) → OneOf notBasic (tagOf the-type (basicKind b)) → ⊥
-basic-not bool h = miss notBasic 2 tt h
-basic-not (number c) h = miss notBasic 3 tt h
-basic-not (text c) h = miss notBasic 4 tt h
-
-pub contains-by : (signature : List ℕ) (at : ℕ) (k : Letter) → Typed signature at → k ≡ letterAt signature at → OneOf notBasic (tagOf the-type k) → Contains (treeAt signature at)
-contains-by signature at k t e h = go (treeAt signature at) (shown signature at _ _ (t .found))
-  where
-    go : (s : Tree) → Shown signature at s (behindBy (firstType (drop at signature))) → Contains s
-    go (basic b) w = absurd (basic-not b (subst (λ (x : Letter). OneOf notBasic (tagOf the-type x)) (e ∙ w .letter) h))
-    go variant w = tt
-    go (maybe s) w = tt
-    go (array s) w = tt
-    go (dictionary b s) w = tt
-    go (structure ts) w = tt
-
--- and one that begins no maybe, array or structure begins a variant
-pub variant-by : (signature : List ℕ) (at : ℕ) (k : Letter) → Typed signature at → k ≡ letterAt signature at → Contains (treeAt signature at) → OneOf notNested (tagOf the-type k) → treeAt signature at ≡ variant
-variant-by signature at k t e c h = go (treeAt signature at) (shown signature at _ _ (t .found)) c
-  where
-    tags : (x : Letter) → letterAt signature at ≡ x → OneOf notNested (tagOf the-type x)
-    tags x q = subst (λ (x : Letter). OneOf notNested (tagOf the-type x)) (e ∙ q) h
-
-    go : (s : Tree) → Shown signature at s (behindBy (firstType (drop at signature))) → Contains s → s ≡ variant
-    go (basic b) w c = absurd c
-    go variant w c = refl
-    go (maybe s) w c = absurd (miss notNested 6 tt (tags Maybe (w .letter)))
-    go (array s) w c = absurd (miss notNested 7 tt (tags Array (w .letter)))
-    go (dictionary b s) w c = absurd (miss notNested 7 tt (tags Array (w .letter)))
-    go (structure ts) w c = absurd (miss notNested 8 tt (tags OpenStructure (w .letter)))
+-- ---- what stands in a container
 
 pub reads-variant : (signature : List ℕ) (at : ℕ) → Typed signature at → letterAt signature at ≡ Variant → treeAt signature at ≡ variant
 reads-variant signature at t e = is-variant signature at _ _ (t .found) e .0

@@ -1,5 +1,5 @@
 -- What rides along in one number: taken apart, and with one more container open. Assumes nothing.
-use mathlib.Core.Path.{_≡_, ap, sym, subst, subst⁻¹, _∙_}
+use mathlib.Core.Path.{_≡_, sym, subst, subst⁻¹}
 use mathlib.Core.List.{List}
 use mathlib.Core.Bool.{Bool, true, false}
 use Prim.Native.Nat.{ℕ, _+_, _*_, _/_, _%_, _≤_, _<_}
@@ -9,36 +9,37 @@ use Rattle.meaning.specs.Depths as Depth
 use Rattle.meaning.specs.Depths.{Depths, Opened, depths, total, depthRefusal, opened}
 use Rattle.meaning.proofs.DepthLaws as limit
 use Rattle.meaning.specs.Types.{Tree}
-use Rattle.meaning.specs.Outcome.{Outcome, chain, passing}
-use Rattle.meaning.specs.Reading.{child, childStep, elements, endPadding}
-use Rattle.utils.specs.declared.Checked.{Checked}
-use Rattle.de.specs.Parts.{paddingAt}
-use Rattle.signature.specs.declared.Letter.{Letter}
-use Rattle.signature.specs.declared.Letter.the-variants.{Number}
+use Rattle.meaning.specs.Reading.{childStep, elements}
 use Rattle.framing_offsets.specs.declared.OffsetTable.{OffsetTable}
 use Rattle.container_depths.specs.Opening.{depthsOf}
 use Rattle.reader_basic.specs.Answers.{Done}
-use Rattle.reader_basic.specs.Parts.{Inside, numberBy, readingBy, keyReader, elementsBy}
+use Rattle.reader_basic.specs.Parts.{Inside, numberBy, readingBy, elementsBy}
 use Rattle.reader_basic.specs.declared.Answer.{Answer}
 use Rattle.reader_cycle.specs.Places.{readerOf, valueIn}
 use Rattle.reader_basic.specs.declared.Context.{Context}
 use Rattle.reader_cycle.specs.Rides.{openIn, contextOf, Begins}
 use Rattle.reader_cycle.specs.Openings.{Deeper, Opens}
-use Rattle.reader_cycle.specs.declared.opening.Inner.{Inner}
 
 -- ---- numbers
 
-by-255 : (d q t : ℕ) → d ≡ 255 * q + t → t < 255 → d % 255 ≡ t
-by-255 d q t e h = omega arith
+fourth-byte : (p k t low : ℕ) → p ≡ 16777216 * (256 * k + t) + low → low < 16777216 → t < 256 → p / 16777216 % 256 ≡ t
+fourth-byte p k t low e h i = omega arith
 
-by-bytes : (d x y z s a v m : ℕ) → d ≡ 256 * x + s → x ≡ 256 * y + a → y ≡ 256 * z + v → z ≡ m → d ≡ 255 * (a + 257 * v + 65793 * m) + (s + a + v + m)
+by-bytes : (d x y z s a v m : ℕ) → d ≡ 256 * x + s → x ≡ 256 * y + a → y ≡ 256 * z + v → z ≡ m → d ≡ s + 256 * a + 65536 * v + 16777216 * m
 by-bytes d x y z s a v m e f g h = omega arith
 
--- the sum of four bytes is what is left over by 255
-bytes-sum : (d : ℕ) → d < 4294967296 → d % 256 + d / 256 % 256 + d / 65536 % 256 + d / 16777216 % 256 < 255 → d % 255 ≡ d % 256 + d / 256 % 256 + d / 65536 % 256 + d / 16777216 % 256
-bytes-sum d h i =
-    by-255 d (d / 256 % 256 + 257 * (d / 65536 % 256) + 65793 * (d / 16777216 % 256)) (d % 256 + d / 256 % 256 + d / 65536 % 256 + d / 16777216 % 256)
+folded : (d s a v m : ℕ) → d ≡ s + 256 * a + 65536 * v + 16777216 * m → d * 16843009 ≡ 16777216 * (256 * (a + 257 * v + 65793 * m) + (s + a + v + m)) + (65793 * s + 65792 * a + 65536 * v)
+folded d s a v m e = omega arith
+
+-- the sum of four bytes is the fourth byte of their number by a one in each
+bytes-sum : (d : ℕ) → d < 4294967296 → d % 256 + d / 256 % 256 + d / 65536 % 256 + d / 16777216 % 256 < 255
+    → d * 16843009 / 16777216 % 256 ≡ d % 256 + d / 256 % 256 + d / 65536 % 256 + d / 16777216 % 256
+bytes-sum d h i = go (d % 256) (d / 256 % 256) (d / 65536 % 256) (d / 16777216 % 256)
     (by-bytes d (d / 256) (d / 65536) (d / 16777216) (d % 256) (d / 256 % 256) (d / 65536 % 256) (d / 16777216 % 256) (omega arith) (omega arith) (omega arith) (omega arith)) i
+  where
+    go : (s a v m : ℕ) → d ≡ s + 256 * a + 65536 * v + 16777216 * m → s + a + v + m < 255 → d * 16843009 / 16777216 % 256 ≡ s + a + v + m
+    go s a v m e f =
+        fourth-byte (d * 16843009) (a + 257 * v + 65793 * m) (s + a + v + m) (65793 * s + 65792 * a + 65536 * v) (folded d s a v m e) (omega arith) (omega arith)
 
 same-depths : {s a v m s′ a′ v′ m′ : ℕ} → s ≡ s′ → a ≡ a′ → v ≡ v′ → m ≡ m′ → depths s a v m ≡ depths s′ a′ v′ m′
 same-depths e f g h = rw (e, f, g, h)
@@ -93,7 +94,7 @@ pub shallow : (r : ℕ) → depthRefusal (depthsOf (contextOf r .depths)) ≡ 0 
 unfolding contextOf
 shallow r h = let w = limit.limits _ _ _ _ h in record { structure = w .structure; array = w .array; total = w .total }
 
-pub full-by : (r : ℕ) → r ≤ 18446744073709551615 → Shallow r → r / 4294967296 % 255 ≡ total (depthsOf (contextOf r .depths))
+pub full-by : (r : ℕ) → r ≤ 18446744073709551615 → Shallow r → r / 4294967296 * 16843009 / 16777216 % 256 ≡ total (depthsOf (contextOf r .depths))
 unfolding contextOf
 full-by r f w = bytes-sum (r / 4294967296) (omega arith) (omega (arith, w .total))
 
@@ -176,16 +177,6 @@ module _ (r : ℕ) (w : Shallow r) where
 pub inside-as : {k c : Context} {len place : ℕ} → k ≡ c → Inside len place c → Inside len place k
 inside-as {len = len} {place} e w = subst⁻¹ (λ (x : Context). Inside len place x) e w
 
-pub padding-as : {x y : ℕ} (place j a : ℕ) (part : List ℕ) {p : Checked} → x ≡ y → p ≡ paddingAt (x + place) j a part → p ≡ paddingAt (y + place) j a part
-padding-as place j a part e h = h ∙ ap (λ (x : ℕ). paddingAt (x + place) j a part) e
-
-module _ {x y : ℕ} (e : x ≡ y) (f : Bool) (a place : ℕ) (part : List ℕ) (j : ℕ) (o : Outcome) {end len n : ℕ} {l l′ : List ℕ} {r : Answer} where
-  pub end-as : Done (endPadding x f a place part j o) end len n l l′ r → Done (endPadding y f a place part j o) end len n l l′ r
-  end-as d = subst (λ (z : ℕ). Done (endPadding z f a place part j o) end len n l l′ r) e d
-
-  pub fields-as : (more : ℕ) → Done (chain (endPadding x f a place part j o) (passing more)) end len n l l′ r → Done (chain (endPadding y f a place part j o) (passing more)) end len n l l′ r
-  fields-as more d = subst (λ (z : ℕ). Done (chain (endPadding z f a place part j o) (passing more)) end len n l l′ r) e d
-
 module _ {k c : Context} (e : k ≡ c) (code w place : ℕ) (part : List ℕ) {end len n : ℕ} {l l′ : List ℕ} {r : Answer} where
   pub number-as : ((d : Depths) → Done (numberBy k code w d place part) end len n l l′ r) → (d : Depths) → Done (numberBy c code w d place part) end len n l l′ r
   number-as g d = subst (λ (x : Context). Done (numberBy x code w d place part) end len n l l′ r) e (g d)
@@ -199,10 +190,6 @@ pub numbers-as : {k c : Context} → k ≡ c → (code w place : ℕ) (part : Li
     → (d : Depths) (b : ℕ) → Done (elements (length part) (childStep (numberBy c code w) d place part b) (length part) lead) end len n l l′ r
 numbers-as e code w place part lead {end} {len} {n} {l} {l′} {r} g d b =
     subst (λ (x : Context). Done (elements (length part) (childStep (numberBy x code w) d place part b) (length part) lead) end len n l l′ r) e (g d b)
-
-pub key-as : {k c : Context} → k ≡ c → (key : Letter) (place j stop : ℕ) (part : List ℕ) {end len n : ℕ} {l l′ : List ℕ} {r : Answer}
-    → ((d : Depths) → Done (child (keyReader (k .position) (k .big) key d) place part j stop) end len n l l′ r) → (d : Depths) → Done (child (keyReader (c .position) (c .big) key d) place part j stop) end len n l l′ r
-key-as e key place j stop part {end} {len} {n} {l} {l′} {r} g d = subst (λ (x : Context). Done (child (keyReader (x .position) (x .big) key d) place part j stop) end len n l l′ r) e (g d)
 
 -- a reading at the position and in the order that a number begins with
 pub begun : {position : ℕ} {big : Bool} {ride : ℕ} → Begins position big ride → (t : Tree) (place : ℕ) (part : List ℕ) {end len n : ℕ} {l l′ : List ℕ} {r : Answer}

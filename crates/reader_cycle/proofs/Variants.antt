@@ -1,23 +1,23 @@
 -- A law for each way out of the reader of variants. Assumes nothing.
-use mathlib.Core.Path.{_≡_, refl, ap, sym, subst, subst⁻¹, _∙_}
+use mathlib.Core.Path.{_≡_, refl, ap, sym, _∙_}
 use mathlib.Core.List.{List, [], _∷_, _++_, append-assoc}
 use mathlib.Core.Option.{some}
 use mathlib.Core.Bool.{Bool, true, false}
-use Prim.Native.Nat.{ℕ, zero, suc, _+_, _-_, _≤_, _<_}
+use Prim.Native.Nat.{ℕ, _+_, _-_, _≤_}
 use native.Mathlib.Omega.{arith}
 use lib.Dec.{eqb}
-use lib.ListN.{length, drop, length-drop, drop-of-length-le}
-use borrow.Author.Tests.{eq-eqb, ne-eqb, eqb-true, eqb-false}
+use lib.ListN.{length, drop, drop-of-length-le}
+use borrow.Author.Tests.{eq-eqb, ne-eqb, eqb-true}
 use Rattle.meaning.specs.Choice.{pick}
 use Rattle.meaning.specs.Depths as Depth
 use Rattle.meaning.specs.Depths.{Depths}
 use Rattle.meaning.specs.Texts.{withoutFinalNul, textRefusal, noNul, utf8, utf8From, afterByte, following}
-use Rattle.meaning.specs.Types.{Tree, Number, byte, int16, uint16, int32, uint32, int64, uint64, double, string, objectPath, signature, Basic, bool, number, text, basic}
+use Rattle.meaning.specs.Types.{Tree, byte, int16, uint16, int32, uint32, int64, uint64, double, string, objectPath, signature, Basic, bool, number, text, basic}
 use Rattle.meaning.specs.Letters.{basicLetter}
 use Rattle.meaning.specs.TypeText.{typeOf, typeText}
 use Rattle.meaning.specs.Events.{Event, event, textEvent, opening, closing}
 use Rattle.meaning.specs.Outcome.{Outcome, done, refused, after, chain, closingAt, enclosed}
-use Rattle.meaning.specs.Reading.{Reader, child, textAs, separator, remaining, within, variantValue, variantType, variantTyped, variantBody, variantIn, reading}
+use Rattle.meaning.specs.Reading.{Reader, child, textAs, separator, remaining, variantValue, variantType, variantTyped, variantBody, variantIn, reading}
 use Rattle.meaning.proofs.TypeTextLaws.{typeOf-typeText}
 use Rattle.container_depths.specs.Opening.{depthsOf}
 use Rattle.signature.specs.Places.{isType, letterAt, basicKind}
@@ -29,7 +29,7 @@ use Rattle.signature.proofs.Answers.{judged-none}
 use Rattle.signature.proofs.Letters.{Key, key-at}
 use Rattle.events.specs.Slices.{nextEvent, put, putAll, advance}
 use Rattle.reader_basic.specs.Answers.{Done, From}
-use Rattle.reader_basic.specs.Parts.{keyReader, KeyAligned}
+use Rattle.reader_basic.specs.Parts.{keyReader}
 use Rattle.reader_basic.specs.declared.Answer.{Answer}
 use Rattle.reader_basic.specs.declared.Context.{Context}
 use Rattle.reader_basic.proofs.Answers.{answer, refusing, single, after-event, both, stopped, ended}
@@ -39,7 +39,7 @@ use Rattle.reader_cycle.specs.declared.opening.Inner.{Inner}
 use Rattle.reader_cycle.specs.Places.{readerOf, bodyIn, valueAt, valueIn, insideOf, variantTree}
 use Rattle.reader_cycle.proofs.Deepening.{too-deep, within-open, same-inside}
 use Rattle.reader_cycle.proofs.Readers.{reading-basic}
-use Rattle.reader_cycle.proofs.ItemLaws.{key-reader, key-aligned}
+use Rattle.reader_cycle.proofs.ItemLaws.{key-reader}
 
 -- ---- events in front of a chain
 
@@ -246,9 +246,6 @@ basic-type l kind e k = go (eqb (length l) 1) refl
     go false h = let q : kind ≡ End = e ∙ rw h in absurd (k (ap keyAlignment q))
 
 module _ {l : List ℕ} {kind : Letter} (b : BasicType l kind) where
-  pub basic-aligned : KeyAligned kind
-  basic-aligned = subst⁻¹ KeyAligned (b .letter) (key-aligned (b .it))
-
   pub basic-reader : (c : Context) → valueIn c (basic (b .it)) ≡ keyReader (c .position) (c .big) kind (depthsOf (c .depths))
   basic-reader c =
       ap (λ (x : Reader). x (depthsOf (c .depths))) (reading-basic (c .position) (c .big) (65 - c .depths .variant) (b .it) ∙ key-reader (c .position) (c .big) (b .it) ∙ ap (keyReader (c .position) (c .big)) (sym (b .letter)))
@@ -284,10 +281,6 @@ module _ (part : List ℕ) (lead place : ℕ) (c : Context) (n : ℕ) (l : List 
 -- ---- the only letter
 
 module _ (l : List ℕ) where
-  pub only-other : (length l ≡ 1 → ⊥) → End ≡ onlyLetter l
-  unfolding onlyLetter
-  only-other h = rw (ne-eqb (length l) 1 h)
-
   pub only-one : length l ≡ 1 → letterAt l 0 ≡ onlyLetter l
   unfolding onlyLetter
   only-one h = rw (eq-eqb (length l) 1 h)

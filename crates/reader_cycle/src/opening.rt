@@ -21,12 +21,15 @@ pub struct Inner {
     pub ride: usize,
 }
 
-// Whether as many containers are open as may be: the sum of a number's bytes is what is left over by 255.
+// A one in each of four bytes.
+const ONE_OF_EACH: usize = 16843009;
+
+// Whether as many containers are open as may be: by a one in each of four bytes, the fourth byte of the product is the sum of all.
 fn is_full(ride: usize) -> bool
     requires { ⌜ depthRefusal (depthsOf (contextOf ride .depths)) ≡ 0 ⌝ }
     ensures { λ r. ⌜ r ≡ leb 64 (total (depthsOf (contextOf ride .depths))) ⌝ }
 {
-    ContainerDepths::MAX_TOTAL <= ride / ONE_STRUCTURE % 255
+    ContainerDepths::MAX_TOTAL <= ride / ONE_STRUCTURE * ONE_OF_EACH / 16777216 % 256
 }
 
 pub(crate) fn in_maybe(ride: usize) -> Inner

@@ -116,8 +116,8 @@ pub(crate) fn basic_variant(
     if refusal != 0 {
         return refused(refusal, 0, g);
     }
-    let e = from - 1;
-    let r = leaf(kind, &part[lead..e], place + lead, inner.ride, out, g);
+    let stop = from - 1;
+    let r = leaf(kind, &part[lead..stop], place + lead, inner.ride, out, g);
     close_variant(r, part, lead, place, out)
 }
 

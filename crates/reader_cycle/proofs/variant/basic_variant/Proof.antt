@@ -51,8 +51,8 @@ returns c =
     told (c .refused .ensures) (basic-deep _ _ _ _ _ _ _ _ (start .pre .1) _ _ (at-emit .emit .ensures .0) (at-emit .emit .ensures .1) _ _
     (at-emit2 .emit2 .ensures .0) (at-emit2 .emit2 .ensures .1) (at-in-variant .in-variant .ensures) (c .before .if1 .taken))
 
-sub-e : tie.Need-sub-e
-sub-e c = search needs
+sub-stop : tie.Need-sub-stop
+sub-stop c = search needs
 
 sub-leaf : tie.Need-sub-leaf
 sub-leaf c = search needs
@@ -103,7 +103,7 @@ basic-variant-spec =
     refused-requires
     same-length
     returns
-    sub-e
+    sub-stop
     sub-leaf
     part-leaf-start
     part-leaf-end

@@ -204,6 +204,10 @@ module _ (l : List ℕ) (at : ℕ) (h : at < length l) where
   unfolding letterBy basicAmong
   code-structure e = letter-some l at h ∙ ap letterOf e
 
+  pub code-close : getD l at 0 ≡ 41 → letterAt l at ≡ CloseStructure
+  unfolding letterBy basicAmong
+  code-close e = letter-some l at h ∙ ap letterOf e
+
   pub code-variant : getD l at 0 ≡ 118 → letterAt l at ≡ Variant
   unfolding letterBy basicAmong
   code-variant e = letter-some l at h ∙ ap letterOf e

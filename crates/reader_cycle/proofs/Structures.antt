@@ -21,11 +21,12 @@ use Rattle.meaning.specs.Reading.{child, further, endPadding, offsetStands, fie
 use Rattle.meaning.proofs.OffsetLaws.{encodedWidth-1, encodedWidth-2, encodedWidth-4}
 use Rattle.utils.specs.Checks as leaf
 use Rattle.utils.specs.declared.Checked as leafs
-use Rattle.signature.specs.Places.{letterAt, ClosesAt}
+use Rattle.signature.specs.Places.{letterAt}
 use Rattle.signature.specs.Shapes.{Shaped, shapeIn}
-use Rattle.signature.specs.declared.Letter.the-variants.{OpenStructure}
+use Rattle.signature.specs.declared.Letter.the-variants.{End, OpenStructure, CloseStructure}
 use Rattle.signature.specs.Trees.{treeAt, fieldsAt, Rowed, Described}
 use Rattle.signature.specs.declared.shapes.Shape.{Shape}
+use Rattle.signature.proofs.Letters.{letter-end}
 use Rattle.signature.proofs.TreeLaws.{LastField, NextField, last-field-of, next-field-of, structure-tree, structure-fixed, structure-alignment}
 use Rattle.events.specs.Slices.{nextEvent, put}
 use Rattle.reader_basic.specs.Answers.{Done, From, Between}
@@ -39,6 +40,7 @@ use Rattle.reader_basic.specs.declared.Answer.{Answer}
 use Rattle.reader_basic.specs.declared.Context.{Context}
 use Rattle.reader_basic.proofs.Answers.{answer, refusing, stopped, after-event}
 use Rattle.reader_basic.proofs.Rests.{Rest, rest-all, rest-on, rest-as, rest-chain, rest-end}
+use Rattle.reader_cycle.proofs.Characters.{code-close, mark-code, rowed-typed, typed-within}
 use Rattle.reader_cycle.proofs.Entries.{child-ordered, Padded, Passed}
 use Rattle.reader_cycle.proofs.Deepening.{told, too-deep, within-open}
 use Rattle.reader_basic.proofs.Loops.{kept}
@@ -358,13 +360,25 @@ module _ {position : ℕ} {big : Bool} {nested : ℕ} {text : List ℕ} {at : �
                 (further (fieldsIn position fx a place part lead w d (readersOf position big nested (fieldsAt text (f .next))) end′) (lead + u)) r z (omega arith) (omega arith) c)));
           }
 
--- the field at a place, by the place behind it and whether the structure's type ends there
-module _ (l t : List ℕ) (i : ℕ) (w : Rowed l i) (z : Shaped l t) {x : ℕ} (e : x ≡ shapeIn l t i .next) {r : Bool} (k : ClosesAt l x r) where
-  pub last-by : r ≡ true → LastField l t i (shapeIn l t i)
-  last-by h = last-field-of l t i w z (shapeIn l t i) refl (letterAt l x) (ap (λ (y : ℕ). letterAt l y) e) (k .there h)
+-- the field at a place, by the place behind it and the character that stands there
+module _ (l t : List ℕ) (i : ℕ) (w : Rowed l i) (z : Shaped l t) {x : ℕ} (e : x ≡ shapeIn l t i .next) where
+  behind-is : (letterAt l x ≡ CloseStructure → ⊥) → NextField l t i (shapeIn l t i)
+  behind-is h = next-field-of l t i w z (shapeIn l t i) refl (letterAt l x) (ap (λ (y : ℕ). letterAt l y) e) h
 
-  pub next-by : r ≡ false → NextField l t i (shapeIn l t i)
-  next-by h = next-field-of l t i w z (shapeIn l t i) refl (letterAt l x) (ap (λ (y : ℕ). letterAt l y) e) (k .missing h)
+  pub behind-within : x < length l
+  behind-within = go (leb (length l) x) refl
+    where
+      go : (b : Bool) → leb (length l) x ≡ b → x < length l
+      go false h = leb-false (length l) x h
+      go true h =
+          let n = behind-is (λ q. let y : End ≡ CloseStructure = sym (letter-end l x (leb-true (length l) x h)) ∙ q in let k : _≡_ {A = ℕ} 0 1 = cc in omega arith) in
+          omega (arith, typed-within (rowed-typed (n .rowed)), e)
+
+  pub last-by : getD l x 0 ≡ 41 → LastField l t i (shapeIn l t i)
+  last-by h = last-field-of l t i w z (shapeIn l t i) refl (letterAt l x) (ap (λ (y : ℕ). letterAt l y) e) (code-close l x behind-within h)
+
+  pub next-by : (getD l x 0 ≡ 41 → ⊥) → NextField l t i (shapeIn l t i)
+  next-by h = behind-is (λ q. h (mark-code l x CloseStructure 41 q refl))
 
 -- ---- the ways out of structure
 module _ {text shapes : List ℕ} {s : Shape} (t : Described text shapes s) (e : letterAt text (s .at) ≡ OpenStructure) (part : List ℕ) (lead place : ℕ) (c : Context) (n : ℕ) (l : List ℕ) where

@@ -95,8 +95,7 @@ pub(crate) fn elements(
     let code = text[child];
     let width = number_width(code);
     if width != 0 {
-        let context = context_of(ride);
-        return numbers(part, lead, place, context, code, width, out, n);
+        return numbers(part, lead, place, context_of(ride), code, width, out, n);
     }
     let is_entry = code == b'{';
     let b = part.len();

@@ -13,7 +13,6 @@ use reader_basic::basic::offset_before;
 use reader_basic::behind;
 use reader_basic::refused;
 use signature::Letter;
-use signature::closes_at;
 use signature::shapes::fixed_of;
 use signature::shapes::next_of;
 ghost use mathlib.Core.Path.{_≡_};
@@ -62,7 +61,7 @@ pub(crate) fn structure(
     let mut i = at + 1;
     let mut end = part.len();
     let mut u = 0;
-    while !closes_at(text, next_of(shapes[i])) {
+    while text[next_of(shapes[i])] != b')' {
         let field = shapes[i];
         let ends = field_ends(part, lead, field, end);
         let fault = ends.refusal;

@@ -72,9 +72,8 @@ pub(crate) fn variant(
     if refusal != 0 {
         return refused(refusal, 0, g);
     }
-    let deeper = inner.ride;
     let e = from - 1;
-    let r = value(text, &shapes, 0, part, lead, e, place, deeper, out, g);
+    let r = value(text, &shapes, 0, part, lead, e, place, inner.ride, out, g);
     close_variant(r, part, lead, place, out)
 }
 

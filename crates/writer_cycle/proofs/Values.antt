@@ -25,12 +25,12 @@ use Rattle.container_depths.specs.declared.Raised.{Raised}
 use Rattle.signature.specs.Places.{isType, basicKind, letterAt}
 use Rattle.signature.specs.Trees.{treeAt, behindBy, Typed, fieldsAt, Described}
 use Rattle.signature.specs.declared.Letter.{Letter}
-use Rattle.signature.specs.declared.Letter.the-variants.{End, Bad, Boolean, Number, Text, Variant, Maybe, Array, OpenStructure, CloseStructure, OpenEntry, CloseEntry}
+use Rattle.signature.specs.declared.Letter.the-variants.{Boolean, Number, Text, Variant, Maybe, Array, OpenStructure}
 use Rattle.signature.specs.declared.shapes.Shape.{Shape}
 use Rattle.signature.specs.declared.items.Item.{Item}
 use Rattle.signature.proofs.Letter.{the-type}
 use Rattle.signature.proofs.Answers.{judged-none}
-use Rattle.signature.proofs.Dispatch.{Shown, shown, is-boolean, is-number, is-text, is-variant}
+use Rattle.signature.proofs.Dispatch.{Shown, shown, begins, is-boolean, is-number, is-text, is-variant}
 use Rattle.signature.proofs.TreeLaws.{front, maybe-tree, structure-tree, structure-alignment, structure-fixed}
 use Rattle.writer_basic.specs.Wrote.{itemKind, Taken, Untaken, Done, aroundChild, aroundValue, Structured}
 use Rattle.writer_basic.specs.declared.Answer.{Answer}
@@ -43,22 +43,7 @@ use Rattle.writer_basic.proofs.Openings.{maybe-empty, maybe-neither, maybe-deep
 
 -- ---- value, by the letter
 
--- the letters that a type may begin with
-abbrev begins : Letter → Bool
-begins End = false
-begins Bad = false
-begins Boolean = true
-begins (Number c w) = true
-begins (Text c) = true
-begins Variant = true
-begins Maybe = true
-begins Array = true
-begins OpenStructure = true
-begins CloseStructure = false
-begins OpenEntry = false
-begins CloseEntry = false
-
--- it begins with no other
+-- a type begins with a letter that begins one, and with no other
 pub begins-not : {A : Type 0} (signature : List ℕ) (at : ℕ) → Typed signature at → (k : Letter) → letterAt signature at ≡ k → begins k ≡ false → A
 begins-not {A} signature at t k e h = go (treeAt signature at) (shown signature at _ _ (t .found))
   where

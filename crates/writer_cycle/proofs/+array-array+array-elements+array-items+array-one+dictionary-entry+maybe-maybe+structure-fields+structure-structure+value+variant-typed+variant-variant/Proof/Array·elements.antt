@@ -109,7 +109,8 @@ array·elements-returns-4 t c =
     let at-kind = at-texts .before .before .before .before in
     let at-if1 = at-kind .before .before .before .before in
     let start = at-if1 .before .before .before .before .before .before .before in
-    items-basic _ _ _ _ _ _ (at-if1 .if1 .left) _ _ _ _ _ _ _ _ _ _ _ _ false ((text-item _ _ _ (start .pre .1 .0) (at-if1 .if1 .left) _ (at-kind .kind .given .1)) .tree) ((text-item _ _ _ (start .pre .1 .0) (at-if1 .if1 .left) _ (at-kind .kind .given .1)) .same-fixed) (at-texts .texts .ensures _ _)
+    items-basic _ _ _ _ _ _ (at-if1 .if1 .left) _ _ _ _ _ _ _ _ _ _ _ _ false ((text-item _ _ _ (start .pre .1 .0) (at-if1 .if1 .left) _ (at-kind .kind .given .1)) .tree)
+    ((text-item _ _ _ (start .pre .1 .0) (at-if1 .if1 .left) _ (at-kind .kind .given .1)) .same-fixed) (at-texts .texts .ensures _ _)
 
 array·elements-items-requires-2 : (t : ℕ) → array·elements-lts.Need-items-requires-2 (array·elements-callees t) (array·elements-at t) array·elements.Post
 array·elements-items-requires-2 t c κs =

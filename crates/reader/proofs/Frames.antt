@@ -21,7 +21,7 @@ use Rattle.container_depths.specs.declared.ContainerDepths.{ContainerDepths}
 use Rattle.signature.specs.Places.{isType}
 use Rattle.meaning.specs.Reading.{child}
 use Rattle.reader_basic.specs.Answers.{Done, Whole, Between, countsOf}
-use Rattle.reader_cycle.specs.Places.{readerOf}
+use Rattle.reader_steps.specs.Places.{readerOf}
 use Rattle.reader_basic.specs.Parts.{Within}
 use Rattle.reader_basic.specs.declared.Answer.{Answer}
 use Rattle.reader_basic.proofs.Answers.{answer, refusing}

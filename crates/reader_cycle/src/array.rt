@@ -1,18 +1,10 @@
 // Arrays, and the walk over a dictionary's entries. Ports ArrayDeserializer and its SeqAccess of gvariant/de.rs.
-use crate::codes::held_width;
-use crate::codes::is_fixed;
-use crate::codes::is_text;
-use crate::codes::number_width;
 use crate::dictionary::entry;
-use crate::opening::in_array;
-use crate::ride::context_of;
 use crate::value;
 use events::emit;
 use framing_offsets::OffsetTable;
 use framing_offsets::from_encoded_array;
 use framing_offsets::next;
-use meaning::letters::ARRAY_LETTER;
-use meaning::letters::DICTIONARY_LETTER;
 use reader_basic::Answer;
 use reader_basic::basic::close;
 use reader_basic::behind;
@@ -21,23 +13,26 @@ use reader_basic::refused;
 use reader_runs::numbers::numbers;
 use reader_runs::numbers::readings;
 use reader_runs::texts::texts;
+use reader_steps::codes::held_width;
+use reader_steps::codes::is_text;
+use reader_steps::codes::number_width;
+use reader_steps::opening::in_array;
+use reader_steps::ride::context_of;
 use signature::Letter;
-use signature::shapes::fixed_of;
 ghost use mathlib.Core.Path.{_≡_};
 ghost use mathlib.Core.Bool.{true, false};
 ghost use Prim.Native.Nat.{_≤_};
-ghost use lib.Dec.{eqb};
 ghost use lib.ListN.{length, drop};
-ghost use Rattle.meaning.specs.Choice.{pick};
-ghost use Rattle.meaning.specs.Letters.{arrayLetter, dictionaryLetter};
 ghost use Rattle.framing_offsets.specs.Tables.{tableIn};
 ghost use Rattle.signature.specs.Places.{letterAt};
 ghost use Rattle.signature.specs.Shapes.{shapeIn};
 ghost use Rattle.signature.specs.Trees.{treeAt, Described};
 ghost use Rattle.reader_basic.specs.Answers.{From};
 ghost use Rattle.reader_basic.specs.Parts.{Stands, Inside};
-ghost use Rattle.reader_cycle.specs.Places.{insideOf, itemOf, elementsOf, framedOf, Repeated};
-ghost use Rattle.reader_cycle.specs.Rides.{contextOf};
+ghost use Rattle.reader_steps.specs.Places.{insideOf, itemOf, elementsOf, framedOf, Repeated};
+ghost use Rattle.reader_steps.specs.Rides.{contextOf};
+use reader_steps::array::kind_by;
+use reader_steps::array::repeats_fixed;
 
 pub(crate) fn array(
     text: &[u8],
@@ -170,28 +165,4 @@ pub(crate) fn framed(
         i = i + 1;
     }
     done(u + (part.len() - b), m)
-}
-
-// The kind of an array's first event, or of a dictionary's, by the character behind its own.
-fn kind_by(code: u8) -> u64
-    ensures { λ r. ⌜ r ≡ pick (eqb code 123) dictionaryLetter arrayLetter ⌝ }
-{
-    if code == b'{' {
-        return DICTIONARY_LETTER;
-    }
-    ARRAY_LETTER
-}
-
-// Whether what is repeated is fixed: an element, or an entry, of a key and a value.
-pub(crate) fn repeats_fixed(text: &[u8], shapes: &[u16; 255], at: usize) -> bool
-    requires { ⌜ Repeated (now text) (now shapes) (itemOf (now text) (now shapes) at) ⌝ }
-    ensures { λ r. ⌜ r ≡ itemOf (now (text .entry)) (now (shapes .entry)) at .fixed ⌝ }
-{
-    if text[at + 1] == b'{' {
-        if is_fixed(text[at + 2]) {
-            return fixed_of(shapes[at + 3]);
-        }
-        return false;
-    }
-    fixed_of(shapes[at + 1])
 }

@@ -1,28 +1,24 @@
 // The entries of a dictionary. Ports MapAccess of ArrayDeserializer, gvariant/de.rs.
-use crate::codes::is_fixed;
-use crate::codes::leaf;
-use crate::ends::Ends;
-use crate::ends::end_padded;
-use crate::ends::padded;
-use crate::ends::past;
 use crate::value;
-use framing_offset_size::FramingOffsetSize;
-use framing_offsets::table::last_in;
 use meaning::refusals::OUT_OF_BOUNDS;
 use reader_basic::Answer;
 use reader_basic::behind;
 use reader_basic::refused;
+use reader_steps::codes::is_fixed;
+use reader_steps::codes::leaf;
+use reader_steps::ends::end_padded;
+use reader_steps::ends::padded;
+use reader_steps::ends::past;
 use signature::shapes::fixed_of;
 ghost use mathlib.Core.Path.{_≡_};
 ghost use mathlib.Core.Bool.{true};
 ghost use Prim.Native.Nat.{ℕ, _≤_};
 ghost use lib.ListN.{length};
-ghost use Rattle.meaning.specs.Limits.{largestFrame};
 ghost use Rattle.reader_basic.specs.Answers.{Between};
 ghost use Rattle.reader_basic.specs.Parts.{Inside};
-ghost use Rattle.reader_cycle.specs.Places.{stepIn, fixedKeyIn, textKeyIn, Repeated, itemBy};
-ghost use Rattle.reader_cycle.specs.Children.{keyEnds};
-ghost use Rattle.reader_cycle.specs.Rides.{contextOf};
+ghost use Rattle.reader_steps.specs.Places.{stepIn, fixedKeyIn, textKeyIn, Repeated, itemBy};
+ghost use Rattle.reader_steps.specs.Rides.{contextOf};
+use reader_steps::dictionary::key_ends;
 
 // One entry of a dictionary, from j to e; the body ends at b.
 pub(crate) fn entry(
@@ -129,21 +125,4 @@ pub(crate) fn text_key(
     let v = value(text, shapes, at + 3, part, from, end, place, ride, out, m);
     let r = past(v, ends.width);
     behind(first, r)
-}
-
-// Where the text key of an entry from j to e ends; the body ends at b.
-pub(crate) fn key_ends(part: &[u8], b: usize, j: usize, e: usize) -> Ends
-    requires { ⌜ (e ≤ b) × (b ≤ length (now part)) × (length (now part) ≤ largestFrame) ⌝ }
-    ensures { λ r. ⌜ r ≡ keyEnds (now (part .entry)) b j e ⌝ }
-{
-    if e < j {
-        return Ends::missing(OUT_OF_BOUNDS);
-    }
-    let size = FramingOffsetSize::for_encoded_container(e - j);
-    let last = last_in(&part[j..e], size);
-    let length = last.value;
-    if b - j < length {
-        return Ends::missing(OUT_OF_BOUNDS);
-    }
-    Ends::at(j + length, size.width())
 }

@@ -1,18 +1,12 @@
 // The readers that call each other as containers nest. Ports gvariant/de.rs, through deserialize_any. Here: a value, and what stands in a
 // container; each kind of container has a module. What is repeated in a container is read in a loop.
 mod array;
-mod codes;
 mod dictionary;
-mod ends;
 mod maybe;
-mod opening;
-pub mod ride;
 mod structure;
 mod variant;
 
 use crate::array::array;
-use crate::codes::leaf;
-use crate::ends::padded;
 use crate::maybe::maybe;
 use crate::structure::structure;
 use crate::variant::variant;
@@ -20,6 +14,8 @@ use meaning::refusals::OUT_OF_BOUNDS;
 use reader_basic::Answer;
 use reader_basic::behind;
 use reader_basic::refused;
+use reader_steps::codes::leaf;
+use reader_steps::ends::padded;
 ghost use Prim.Native.Nat.{_≤_};
 ghost use lib.ListN.{length};
 ghost use Rattle.meaning.specs.Reading.{child};
@@ -27,8 +23,8 @@ ghost use Rattle.signature.specs.Shapes.{shapeIn};
 ghost use Rattle.signature.specs.Trees.{treeAt, Described};
 ghost use Rattle.reader_basic.specs.Answers.{Whole, From, Between};
 ghost use Rattle.reader_basic.specs.Parts.{Inside};
-ghost use Rattle.reader_cycle.specs.Places.{Contains, valueIn, insideOf};
-ghost use Rattle.reader_cycle.specs.Rides.{contextOf};
+ghost use Rattle.reader_steps.specs.Places.{Contains, valueIn, insideOf};
+ghost use Rattle.reader_steps.specs.Rides.{contextOf};
 
 // A value of a type, from j to e of a part. An end past the part or before the place is out of bounds.
 pub fn value(

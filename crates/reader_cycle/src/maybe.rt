@@ -1,29 +1,25 @@
 // Maybes. Ports deserialize_option of gvariant/de.rs.
-use crate::opening::in_maybe;
 use crate::value;
 use events::emit;
 use meaning::letters::MAYBE_LETTER;
 use meaning::letters::NOTHING_LETTER;
-use meaning::refusals::MAYBE_END_NOT_ZERO;
 use reader_basic::Answer;
 use reader_basic::done;
 use reader_basic::refused;
+use reader_steps::opening::in_maybe;
 use signature::Letter;
 use signature::shapes::fixed_of;
 ghost use mathlib.Core.Path.{_≡_};
-ghost use mathlib.Core.List.{List};
-ghost use Prim.Native.Nat.{ℕ, _-_, _≤_, _<_};
+ghost use Prim.Native.Nat.{_-_, _≤_, _<_};
 ghost use lib.ListN.{length};
-ghost use Rattle.meaning.specs.Limits.{largestFrame};
-ghost use Rattle.meaning.specs.Outcome.{Outcome, chain};
-ghost use Rattle.meaning.specs.Reading.{endByte};
 ghost use Rattle.signature.specs.Places.{letterAt};
 ghost use Rattle.signature.specs.Shapes.{shapeIn};
 ghost use Rattle.signature.specs.Trees.{treeAt, Described};
-ghost use Rattle.reader_basic.specs.Answers.{Done, From};
+ghost use Rattle.reader_basic.specs.Answers.{From};
 ghost use Rattle.reader_basic.specs.Parts.{Inside};
-ghost use Rattle.reader_cycle.specs.Places.{insideOf};
-ghost use Rattle.reader_cycle.specs.Rides.{contextOf};
+ghost use Rattle.reader_steps.specs.Places.{insideOf};
+ghost use Rattle.reader_steps.specs.Rides.{contextOf};
+use reader_steps::maybe::end_byte;
 
 pub(crate) fn maybe(
     text: &[u8],
@@ -59,20 +55,4 @@ pub(crate) fn maybe(
     let stop = len - 1;
     let r = value(text, shapes, held, part, lead, stop, place, deeper, out, m);
     end_byte(part, lead, r)
-}
-
-// The byte where a maybe's child stopped must be 0.
-pub(crate) fn end_byte(part: &[u8], lead: usize, r: Answer) -> Answer
-    requires { ⌜ (lead < length (now part)) × (length (now part) ≤ largestFrame) × (r .used ≤ length (now part) - lead) × (r .refusal ≡ 0 → r .used ≤ length (now part) - 1 - lead) ⌝ }
-    ensures { λ s. ⌜ ((o : Outcome) (place n : ℕ) (l l′ : List ℕ) → Done o (length (now (part .entry)) - 1 - lead) (length (now (part .entry)) - lead) n l l′ r → Done (chain o (endByte place (now (part .entry)) lead)) (length (now (part .entry)) - lead) (length (now (part .entry)) - lead) n l l′ s) ⌝ }
-{
-    let refusal = r.refusal;
-    let used = r.used;
-    if refusal != 0 {
-        return r;
-    }
-    if part[lead + used] != 0 {
-        return refused(MAYBE_END_NOT_ZERO, used, r.count);
-    }
-    done(used + 1, r.count)
 }

@@ -1,6 +1,6 @@
 -- `reader::whole` meets its contract. Assumes nothing.
-use Rattle.reader_cycle.proofs.Deepening.{told}
-use Rattle.reader_cycle.proofs.Rides.{begun}
+use Rattle.reader_steps.proofs.Deepening.{told}
+use Rattle.reader_steps.proofs.Rides.{begun}
 use Rattle.signature.specs.Trees.{treeAt}
 use Rattle.reader.proofs.Frames.{child-all}
 use native.Mathlib.Omega.{arith}
@@ -13,7 +13,7 @@ use Rattle.reader.proofs.whole.Statement.{statement}
 use Rattle.reader.proofs.whole.Tie as tie
 use Rattle.reader.proofs.whole.Reads as reads
 use Rattle.reader.proofs.whole.Lts as lts
-use Rattle.reader_cycle.proofs.ride.ride_of.Reads as ride-of-reads
+use Rattle.reader_steps.proofs.ride.ride_of.Reads as ride-of-reads
 use Rattle.reader_cycle.proofs.value.Reads as value-reads
 
 returns : tie.Need-returns

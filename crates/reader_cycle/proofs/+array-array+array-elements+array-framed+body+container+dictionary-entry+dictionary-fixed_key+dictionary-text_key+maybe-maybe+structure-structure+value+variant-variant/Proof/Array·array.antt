@@ -1,9 +1,9 @@
 -- The needs of `array·array`, and what answers each.
 use Prim.Native.Nat.{ℕ}
 use Rattle.reader_basic.proofs.Loops.{stands-by, tail}
-use Rattle.reader_cycle.proofs.Arrays.{array-deep, array-fixed, array-framed, array-no-table}
-use Rattle.reader_cycle.proofs.Deepening.{inside-deeper, level-falls, told}
-use Rattle.reader_cycle.proofs.Repeats.{item-within, repeats}
+use Rattle.reader_steps.proofs.Arrays.{array-deep, array-fixed, array-framed, array-no-table}
+use Rattle.reader_steps.proofs.Deepening.{inside-deeper, level-falls, told}
+use Rattle.reader_steps.proofs.Repeats.{item-within, repeats}
 use borrow.Author.Needs.{needs}
 use mathlib.Core.Path.{_∙_, sym}
 use native.Mathlib.Omega.{arith}
@@ -18,9 +18,9 @@ use cycle.Lts-array-array as array·array-lts
 use of.array.array.Reads as array·array
 use of.array.elements.Reads as array·elements
 use of.array.framed.Reads as array·framed
-use of.array.kind_by.Reads as kind-by-reads
-use of.array.repeats_fixed.Reads as repeats-fixed-reads
-use of.opening.in_array.Reads as in-array-reads
+use Rattle.reader_steps.proofs.array.kind_by.Reads as kind-by-reads
+use Rattle.reader_steps.proofs.array.repeats_fixed.Reads as repeats-fixed-reads
+use Rattle.reader_steps.proofs.opening.in_array.Reads as in-array-reads
 
 abbrev array·array-callees : ℕ → array·array-lts.Claims
 array·array-callees t = (

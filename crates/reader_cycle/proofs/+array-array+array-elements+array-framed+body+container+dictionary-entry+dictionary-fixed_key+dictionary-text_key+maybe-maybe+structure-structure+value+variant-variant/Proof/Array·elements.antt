@@ -3,13 +3,13 @@ use Prim.Native.Nat.{_+_, _-_, ℕ}
 use Rattle.container_depths.specs.Opening.{depthsOf}
 use Rattle.reader_basic.proofs.Loops.{ElementsLeft, elements-begin, elements-end, elements-next, elements-stop, kept}
 use Rattle.reader_basic.specs.Answers.{Between}
-use Rattle.reader_cycle.proofs.Arrays.{item-least}
-use Rattle.reader_cycle.proofs.Deepening.{arrived, told}
-use Rattle.reader_cycle.proofs.ItemLaws.{plain-numbers}
-use Rattle.reader_cycle.proofs.Repeats.{item-number, item-within, repeated-as, step-element, step-entry}
-use Rattle.reader_cycle.proofs.Rides.{inside-as, numbers-as}
-use Rattle.reader_cycle.specs.Places.{itemOf, stepIn}
-use Rattle.reader_cycle.specs.Rides.{contextOf}
+use Rattle.reader_steps.proofs.Arrays.{item-least}
+use Rattle.reader_steps.proofs.Deepening.{arrived, told}
+use Rattle.reader_steps.proofs.ItemLaws.{plain-numbers}
+use Rattle.reader_steps.proofs.Repeats.{item-number, item-within, repeated-as, step-element, step-entry}
+use Rattle.reader_steps.proofs.Rides.{inside-as, numbers-as}
+use Rattle.reader_steps.specs.Places.{itemOf, stepIn}
+use Rattle.reader_steps.specs.Rides.{contextOf}
 use borrow.Author.Needs.{needs}
 use lib.ListN.{length}
 use mathlib.Core.Logic.{⊎-elim}
@@ -23,9 +23,9 @@ use Rattle.reader_basic.proofs.done.Reads as done-reads
 use Rattle.reader_runs.proofs.numbers.numbers.Reads as numbers-reads
 use cycle.Lts-array-elements as array·elements-lts
 use of.array.elements.Reads as array·elements
-use of.codes.number_width.Reads as number-width-reads
+use Rattle.reader_steps.proofs.codes.number_width.Reads as number-width-reads
 use of.dictionary.entry.Reads as dictionary·entry
-use of.ride.context_of.Reads as context-of-reads
+use Rattle.reader_steps.proofs.ride.context_of.Reads as context-of-reads
 use of.value.Reads as value
 
 abbrev array·elements-callees : ℕ → array·elements-lts.Claims

@@ -4,12 +4,12 @@ use Rattle.framing_offsets.specs.Tables.{tableIn}
 use Rattle.meaning.specs.Offsets.{endsOf}
 use Rattle.reader_basic.proofs.Loops.{FramedLeft, ends-below, framed-begin, framed-end, framed-next, framed-stop, kept, length-ends, next-end, tail}
 use Rattle.reader_basic.specs.Answers.{Between}
-use Rattle.reader_cycle.proofs.Deepening.{arrived, told}
-use Rattle.reader_cycle.proofs.ItemLaws.{held-numbers, held-texts}
-use Rattle.reader_cycle.proofs.Repeats.{fixed-as, item-held, item-text, item-within, repeated-as, step-element, step-entry}
-use Rattle.reader_cycle.proofs.Rides.{inside-as, readings-as}
-use Rattle.reader_cycle.specs.Places.{itemOf, stepIn}
-use Rattle.reader_cycle.specs.Rides.{contextOf}
+use Rattle.reader_steps.proofs.Deepening.{arrived, told}
+use Rattle.reader_steps.proofs.ItemLaws.{held-numbers, held-texts}
+use Rattle.reader_steps.proofs.Repeats.{fixed-as, item-held, item-text, item-within, repeated-as, step-element, step-entry}
+use Rattle.reader_steps.proofs.Rides.{inside-as, readings-as}
+use Rattle.reader_steps.specs.Places.{itemOf, stepIn}
+use Rattle.reader_steps.specs.Rides.{contextOf}
 use borrow.Author.Needs.{needs}
 use lib.ListN.{drop, length-drop}
 use mathlib.Core.Bool.{false≢true}
@@ -26,10 +26,10 @@ use Rattle.reader_runs.proofs.numbers.readings.Reads as readings-reads
 use Rattle.reader_runs.proofs.texts.texts.Reads as texts-reads
 use cycle.Lts-array-framed as array·framed-lts
 use of.array.framed.Reads as array·framed
-use of.codes.held_width.Reads as held-width-reads
-use of.codes.is_text.Reads as is-text-reads
+use Rattle.reader_steps.proofs.codes.held_width.Reads as held-width-reads
+use Rattle.reader_steps.proofs.codes.is_text.Reads as is-text-reads
 use of.dictionary.entry.Reads as dictionary·entry
-use of.ride.context_of.Reads as context-of-reads
+use Rattle.reader_steps.proofs.ride.context_of.Reads as context-of-reads
 use of.value.Reads as value
 
 abbrev array·framed-callees : ℕ → array·framed-lts.Claims

@@ -1,7 +1,7 @@
 -- The needs of `body`, and what answers each.
 use Prim.Native.Nat.{ℕ}
-use Rattle.reader_cycle.proofs.Characters.{code-array, code-maybe, code-structure, code-variant, typed-within, variant-else}
-use Rattle.reader_cycle.proofs.Readers.{body-variant, reads-variant}
+use Rattle.reader_steps.proofs.Characters.{code-array, code-maybe, code-structure, code-variant, typed-within, variant-else}
+use Rattle.reader_steps.proofs.Readers.{body-variant, reads-variant}
 use borrow.Author.Needs.{needs}
 use native.Mathlib.Omega.{arith}
 use Rattle.reader_cycle.proofs as of

@@ -1,8 +1,8 @@
 -- The needs of `container`, and what answers each.
 use Prim.Native.Nat.{ℕ}
-use Rattle.reader_cycle.proofs.Characters.{typed-within}
-use Rattle.reader_cycle.proofs.Deepening.{told}
-use Rattle.reader_cycle.proofs.Readers.{container-on, container-stop, lead-fits}
+use Rattle.reader_steps.proofs.Characters.{typed-within}
+use Rattle.reader_steps.proofs.Deepening.{told}
+use Rattle.reader_steps.proofs.Readers.{container-on, container-stop, lead-fits}
 use Rattle.signature.proofs.TreeLaws.{described-aligned}
 use borrow.Author.Needs.{needs}
 use mathlib.Core.Bool.{false}
@@ -16,7 +16,7 @@ use Rattle.reader_basic.proofs.refused.Reads as refused-reads
 use cycle.Lts-container as container-lts
 use of.body.Reads as body
 use of.container.Reads as container
-use of.ends.padded.Reads as padded-reads
+use Rattle.reader_steps.proofs.ends.padded.Reads as padded-reads
 
 abbrev container-callees : ℕ → container-lts.Claims
 container-callees t = (

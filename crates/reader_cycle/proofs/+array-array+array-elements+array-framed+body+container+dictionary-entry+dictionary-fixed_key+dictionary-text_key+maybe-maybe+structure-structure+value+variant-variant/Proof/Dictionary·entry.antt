@@ -1,9 +1,9 @@
 -- The needs of `dictionary·entry`, and what answers each.
 use Prim.Native.Nat.{ℕ}
-use Rattle.reader_cycle.proofs.Deepening.{told}
-use Rattle.reader_cycle.proofs.Entries.{entry-padded, entry-within, step-keyed, step-text, step-unpadded}
-use Rattle.reader_cycle.proofs.Repeats.{keyed-as, value-within}
-use Rattle.reader_cycle.specs.Rides.{contextOf}
+use Rattle.reader_steps.proofs.Deepening.{told}
+use Rattle.reader_steps.proofs.Entries.{entry-padded, entry-within, step-keyed, step-text, step-unpadded}
+use Rattle.reader_steps.proofs.Repeats.{keyed-as, value-within}
+use Rattle.reader_steps.specs.Rides.{contextOf}
 use borrow.Author.Needs.{needs}
 use mathlib.Core.Path.{_∙_, refl, sym}
 use native.Mathlib.Omega.{arith}
@@ -13,11 +13,11 @@ use cycle.Proof.Measures.{dictionary·entry-at, dictionary·fixed-key-below, dic
 use Rattle.reader_basic.proofs.behind.Reads as behind-reads
 use Rattle.reader_basic.proofs.refused.Reads as refused-reads
 use cycle.Lts-dictionary-entry as dictionary·entry-lts
-use of.codes.is_fixed.Reads as is-fixed-reads
+use Rattle.reader_steps.proofs.codes.is_fixed.Reads as is-fixed-reads
 use of.dictionary.entry.Reads as dictionary·entry
 use of.dictionary.fixed_key.Reads as dictionary·fixed-key
 use of.dictionary.text_key.Reads as dictionary·text-key
-use of.ends.padded.Reads as padded-reads
+use Rattle.reader_steps.proofs.ends.padded.Reads as padded-reads
 
 abbrev dictionary·entry-callees : ℕ → dictionary·entry-lts.Claims
 dictionary·entry-callees t = (

@@ -2,12 +2,12 @@
 use Prim.Native.Nat.{_+_, ℕ}
 use Rattle.container_depths.specs.Opening.{depthsOf}
 use Rattle.reader_basic.proofs.Leaves.{child-before}
-use Rattle.reader_cycle.proofs.Characters.{key-read, part-fits}
-use Rattle.reader_cycle.proofs.Deepening.{told}
-use Rattle.reader_cycle.proofs.Entries.{fixed-key-padded, fixed-key-stop, fixed-key-value}
-use Rattle.reader_cycle.proofs.Readers.{within-child}
-use Rattle.reader_cycle.proofs.Repeats.{and-second, value-within}
-use Rattle.reader_cycle.specs.Rides.{contextOf}
+use Rattle.reader_steps.proofs.Characters.{key-read, part-fits}
+use Rattle.reader_steps.proofs.Deepening.{told}
+use Rattle.reader_steps.proofs.Entries.{fixed-key-padded, fixed-key-stop, fixed-key-value}
+use Rattle.reader_steps.proofs.Readers.{within-child}
+use Rattle.reader_steps.proofs.Repeats.{and-second, value-within}
+use Rattle.reader_steps.specs.Rides.{contextOf}
 use borrow.Author.Needs.{needs}
 use mathlib.Core.Path.{refl}
 use native.Mathlib.Omega.{arith}
@@ -17,9 +17,9 @@ use cycle.Proof.Measures.{dictionary·fixed-key-at, value-below}
 use Rattle.reader_basic.proofs.behind.Reads as behind-reads
 use Rattle.reader_basic.proofs.refused.Reads as refused-reads
 use cycle.Lts-dictionary-fixed_key as dictionary·fixed-key-lts
-use of.codes.leaf.Reads as leaf-reads
+use Rattle.reader_steps.proofs.codes.leaf.Reads as leaf-reads
 use of.dictionary.fixed_key.Reads as dictionary·fixed-key
-use of.ends.end_padded.Reads as end-padded-reads
+use Rattle.reader_steps.proofs.ends.end_padded.Reads as end-padded-reads
 use of.value.Reads as value
 use Rattle.signature.proofs.shapes.fixed_of.Reads as fixed-of-reads
 

@@ -1,13 +1,13 @@
 -- The needs of `dictionary·text_key`, and what answers each.
 use Prim.Native.Nat.{_+_, _-_, ℕ}
 use Rattle.container_depths.specs.Opening.{depthsOf}
-use Rattle.reader_cycle.proofs.Characters.{key-read, part-fits}
-use Rattle.reader_cycle.proofs.Deepening.{told}
-use Rattle.reader_cycle.proofs.Entries.{key-there, text-key-missing, text-key-narrow, text-key-stop, text-key-value}
-use Rattle.reader_cycle.proofs.Readers.{within-child}
-use Rattle.reader_cycle.proofs.Repeats.{value-within}
-use Rattle.reader_cycle.proofs.Structures.{width-small}
-use Rattle.reader_cycle.specs.Rides.{contextOf}
+use Rattle.reader_steps.proofs.Characters.{key-read, part-fits}
+use Rattle.reader_steps.proofs.Deepening.{told}
+use Rattle.reader_steps.proofs.Entries.{key-there, text-key-missing, text-key-narrow, text-key-stop, text-key-value}
+use Rattle.reader_steps.proofs.Readers.{within-child}
+use Rattle.reader_steps.proofs.Repeats.{value-within}
+use Rattle.reader_steps.proofs.Structures.{width-small}
+use Rattle.reader_steps.specs.Rides.{contextOf}
 use borrow.Author.Needs.{needs}
 use lib.ListN.{length}
 use native.Mathlib.Omega.{arith}
@@ -17,10 +17,10 @@ use cycle.Proof.Measures.{dictionary·text-key-at, value-below}
 use Rattle.reader_basic.proofs.behind.Reads as behind-reads
 use Rattle.reader_basic.proofs.refused.Reads as refused-reads
 use cycle.Lts-dictionary-text_key as dictionary·text-key-lts
-use of.codes.leaf.Reads as leaf-reads
-use of.dictionary.key_ends.Reads as key-ends-reads
+use Rattle.reader_steps.proofs.codes.leaf.Reads as leaf-reads
+use Rattle.reader_steps.proofs.dictionary.key_ends.Reads as key-ends-reads
 use of.dictionary.text_key.Reads as dictionary·text-key
-use of.ends.past.Reads as past-reads
+use Rattle.reader_steps.proofs.ends.past.Reads as past-reads
 use of.value.Reads as value
 
 abbrev dictionary·text-key-callees : ℕ → dictionary·text-key-lts.Claims

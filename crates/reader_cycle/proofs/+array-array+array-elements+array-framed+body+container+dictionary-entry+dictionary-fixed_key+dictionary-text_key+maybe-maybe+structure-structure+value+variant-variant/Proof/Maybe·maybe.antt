@@ -1,8 +1,8 @@
 -- The needs of `maybe·maybe`, and what answers each.
 use Prim.Native.Nat.{ℕ}
-use Rattle.reader_cycle.proofs.Characters.{typed-within}
-use Rattle.reader_cycle.proofs.Deepening.{inside-deeper, level-falls, told}
-use Rattle.reader_cycle.proofs.Maybes.{maybe-deep, maybe-fixed, maybe-none, maybe-other}
+use Rattle.reader_steps.proofs.Characters.{typed-within}
+use Rattle.reader_steps.proofs.Deepening.{inside-deeper, level-falls, told}
+use Rattle.reader_steps.proofs.Maybes.{maybe-deep, maybe-fixed, maybe-none, maybe-other}
 use Rattle.signature.proofs.TreeLaws.{described-fixed, maybe-described}
 use borrow.Author.Needs.{needs}
 use mathlib.Core.Path.{_∙_, refl}
@@ -14,9 +14,9 @@ use Rattle.events.proofs.emit.Reads as emit-reads
 use Rattle.reader_basic.proofs.done.Reads as done-reads
 use Rattle.reader_basic.proofs.refused.Reads as refused-reads
 use cycle.Lts-maybe-maybe as maybe·maybe-lts
-use of.maybe.end_byte.Reads as end-byte-reads
+use Rattle.reader_steps.proofs.maybe.end_byte.Reads as end-byte-reads
 use of.maybe.maybe.Reads as maybe·maybe
-use of.opening.in_maybe.Reads as in-maybe-reads
+use Rattle.reader_steps.proofs.opening.in_maybe.Reads as in-maybe-reads
 use of.value.Reads as value
 use Rattle.signature.proofs.shapes.fixed_of.Reads as fixed-of-reads
 

@@ -1,13 +1,13 @@
 -- The needs of `structure·structure`, and what answers each.
 use Rattle.reader_basic.proofs.Loops.{kept}
-use Rattle.reader_cycle.proofs.Characters.{rowed-typed, typed-within}
-use Rattle.reader_cycle.proofs.Deepening.{few-variants, inside-deeper, level-falls, told}
-use Rattle.reader_cycle.proofs.Structures.{FieldsLeft, behind-within, ends-room, field-turn, fields-begin, fields-last, fields-next, fields-no-offset, fields-stop, last-by, next-by, structure-deep, structure-on, structure-stop}
+use Rattle.reader_steps.proofs.Characters.{rowed-typed, typed-within}
+use Rattle.reader_steps.proofs.Deepening.{few-variants, inside-deeper, level-falls, told}
+use Rattle.reader_steps.proofs.Structures.{FieldsLeft, behind-within, ends-room, field-turn, fields-begin, fields-last, fields-next, fields-no-offset, fields-stop, last-by, next-by, structure-deep, structure-on, structure-stop}
 use Rattle.signature.proofs.TreeLaws.{described-aligned, structure-fixed, structure-rowed}
 use Prim.Native.Nat.{_+_, _-_, ℕ}
 use Rattle.container_depths.specs.Opening.{depthsOf}
 use Rattle.meaning.specs.Offsets.{encodedWidth}
-use Rattle.reader_cycle.specs.Rides.{contextOf}
+use Rattle.reader_steps.specs.Rides.{contextOf}
 use Rattle.signature.proofs.Letters.{cut}
 use Rattle.signature.specs.Shapes.{shapeIn}
 use Rattle.signature.specs.declared.Letter.the-variants.{OpenStructure}
@@ -23,9 +23,9 @@ use Rattle.reader_basic.proofs.basic.close.Reads as close-reads
 use Rattle.reader_basic.proofs.behind.Reads as behind-reads
 use Rattle.reader_basic.proofs.refused.Reads as refused-reads
 use cycle.Lts-structure-structure as structure·structure-lts
-use of.opening.in_structure.Reads as in-structure-reads
-use of.structure.close_fields.Reads as close-fields-reads
-use of.structure.field_ends.Reads as field-ends-reads
+use Rattle.reader_steps.proofs.opening.in_structure.Reads as in-structure-reads
+use Rattle.reader_steps.proofs.structure.close_fields.Reads as close-fields-reads
+use Rattle.reader_steps.proofs.structure.field_ends.Reads as field-ends-reads
 use of.structure.structure.Reads as structure·structure
 use of.value.Reads as value
 use Rattle.signature.proofs.shapes.next_of.Reads as next-of-reads

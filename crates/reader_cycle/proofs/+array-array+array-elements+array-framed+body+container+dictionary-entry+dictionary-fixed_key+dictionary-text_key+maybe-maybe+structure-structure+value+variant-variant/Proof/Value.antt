@@ -1,9 +1,9 @@
 -- The needs of `value`, and what answers each.
 use Prim.Native.Nat.{ℕ}
 use Rattle.reader_basic.proofs.Leaves.{child-before, child-past, child-there}
-use Rattle.reader_cycle.proofs.Characters.{contains-code, typed-within, value-leaf}
-use Rattle.reader_cycle.proofs.Deepening.{told}
-use Rattle.reader_cycle.proofs.Readers.{within-child}
+use Rattle.reader_steps.proofs.Characters.{contains-code, typed-within, value-leaf}
+use Rattle.reader_steps.proofs.Deepening.{told}
+use Rattle.reader_steps.proofs.Readers.{within-child}
 use borrow.Author.Needs.{needs}
 use native.Mathlib.Omega.{arith}
 use Rattle.reader_cycle.proofs as of
@@ -11,7 +11,7 @@ use Rattle.reader_cycle.proofs.+array-array+array-elements+array-framed
 use cycle.Proof.Measures.{container-below, value-at}
 use Rattle.reader_basic.proofs.refused.Reads as refused-reads
 use cycle.Lts-value as value-lts
-use of.codes.leaf.Reads as leaf-reads
+use Rattle.reader_steps.proofs.codes.leaf.Reads as leaf-reads
 use of.container.Reads as container
 use of.value.Reads as value
 

@@ -2,10 +2,10 @@
 use Prim.Native.Nat.{_+_, _-_, ℕ}
 use Rattle.reader_basic.proofs.Answers.{denied, granted}
 use Rattle.reader_basic.proofs.Loops.{kept, tail}
-use Rattle.reader_cycle.proofs.Deepening.{few-variants, inside-deeper, level-falls, told}
-use Rattle.reader_cycle.proofs.Variants.{holds-basic, same-value, variant-closed, variant-deep, variant-none, variant-text, variant-type}
-use Rattle.reader_cycle.specs.Children.{onlyLetter}
-use Rattle.reader_cycle.specs.Rides.{contextOf}
+use Rattle.reader_steps.proofs.Deepening.{few-variants, inside-deeper, level-falls, told}
+use Rattle.reader_steps.proofs.Variants.{holds-basic, same-value, variant-closed, variant-deep, variant-none, variant-text, variant-type}
+use Rattle.reader_steps.specs.Children.{onlyLetter}
+use Rattle.reader_steps.specs.Rides.{contextOf}
 use Rattle.signature.proofs.ShapeLaws.{table-filled, table-refused, table-type}
 use Rattle.signature.proofs.TreeLaws.{front, front-described}
 use borrow.Author.Needs.{needs}
@@ -18,12 +18,12 @@ use cycle.Proof.Measures.{value-below, variant·variant-at}
 use Rattle.reader_basic.proofs.basic.separator.Reads as separator-reads
 use Rattle.reader_basic.proofs.refused.Reads as refused-reads
 use cycle.Lts-variant-variant as variant·variant-lts
-use of.opening.in_variant.Reads as in-variant-reads
+use Rattle.reader_steps.proofs.opening.in_variant.Reads as in-variant-reads
 use of.value.Reads as value
-use of.variant.basic_variant.Reads as basic-variant-reads
-use of.variant.close_variant.Reads as close-variant-reads
-use of.variant.only_basic.Reads as only-basic-reads
-use of.variant.type_text.Reads as type-text-reads
+use Rattle.reader_steps.proofs.variant.basic_variant.Reads as basic-variant-reads
+use Rattle.reader_steps.proofs.variant.close_variant.Reads as close-variant-reads
+use Rattle.reader_steps.proofs.variant.only_basic.Reads as only-basic-reads
+use Rattle.reader_steps.proofs.variant.type_text.Reads as type-text-reads
 use of.variant.variant.Reads as variant·variant
 use Rattle.signature.proofs.shapes.shapes_of.Reads as shapes-of-reads
 

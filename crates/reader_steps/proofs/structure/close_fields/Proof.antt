@@ -1,0 +1,36 @@
+-- `reader_cycle::structure::close_fields` meets its contract. Assumes nothing.
+use Rattle.reader_steps.proofs.Structures.{closed-by-padding, closed-by-table}
+use mathlib.Core.Path.{_∙_, sym}
+use borrow.Author.Needs.{needs}
+use Rattle.reader_steps.proofs.structure.close_fields.Statement.{statement}
+use Rattle.reader_steps.proofs.structure.close_fields.Tie as tie
+use Rattle.reader_steps.proofs.structure.close_fields.Reads as reads
+use Rattle.reader_steps.proofs.structure.close_fields.Lts as lts
+use Rattle.reader_steps.proofs.ends.end_padded.Reads as end-padded-reads
+use Rattle.signature.proofs.shapes.fixed_of.Reads as fixed-of-reads
+use Rattle.reader_steps.proofs.ends.past.Reads as past-reads
+
+fixed-of-requires : tie.Need-fixed-of-requires
+fixed-of-requires c κs = search needs
+
+end-padded-requires : tie.Need-end-padded-requires
+end-padded-requires c κs = search needs
+
+returns : tie.Need-returns
+returns c =
+    λ read n l l′ d. closed-by-padding read _ _ _ _ _ _ _ n l l′ _ _ d (sym (c .before .before .fixed-of .ensures) ∙ c .before .if1 .taken) (c .before .before .before .before .pre .5 (sym (c .before .before .fixed-of .ensures) ∙ c .before .if1 .taken)) (c .end-padded .ensures)
+
+sub-past : tie.Need-sub-past
+sub-past c = search needs
+
+past-requires : tie.Need-past-requires
+past-requires c κs = search needs
+
+returns-2 : tie.Need-returns-2
+returns-2 c =
+    λ read n l l′ d. closed-by-table read _ _ _ _ _ _ _ n l l′ _ _ d (sym (c .before .before .fixed-of .ensures) ∙ c .before .if1 .left) (c .before .before .before .before .pre .4) (c .past .ensures)
+
+pub close-fields-spec : {M : Type 1} → statement M
+close-fields-spec =
+    tie.close
+    (tie.spec fixed-of-requires end-padded-requires returns sub-past past-requires returns-2)

@@ -1,0 +1,58 @@
+// Where a structure's fields end, and what stands behind the last.
+use crate::ends::Ends;
+use crate::ends::end_padded;
+use crate::ends::past;
+use framing_offset_size::FramingOffsetSize;
+use reader_basic::Answer;
+use reader_basic::basic::offset_before;
+use signature::shapes::fixed_of;
+ghost use mathlib.Core.Path.{_≡_};
+ghost use mathlib.Core.Bool.{true};
+ghost use mathlib.Core.List.{List};
+ghost use Prim.Native.Nat.{ℕ, _+_, _-_, _%_, _≤_};
+ghost use lib.Dec.{leb};
+ghost use lib.ListN.{length};
+ghost use Rattle.meaning.specs.Limits.{largestFrame};
+ghost use Rattle.meaning.specs.Offsets.{encodedWidth};
+ghost use Rattle.meaning.specs.Outcome.{Outcome, chain, passing};
+ghost use Rattle.meaning.specs.Reading.{child, endPadding};
+ghost use Rattle.meaning.specs.Padding.{Aligns};
+ghost use Rattle.reader_basic.specs.Answers.{From, Between};
+ghost use Rattle.reader_steps.specs.Children.{fieldEnds};
+ghost use Rattle.reader_steps.specs.Rides.{contextOf};
+
+// Where a field that is not the last ends, in a structure that begins at lead and whose table reaches to an end.
+pub fn field_ends(part: &[u8], lead: usize, field: u16, end: usize) -> Ends
+    requires { ⌜ (lead ≤ length (now part)) × (end ≤ length (now part)) × (length (now part) ≤ largestFrame) ⌝ }
+    ensures { λ r. ⌜ r ≡ fieldEnds lead (encodedWidth (length (now (part .entry)) - lead)) (leb 16 (field % 32)) end (now (part .entry)) ⌝ }
+{
+    if fixed_of(field) {
+        return Ends::at(end, 0);
+    }
+    let size = FramingOffsetSize::for_encoded_container(part.len() - lead);
+    let offset = offset_before(part, lead, size, end);
+    let refusal = offset.refusal;
+    if refusal != 0 {
+        return Ends::missing(refusal);
+    }
+    Ends::at(lead + offset.value, size.width())
+}
+
+// The end of a structure whose last field, from j to an end, was read: padding where it is fixed, else the table.
+pub fn close_fields(
+    shape: u16,
+    part: &[u8],
+    j: usize,
+    end: usize,
+    place: usize,
+    ride: usize,
+    r: Answer,
+) -> Answer
+    requires { ⌜ (place + length (now part) ≤ largestFrame) × (contextOf ride .position ≤ largestFrame) × Aligns (shape % 16) × (j + r .used ≤ length (now part)) × (end ≤ length (now part)) × (leb 16 (shape % 32) ≡ true → end ≡ length (now part)) ⌝ }
+    ensures { λ s. ⌜ ((read : ℕ → List ℕ → Outcome) (n : ℕ) (l l′ : List ℕ) → Between (child read place (now (part .entry)) j end) (now (part .entry)) j end n l l′ r → From (chain (endPadding (contextOf ride .position) (leb 16 (shape % 32)) (shape % 16) place (now (part .entry)) j (child read place (now (part .entry)) j end)) (passing (length (now (part .entry)) - end))) (now (part .entry)) j n l l′ s) ⌝ }
+{
+    if fixed_of(shape) {
+        return end_padded(part, j, place, ride, shape, r);
+    }
+    past(r, part.len() - end)
+}

@@ -4,7 +4,7 @@ use crate::value;
 use events::emit;
 use framing_offsets::OffsetTable;
 use framing_offsets::from_encoded_array;
-use framing_offsets::next;
+use framing_offsets::table::next_in;
 use reader_basic::Answer;
 use reader_basic::basic::close;
 use reader_basic::behind;
@@ -13,6 +13,8 @@ use reader_basic::refused;
 use reader_runs::numbers::numbers;
 use reader_runs::numbers::readings;
 use reader_runs::texts::texts;
+use reader_steps::array::kind_by;
+use reader_steps::array::repeats_fixed;
 use reader_steps::codes::held_width;
 use reader_steps::codes::is_text;
 use reader_steps::codes::number_width;
@@ -31,8 +33,6 @@ ghost use Rattle.reader_basic.specs.Answers.{From};
 ghost use Rattle.reader_basic.specs.Parts.{Stands, Inside};
 ghost use Rattle.reader_steps.specs.Places.{insideOf, itemOf, elementsOf, framedOf, Repeated};
 ghost use Rattle.reader_steps.specs.Rides.{contextOf};
-use reader_steps::array::kind_by;
-use reader_steps::array::repeats_fixed;
 
 pub(crate) fn array(
     text: &[u8],
@@ -141,15 +141,16 @@ pub(crate) fn framed(
         return texts(offsets, part, lead, place, code, out, n);
     }
     let is_entry = code == b'{';
-    let table = &part[lead..];
     let many = offsets.count;
     let b = lead + offsets.start;
+    let table = &part[b..];
     let mut i = 0;
     let mut u = 0;
     let mut m = n;
     while i < many {
         let j = lead + u;
-        let offset = next(table, offsets, i);
+        let size = offsets.size;
+        let offset = next_in(table, size, i);
         let e = lead + offset.value;
         let r = if is_entry {
             entry(text, shapes, at, part, b, j, e, place, ride, out, m)

@@ -6,6 +6,7 @@ use reader_basic::behind;
 use reader_basic::refused;
 use reader_steps::codes::is_fixed;
 use reader_steps::codes::leaf;
+use reader_steps::dictionary::key_ends;
 use reader_steps::ends::end_padded;
 use reader_steps::ends::padded;
 use reader_steps::ends::past;
@@ -18,7 +19,6 @@ ghost use Rattle.reader_basic.specs.Answers.{Between};
 ghost use Rattle.reader_basic.specs.Parts.{Inside};
 ghost use Rattle.reader_steps.specs.Places.{stepIn, fixedKeyIn, textKeyIn, Repeated, itemBy};
 ghost use Rattle.reader_steps.specs.Rides.{contextOf};
-use reader_steps::dictionary::key_ends;
 
 // One entry of a dictionary, from j to e; the body ends at b.
 pub(crate) fn entry(

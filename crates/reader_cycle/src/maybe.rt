@@ -6,6 +6,7 @@ use meaning::letters::NOTHING_LETTER;
 use reader_basic::Answer;
 use reader_basic::done;
 use reader_basic::refused;
+use reader_steps::maybe::end_byte;
 use reader_steps::opening::in_maybe;
 use signature::Letter;
 use signature::shapes::fixed_of;
@@ -19,7 +20,6 @@ ghost use Rattle.reader_basic.specs.Answers.{From};
 ghost use Rattle.reader_basic.specs.Parts.{Inside};
 ghost use Rattle.reader_steps.specs.Places.{insideOf};
 ghost use Rattle.reader_steps.specs.Rides.{contextOf};
-use reader_steps::maybe::end_byte;
 
 pub(crate) fn maybe(
     text: &[u8],

@@ -7,6 +7,8 @@ use reader_basic::basic::close;
 use reader_basic::behind;
 use reader_basic::refused;
 use reader_steps::opening::in_structure;
+use reader_steps::structure::close_fields;
+use reader_steps::structure::field_ends;
 use signature::Letter;
 use signature::shapes::next_of;
 ghost use mathlib.Core.Path.{_≡_};
@@ -20,8 +22,6 @@ ghost use Rattle.reader_basic.specs.Answers.{From};
 ghost use Rattle.reader_basic.specs.Parts.{Inside};
 ghost use Rattle.reader_steps.specs.Places.{insideOf};
 ghost use Rattle.reader_steps.specs.Rides.{contextOf};
-use reader_steps::structure::close_fields;
-use reader_steps::structure::field_ends;
 
 // A structure, in one function with the loop over all its fields but the last. A field that is neither fixed nor last takes its end from the
 // back of the table.

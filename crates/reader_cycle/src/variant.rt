@@ -7,6 +7,10 @@ use reader_basic::Answer;
 use reader_basic::basic::separator;
 use reader_basic::refused;
 use reader_steps::opening::in_variant;
+use reader_steps::variant::basic_variant;
+use reader_steps::variant::close_variant;
+use reader_steps::variant::only_basic;
+use reader_steps::variant::type_text;
 use signature::shapes::shapes_of;
 use texts::text;
 ghost use Prim.Native.Nat.{_+_, _-_, _≤_};
@@ -15,10 +19,6 @@ ghost use Rattle.reader_basic.specs.Answers.{From};
 ghost use Rattle.reader_basic.specs.Parts.{Inside};
 ghost use Rattle.reader_steps.specs.Places.{insideOf, variantTree};
 ghost use Rattle.reader_steps.specs.Rides.{contextOf};
-use reader_steps::variant::basic_variant;
-use reader_steps::variant::close_variant;
-use reader_steps::variant::only_basic;
-use reader_steps::variant::type_text;
 
 // A variant: its type stands at its end, behind a nul.
 pub(crate) fn variant(

@@ -4,7 +4,8 @@ use mathlib.Core.List.{List}
 use mathlib.Core.Bool.{Bool, true, false}
 use Prim.Native.Nat.{ℕ, _+_, _-_, _≤_, _<_}
 use native.Mathlib.Omega.{arith}
-use lib.ListN.{length, drop}
+use lib.ListN.{length, take, drop, length-drop}
+use lib.Seq.{drop-drop}
 use Rattle.meaning.specs.Choice.{pick}
 use Rattle.meaning.specs.Depths as Depth
 use Rattle.meaning.specs.Depths.{Depths}
@@ -13,7 +14,13 @@ use Rattle.meaning.specs.Events.{event, opening}
 use Rattle.meaning.specs.Outcome.{Outcome, done, refused, chain, passing, closingAt, enclosed}
 use Rattle.meaning.specs.Reading.{Step, elements, elementsTo, tabled, arrayBody, arrayIn}
 use Rattle.container_depths.specs.Opening.{depthsOf}
-use Rattle.framing_offsets.specs.Tables.{tableIn, emptyTable, Encoded}
+use Rattle.framing_offset_size.specs.Widths.{widthOf}
+use Rattle.framing_offset_size.proofs.WidthLaws.{width-positive}
+use Rattle.framing_offsets.specs.Tables.{tableIn, emptyTable, Encoded, offsetIn}
+use Rattle.framing_offsets.specs.Held.{heldTable}
+use Rattle.framing_offsets.specs.declared.OffsetTable.{OffsetTable}
+use Rattle.utils.specs.declared.Checked.{Checked}
+use Rattle.framing_offsets.proofs.HeldLaws.{offset-through}
 use Rattle.framing_offsets.specs.declared.EncodedArray.{EncodedArray}
 use Rattle.events.specs.Slices.{nextEvent, put}
 use Rattle.reader_basic.specs.Parts.{itemKind}
@@ -96,6 +103,14 @@ module _ {text shapes : List ℕ} {at : ℕ} {i : Item} (a : ItemAt text shapes 
           let w : tableIn (e .offsets) ≡ tableOf (drop lead part) = t .table ∙ ap (λ (x : Bool). pick x (tableOf (drop lead part)) emptyTable) b in
           rw (opened-body ∙ body-tabled (itemKind i) (i .fixed) (itemStep (c′ .position) (c′ .big) (c′ .depths .variant) text i) place part lead (depthsOf (c′ .depths)) f b (tableIn (e .offsets)) (sym w))
           (enclosed-on (itemKind i) (place + lead) _ _ n m l l₁ l′ _ s p q g)
+
+-- what the bytes of a table say of an offset is what the table says of it in its container
+pub offset-told : (o : OffsetTable) (i lead : ℕ) (part : List ℕ) {r : Checked} → i < o .count
+    → r ≡ offsetIn (heldTable (widthOf (o .size)) (take (length part - (lead + o .start)) (drop (lead + o .start) part))) i (take (length part - (lead + o .start)) (drop (lead + o .start) part))
+    → r ≡ offsetIn (tableIn o) i (drop lead part)
+offset-told o i lead part h e =
+    let z : length part - (lead + o .start) ≡ length (drop lead part) - o .start = simp length-drop (omega arith) in
+    offset-through (tableIn o) i (drop lead part) h (width-positive (o .size)) (rw (z, sym (drop-drop (o .start) lead part)) at e)
 
 -- a fixed step that is done uses a byte
 pub item-least : (text shapes : List ℕ) (i : Item) → Repeated text shapes i → i .fixed ≡ true → (position : ℕ) (big : Bool) (nested : ℕ) (d : Depths) (place : ℕ) (part : List ℕ) (b j end len n : ℕ) (l l′ : List ℕ) (r : Answer)

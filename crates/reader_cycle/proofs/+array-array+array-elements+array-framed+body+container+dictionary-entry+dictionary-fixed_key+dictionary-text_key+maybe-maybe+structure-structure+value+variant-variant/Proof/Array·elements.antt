@@ -20,13 +20,13 @@ use Rattle.reader_cycle.proofs.+array-array+array-elements+array-framed
 use cycle.Proof.Measures.{array·elements-at, dictionary·entry-below, value-below}
 use Rattle.reader_basic.proofs.behind.Reads as behind-reads
 use Rattle.reader_basic.proofs.done.Reads as done-reads
-use Rattle.reader_runs.proofs.numbers.numbers.Reads as numbers-reads
 use cycle.Lts-array-elements as array·elements-lts
 use of.array.elements.Reads as array·elements
-use Rattle.reader_steps.proofs.codes.number_width.Reads as number-width-reads
 use of.dictionary.entry.Reads as dictionary·entry
-use Rattle.reader_steps.proofs.ride.context_of.Reads as context-of-reads
 use of.value.Reads as value
+use Rattle.reader_runs.proofs.numbers.numbers.Reads as numbers-reads
+use Rattle.reader_steps.proofs.codes.number_width.Reads as number-width-reads
+use Rattle.reader_steps.proofs.ride.context_of.Reads as context-of-reads
 
 abbrev array·elements-callees : ℕ → array·elements-lts.Claims
 array·elements-callees t = (
@@ -75,8 +75,12 @@ array·elements-numbers-requires t c κs =
     let at-context-of = c .before in
     let at-if1 = at-context-of .before in
     let at-number-width = at-if1 .before in
-    let start = at-number-width .before .before .before .before .before in
-    (inside-as (at-context-of .context-of .ensures) (start .pre .1 .2), start .pre .1 .3, start .pre .1 .0 .number _ _ (item-number (start .args .text .now) (start .args .shapes .now) (start .args .at) (item-within (start .args .text .now) (start .args .shapes .now) (start .args .at) _ (start .pre .1 .0)) _ (at-number-width .number-width .ensures) (at-if1 .if1 .taken)) .aligned)
+    let start = at-number-width .before .before .before .before .before in (
+      inside-as (at-context-of .context-of .ensures) (start .pre .1 .2),
+      start .pre .1 .3,
+      start .pre .1 .0 .number _ _ (item-number (start .args .text .now) (start .args .shapes .now) (start .args .at) (item-within
+          (start .args .text .now) (start .args .shapes .now) (start .args .at) _ (start .pre .1 .0)) _ (at-number-width .number-width .ensures) (at-if1 .if1 .taken)) .aligned,
+    )
 
 array·elements-same-length : (t : ℕ) → array·elements-lts.Need-same-length (array·elements-callees t) (array·elements-at t) array·elements.Post array·elements-Inv-loop array·elements-μ-loop
 array·elements-same-length t c = search needs
@@ -88,7 +92,8 @@ array·elements-returns t c =
     let at-if1 = at-context-of .before in
     let at-number-width = at-if1 .before in
     let start = at-number-width .before .before .before .before .before in
-    plain-numbers _ _ _ _ (start .pre .1 .0 .number _ _ (item-number (start .args .text .now) (start .args .shapes .now) (start .args .at) (item-within (start .args .text .now) (start .args .shapes .now) (start .args .at) _ (start .pre .1 .0)) _ (at-number-width .number-width .ensures) (at-if1 .if1 .taken)))
+    plain-numbers _ _ _ _ (start .pre .1 .0 .number _ _ (item-number (start .args .text .now) (start .args .shapes .now) (start .args .at) (item-within (start .args .text .now) (start .args .shapes .now)
+    (start .args .at) _ (start .pre .1 .0)) _ (at-number-width .number-width .ensures) (at-if1 .if1 .taken)))
     (contextOf (start .args .ride) .position) (contextOf (start .args .ride) .big)
     (contextOf (start .args .ride) .depths .variant) (depthsOf (contextOf (start .args .ride) .depths)) (start .args .place) (start .args .part .now)
     (length (start .args .part .now)) (start .args .lead) _ _ _ _ _ _ (start .pre .1 .1) (numbers-as (at-context-of .context-of .ensures) _ _ (start .args .place) (start .args .part .now) (start .args .lead) (at-numbers .numbers .ensures))

@@ -2,8 +2,9 @@
 use Prim.Native.Nat.{_+_, _-_, ℕ}
 use Rattle.framing_offsets.specs.Tables.{tableIn}
 use Rattle.meaning.specs.Offsets.{endsOf}
-use Rattle.reader_basic.proofs.Loops.{FramedLeft, ends-below, framed-begin, framed-end, framed-next, framed-stop, kept, length-ends, next-end, tail}
+use Rattle.reader_basic.proofs.Loops.{FramedLeft, ends-below, framed-begin, framed-end, framed-next, framed-stop, kept, length-ends, next-end}
 use Rattle.reader_basic.specs.Answers.{Between}
+use Rattle.reader_steps.proofs.Arrays.{offset-told}
 use Rattle.reader_steps.proofs.Deepening.{arrived, told}
 use Rattle.reader_steps.proofs.ItemLaws.{held-numbers, held-texts}
 use Rattle.reader_steps.proofs.Repeats.{fixed-as, item-held, item-text, item-within, repeated-as, step-element, step-entry}
@@ -19,18 +20,18 @@ use native.Mathlib.Omega.{arith}
 use Rattle.reader_cycle.proofs as of
 use Rattle.reader_cycle.proofs.+array-array+array-elements+array-framed+body+container+dictionary-entry+dictionary-fixed_key+dictionary-text_key+maybe-maybe+structure-structure+value+variant-variant as cycle
 use cycle.Proof.Measures.{array·framed-at, dictionary·entry-below, value-below}
-use Rattle.framing_offsets.proofs.next.Reads as next-reads
+use Rattle.framing_offsets.proofs.table.next_in.Reads as next-in-reads
 use Rattle.reader_basic.proofs.behind.Reads as behind-reads
 use Rattle.reader_basic.proofs.done.Reads as done-reads
-use Rattle.reader_runs.proofs.numbers.readings.Reads as readings-reads
-use Rattle.reader_runs.proofs.texts.texts.Reads as texts-reads
 use cycle.Lts-array-framed as array·framed-lts
 use of.array.framed.Reads as array·framed
+use of.dictionary.entry.Reads as dictionary·entry
+use of.value.Reads as value
+use Rattle.reader_runs.proofs.numbers.readings.Reads as readings-reads
+use Rattle.reader_runs.proofs.texts.texts.Reads as texts-reads
 use Rattle.reader_steps.proofs.codes.held_width.Reads as held-width-reads
 use Rattle.reader_steps.proofs.codes.is_text.Reads as is-text-reads
-use of.dictionary.entry.Reads as dictionary·entry
 use Rattle.reader_steps.proofs.ride.context_of.Reads as context-of-reads
-use of.value.Reads as value
 
 abbrev array·framed-callees : ℕ → array·framed-lts.Claims
 array·framed-callees t = (
@@ -44,8 +45,8 @@ array·framed-callees t = (
   is-text-reads.Learnt,
   texts-reads.Asked,
   texts-reads.Learnt,
-  next-reads.Asked,
-  next-reads.Learnt,
+  next-in-reads.Asked,
+  next-in-reads.Learnt,
   dictionary·entry-below t,
   dictionary·entry.Post,
   value-below t,
@@ -57,11 +58,11 @@ array·framed-callees t = (
 )
 
 abbrev array·framed-Inv-loop : array·framed-lts.InvT-loop
-array·framed-Inv-loop text shapes at offsets part lead place ride out₀ n child′ width code is-entry table many b i₀ u₀ m₀ out i u m =
+array·framed-Inv-loop text shapes at offsets part lead place ride out₀ n child′ width code is-entry many′ b′ table i₀ u₀ m₀ out i u m =
     FramedLeft (stepIn (contextOf ride) text (itemOf text shapes at) place part (lead + offsets .start)) part lead (lead + offsets .start) n out₀ (endsOf (tableIn offsets) (drop lead part)) i u m out
 
 abbrev array·framed-μ-loop : array·framed-lts.MeasureT-loop
-array·framed-μ-loop text shapes at offsets part lead place ride out₀ n child′ width code is-entry table many b i₀ u₀ m₀ out i u m =
+array·framed-μ-loop text shapes at offsets part lead place ride out₀ n child′ width code is-entry many′ b′ table i₀ u₀ m₀ out i u m =
     offsets .count - i
 
 array·framed-add-child : (t : ℕ) → array·framed-lts.Need-add-child (array·framed-callees t) (array·framed-at t) array·framed.Post array·framed-Inv-loop array·framed-μ-loop
@@ -93,8 +94,12 @@ array·framed-readings-requires t c κs =
     let at-context-of = c .before in
     let at-if1 = at-context-of .before .before in
     let at-held-width = at-if1 .before in
-    let start = at-held-width .before .before .before .before in
-    (inside-as (at-context-of .context-of .ensures) (start .pre .1 .2), record { begins = start .pre .1 .3; stands = start .pre .1 .4 }, start .pre .1 .0 .number _ _ (item-held (start .args .text .now) (start .args .shapes .now) (start .args .at) (item-within (start .args .text .now) (start .args .shapes .now) (start .args .at) _ (start .pre .1 .0)) _ (at-held-width .held-width .ensures (at-if1 .if1 .taken))) .aligned)
+    let start = at-held-width .before .before .before .before in (
+      inside-as (at-context-of .context-of .ensures) (start .pre .1 .2),
+      record { begins = start .pre .1 .3; stands = start .pre .1 .4 },
+      start .pre .1 .0 .number _ _ (item-held (start .args .text .now)
+          (start .args .shapes .now) (start .args .at) (item-within (start .args .text .now) (start .args .shapes .now) (start .args .at) _ (start .pre .1 .0)) _ (at-held-width .held-width .ensures (at-if1 .if1 .taken))) .aligned,
+    )
 
 array·framed-same-length : (t : ℕ) → array·framed-lts.Need-same-length (array·framed-callees t) (array·framed-at t) array·framed.Post array·framed-Inv-loop array·framed-μ-loop
 array·framed-same-length t c = search needs
@@ -106,7 +111,9 @@ array·framed-returns t c =
     let at-if1 = at-context-of .before .before in
     let at-held-width = at-if1 .before in
     let start = at-held-width .before .before .before .before in
-    held-numbers _ _ _ _ (start .pre .1 .0 .number _ _ (item-held (start .args .text .now) (start .args .shapes .now) (start .args .at) (item-within (start .args .text .now) (start .args .shapes .now) (start .args .at) _ (start .pre .1 .0)) _ (at-held-width .held-width .ensures (at-if1 .if1 .taken)))) _ _ _ _ _ _ _ _ _ _ _ _ _ _ _ _ (start .pre .1 .1) (readings-as (at-context-of .context-of .ensures) _ _ _ _ _ _ (start .args .offsets) (at-readings .readings .ensures))
+    held-numbers _ _ _ _ (start .pre .1 .0 .number _ _ (item-held (start .args .text .now) (start .args .shapes .now) (start .args .at) (item-within (start .args .text .now) (start .args .shapes .now)
+    (start .args .at) _ (start .pre .1 .0)) _ (at-held-width .held-width .ensures (at-if1 .if1 .taken)))) _ _ _ _ _ _ _ _ _ _ _ _ _ _ _ _ (start .pre .1 .1) (readings-as (at-context-of .context-of .ensures) _ _ _ _ _ _
+    (start .args .offsets) (at-readings .readings .ensures))
 
 array·framed-shared-slice-read-code : (t : ℕ) → array·framed-lts.Need-shared-slice-read-code (array·framed-callees t) (array·framed-at t) array·framed.Post array·framed-Inv-loop array·framed-μ-loop
 array·framed-shared-slice-read-code t c =
@@ -131,21 +138,28 @@ array·framed-returns-2 t c =
     let at-is-text = at-if2 .before in
     let start = at-is-text .before .before .before .before .before .before .before in
     held-texts (contextOf (start .args .ride)) (start .args .text .now) (start .args .shapes .now) (itemOf (start .args .text .now) (start .args .shapes .now) (start .args .at)) _ (start .pre .1 .0)
-    (item-text (start .args .text .now) (start .args .shapes .now) (start .args .at) (item-within (start .args .text .now) (start .args .shapes .now) (start .args .at) _ (start .pre .1 .0)) (sym (at-if2 .if2 .taken) ∙ at-is-text .is-text .ensures)) (start .args .offsets) (start .args .place) (start .args .part .now)
+    (item-text (start .args .text .now) (start .args .shapes .now) (start .args .at) (item-within (start .args .text .now) (start .args .shapes .now) (start .args .at) _ (start .pre .1 .0)) (sym
+    (at-if2 .if2 .taken) ∙ at-is-text .is-text .ensures)) (start .args .offsets) (start .args .place) (start .args .part .now)
     (start .args .lead) _ _ _ _ _ _ (at-texts .texts .ensures)
-
-array·framed-sub-table : (t : ℕ) → array·framed-lts.Need-sub-table (array·framed-callees t) (array·framed-at t) array·framed.Post array·framed-Inv-loop array·framed-μ-loop
-array·framed-sub-table t c = omega arith
-
-array·framed-part-table-start : (t : ℕ) → array·framed-lts.Need-part-table-start (array·framed-callees t) (array·framed-at t) array·framed.Post array·framed-Inv-loop array·framed-μ-loop
-array·framed-part-table-start t c = omega arith
-
-array·framed-part-table-end : (t : ℕ) → array·framed-lts.Need-part-table-end (array·framed-callees t) (array·framed-at t) array·framed.Post array·framed-Inv-loop array·framed-μ-loop
-array·framed-part-table-end t c = omega arith
 
 array·framed-add-b : (t : ℕ) → array·framed-lts.Need-add-b (array·framed-callees t) (array·framed-at t) array·framed.Post array·framed-Inv-loop array·framed-μ-loop
 array·framed-add-b t c =
-    let start = c .before .before .before .before .before .before .before .before .before .before in
+    let start = c .before .before .before .before .before .before .before .before .before in
+    omega (arith, start .pre .1 .4 .start, length-drop (start .args .lead) (start .args .part .now), start .pre .1 .2 .in-frame, start .pre .1 .3)
+
+array·framed-sub-table : (t : ℕ) → array·framed-lts.Need-sub-table (array·framed-callees t) (array·framed-at t) array·framed.Post array·framed-Inv-loop array·framed-μ-loop
+array·framed-sub-table t c =
+    let start = c .before .before .before .before .before .before .before .before .before in
+    omega (arith, start .pre .1 .4 .start, length-drop (start .args .lead) (start .args .part .now), start .pre .1 .2 .in-frame, start .pre .1 .3)
+
+array·framed-part-table-start : (t : ℕ) → array·framed-lts.Need-part-table-start (array·framed-callees t) (array·framed-at t) array·framed.Post array·framed-Inv-loop array·framed-μ-loop
+array·framed-part-table-start t c =
+    let start = c .before .before .before .before .before .before .before .before .before in
+    omega (arith, start .pre .1 .4 .start, length-drop (start .args .lead) (start .args .part .now), start .pre .1 .2 .in-frame, start .pre .1 .3)
+
+array·framed-part-table-end : (t : ℕ) → array·framed-lts.Need-part-table-end (array·framed-callees t) (array·framed-at t) array·framed.Post array·framed-Inv-loop array·framed-μ-loop
+array·framed-part-table-end t c =
+    let start = c .before .before .before .before .before .before .before .before .before in
     omega (arith, start .pre .1 .4 .start, length-drop (start .args .lead) (start .args .part .now), start .pre .1 .2 .in-frame, start .pre .1 .3)
 
 array·framed-loop-holds : (t : ℕ) → array·framed-lts.Need-loop-holds (array·framed-callees t) (array·framed-at t) array·framed.Post array·framed-Inv-loop array·framed-μ-loop
@@ -157,8 +171,8 @@ array·framed-add-j t c =
     let start = at-loop .before .before .before .before .before .before .before .before .before .before .before in
     omega (arith, at-loop .loop .inv .bound, start .pre .1 .4 .start, length-drop (start .args .lead) (start .args .part .now), start .pre .1 .2 .in-frame, start .pre .1 .3)
 
-array·framed-next-requires : (t : ℕ) → array·framed-lts.Need-next-requires (array·framed-callees t) (array·framed-at t) array·framed.Post array·framed-Inv-loop array·framed-μ-loop
-array·framed-next-requires t c κs = search needs
+array·framed-next-in-requires : (t : ℕ) → array·framed-lts.Need-next-in-requires (array·framed-callees t) (array·framed-at t) array·framed.Post array·framed-Inv-loop array·framed-μ-loop
+array·framed-next-in-requires t c κs = search needs
 
 array·framed-add-e : (t : ℕ) → array·framed-lts.Need-add-e (array·framed-callees t) (array·framed-at t) array·framed.Post array·framed-Inv-loop array·framed-μ-loop
 array·framed-add-e t c =
@@ -168,8 +182,8 @@ array·framed-add-e t c =
     let start = at-loop .before .before .before .before .before .before .before .before .before .before .before in
     omega (
       arith,
-      (next-end (start .pre .1 .4) (at-loop .loop .i) (at-next .next .result) (at-loop-test .loop-test .taken)
-          (rw (tail (start .args .lead) (start .args .part .now)) at (at-next .next .ensures))),
+      (next-end (start .pre .1 .4) (at-loop .loop .i) (at-next .next-in .result) (at-loop-test .loop-test .taken)
+          (offset-told (start .args .offsets) (at-loop .loop .i) (start .args .lead) (start .args .part .now) (at-loop-test .loop-test .taken) (at-next .next-in .ensures))),
       ends-below (start .pre .1 .4) (at-loop .loop .i),
       start .pre .1 .4 .start,
       length-drop (start .args .lead) (start .args .part .now),
@@ -192,8 +206,8 @@ array·framed-entry-requires t c κs =
             (arith, at-loop .loop .inv .bound, start .pre .1 .4 .start, length-drop (start .args .lead) (start .args .part .now), start .pre .1 .3),
         omega (
           arith,
-          (next-end (start .pre .1 .4) (at-loop .loop .i) (at-next .next .result) (at-loop-test .loop-test .taken)
-              (rw (tail (start .args .lead) (start .args .part .now)) at (at-next .next .ensures))),
+          (next-end (start .pre .1 .4) (at-loop .loop .i) (at-next .next-in .result) (at-loop-test .loop-test .taken)
+              (offset-told (start .args .offsets) (at-loop .loop .i) (start .args .lead) (start .args .part .now) (at-loop-test .loop-test .taken) (at-next .next-in .ensures))),
           ends-below (start .pre .1 .4) (at-loop .loop .i),
         ),
         omega
@@ -207,22 +221,32 @@ array·framed-value-requires : (t : ℕ) → array·framed-lts.Need-value-requir
 array·framed-value-requires t c κs =
     let at-if1 = c .before in
     let at-loop = at-if1 .before .before .before .before in
-    let start = at-loop .before .before .before .before .before .before .before .before .before .before .before in
-    (omega (arith, start .pre .0), (repeated-as (start .args .text .now) (start .args .shapes .now) (start .args .at) (at-if1 .if3 .left) (start .pre .1 .0) .child, start .pre .1 .2, omega (arith, at-loop .loop .inv .bound, start .pre .1 .4 .start, length-drop (start .args .lead) (start .args .part .now), start .pre .1 .3)))
+    let start = at-loop .before .before .before .before .before .before .before .before .before .before .before in (
+      omega (arith, start .pre .0),
+      (
+        repeated-as (start .args .text .now) (start .args .shapes .now) (start .args .at) (at-if1 .if3 .left) (start .pre .1 .0) .child,
+        start .pre .1 .2,
+        omega
+            (arith, at-loop .loop .inv .bound, start .pre .1 .4 .start, length-drop (start .args .lead) (start .args .part .now), start .pre .1 .3),
+      ),
+    )
 
 -- what one turn reads: an element, or an entry
 array·framed-turn : (t : ℕ) (c : array·framed-lts.Joined3 (array·framed-callees t) (array·framed-at t) array·framed.Post array·framed-Inv-loop array·framed-μ-loop)
     → Between (stepIn (contextOf (c .before .before .before .before .before .before .before .before .before .before .before .before .before .before .before .args .ride))
     (c .before .before .before .before .before .before .before .before .before .before .before .before .before .before .before .args .text .now)
-    (itemOf (c .before .before .before .before .before .before .before .before .before .before .before .before .before .before .before .args .text .now) (c .before .before .before .before .before .before .before .before .before .before .before .before .before .before .before .args .shapes .now)
+    (itemOf (c .before .before .before .before .before .before .before .before .before .before .before .before .before .before .before .args .text .now)
+    (c .before .before .before .before .before .before .before .before .before .before .before .before .before .before .before .args .shapes .now)
     (c .before .before .before .before .before .before .before .before .before .before .before .before .before .before .before .args .at))
-    (c .before .before .before .before .before .before .before .before .before .before .before .before .before .before .before .args .place) (c .before .before .before .before .before .before .before .before .before .before .before .before .before .before .before .args .part .now)
+    (c .before .before .before .before .before .before .before .before .before .before .before .before .before .before .before .args .place)
+    (c .before .before .before .before .before .before .before .before .before .before .before .before .before .before .before .args .part .now)
     (c .before .before .before .before .before .before .before .before .before .before .before .before .before .before .before .args .lead + c .before .before .before .before .before .before .before .before .before .before .before .before .before .before .before .args .offsets .start)
     (c .before .before .before .before .before .before .before .before .before .before .before .before .before .before .before .args .lead + c .before .before .before .before .loop .u)
-    (c .before .before .before .before .before .before .before .before .before .before .before .before .before .before .before .args .lead + c .before .before .next .result .value))
+    (c .before .before .before .before .before .before .before .before .before .before .before .before .before .before .before .args .lead + c .before .before .next-in .result .value))
     (c .before .before .before .before .before .before .before .before .before .before .before .before .before .before .before .args .part .now)
     (c .before .before .before .before .before .before .before .before .before .before .before .before .before .before .before .args .lead + c .before .before .before .before .loop .u)
-    (c .before .before .before .before .before .before .before .before .before .before .before .before .before .before .before .args .lead + c .before .before .next .result .value) (c .before .before .before .before .loop .m) (c .before .before .before .before .loop .out) (c .if3 .out)
+    (c .before .before .before .before .before .before .before .before .before .before .before .before .before .before .before .args .lead + c .before .before .next-in .result .value)
+    (c .before .before .before .before .loop .m) (c .before .before .before .before .loop .out) (c .if3 .out)
     (c .if3 .r)
 array·framed-turn t c =
     let at-next = c .before .before in
@@ -230,10 +254,10 @@ array·framed-turn t c =
     let start = at-loop .before .before .before .before .before .before .before .before .before .before .before in
     ⊎-elim (λ x. arrived (x .5) (x .6) (step-entry (contextOf (start .args .ride)) (start .args .text .now) (start .args .shapes .now) (start .args .at) _ (start .args .place)
     (start .args .part .now) (start .args .lead + start .args .offsets .start) (start .args .lead + at-loop .loop .u)
-    (start .args .lead + at-next .next .result .value) _ _ _ _ (x .0 .taken) (x .2 .ensures)))
+    (start .args .lead + at-next .next-in .result .value) _ _ _ _ (x .0 .taken) (x .2 .ensures)))
     (λ x. arrived (x .5) (x .6) (step-element (contextOf (start .args .ride)) (start .args .text .now) (start .args .shapes .now) (start .args .at) _ (start .args .place)
     (start .args .part .now) (start .args .lead + start .args .offsets .start) (start .args .lead + at-loop .loop .u)
-    (start .args .lead + at-next .next .result .value) _ _ _ _ (x .0 .left) (x .2 .ensures)))
+    (start .args .lead + at-next .next-in .result .value) _ _ _ _ (x .0 .left) (x .2 .ensures)))
     (c .if3 .came)
 
 array·framed-behind-requires : (t : ℕ) → array·framed-lts.Need-behind-requires (array·framed-callees t) (array·framed-at t) array·framed.Post array·framed-Inv-loop array·framed-μ-loop
@@ -261,8 +285,8 @@ array·framed-returns-3 t c =
     (omega (arith, start .pre .1 .4 .start, length-drop (start .args .lead) (start .args .part .now), start .pre .1 .3))
     (omega (arith, length-ends (tableIn (start .args .offsets)) (drop (start .args .lead) (start .args .part .now)), at-loop-test .loop-test .taken)) _ _
     (omega (arith, ends-below (start .pre .1 .4) (at-loop .loop .i)))
-    (rw (next-end (start .pre .1 .4) (at-loop .loop .i) (at-next .next .result) (at-loop-test .loop-test .taken)
-    (rw (tail (start .args .lead) (start .args .part .now)) at (at-next .next .ensures))) at (array·framed-turn t (at-2))) (at-if2 .if4 .taken))
+    (rw (next-end (start .pre .1 .4) (at-loop .loop .i) (at-next .next-in .result) (at-loop-test .loop-test .taken)
+    (offset-told (start .args .offsets) (at-loop .loop .i) (start .args .lead) (start .args .part .now) (at-loop-test .loop-test .taken) (at-next .next-in .ensures))) at (array·framed-turn t (at-2))) (at-if2 .if4 .taken))
 
 array·framed-add-u : (t : ℕ) → array·framed-lts.Need-add-u (array·framed-callees t) (array·framed-at t) array·framed.Post array·framed-Inv-loop array·framed-μ-loop
 array·framed-add-u t c =
@@ -291,8 +315,8 @@ array·framed-loop-again t c =
     (arith, start .pre .1 .4 .start, length-drop (start .args .lead) (start .args .part .now), start .pre .1 .3))
     (omega (arith, length-ends (tableIn (start .args .offsets)) (drop (start .args .lead) (start .args .part .now)), at-loop-test .loop-test .taken)) _ _
     (omega (arith, ends-below (start .pre .1 .4) (at-loop .loop .i)))
-    (rw (next-end (start .pre .1 .4) (at-loop .loop .i) (at-next .next .result) (at-loop-test .loop-test .taken)
-    (rw (tail (start .args .lead) (start .args .part .now)) at (at-next .next .ensures))) at (array·framed-turn t (at-2))) (at-if2 .if4 .left)
+    (rw (next-end (start .pre .1 .4) (at-loop .loop .i) (at-next .next-in .result) (at-loop-test .loop-test .taken)
+    (offset-told (start .args .offsets) (at-loop .loop .i) (start .args .lead) (start .args .part .now) (at-loop-test .loop-test .taken) (at-next .next-in .ensures))) at (array·framed-turn t (at-2))) (at-if2 .if4 .left)
 
 array·framed-sub-done : (t : ℕ) → array·framed-lts.Need-sub-done (array·framed-callees t) (array·framed-at t) array·framed.Post array·framed-Inv-loop array·framed-μ-loop
 array·framed-sub-done t c =
@@ -338,13 +362,13 @@ array·framed-spec t =
     (array·framed-texts-requires t)
     (array·framed-same-length-2 t)
     (array·framed-returns-2 t)
+    (array·framed-add-b t)
     (array·framed-sub-table t)
     (array·framed-part-table-start t)
     (array·framed-part-table-end t)
-    (array·framed-add-b t)
     (array·framed-loop-holds t)
     (array·framed-add-j t)
-    (array·framed-next-requires t)
+    (array·framed-next-in-requires t)
     (array·framed-add-e t)
     (array·framed-entry-requires t)
     (array·framed-value-requires t)

@@ -13,10 +13,10 @@ use cycle.Proof.Measures.{dictionary·entry-at, dictionary·fixed-key-below, dic
 use Rattle.reader_basic.proofs.behind.Reads as behind-reads
 use Rattle.reader_basic.proofs.refused.Reads as refused-reads
 use cycle.Lts-dictionary-entry as dictionary·entry-lts
-use Rattle.reader_steps.proofs.codes.is_fixed.Reads as is-fixed-reads
 use of.dictionary.entry.Reads as dictionary·entry
 use of.dictionary.fixed_key.Reads as dictionary·fixed-key
 use of.dictionary.text_key.Reads as dictionary·text-key
+use Rattle.reader_steps.proofs.codes.is_fixed.Reads as is-fixed-reads
 use Rattle.reader_steps.proofs.ends.padded.Reads as padded-reads
 
 abbrev dictionary·entry-callees : ℕ → dictionary·entry-lts.Claims
@@ -114,7 +114,9 @@ dictionary·entry-returns-2 t c =
     let at-if1 = at-is-fixed .before .before in
     let at-padded = at-if1 .before in
     let start = at-padded .before .before .before .before .before in
-    told (c .behind .ensures) (step-keyed (entry-padded (contextOf (start .args .ride)) (start .args .part .now) _ _ (start .pre .1 .0) refl (start .pre .1 .1) (start .pre .1 .2) (at-padded .padded .ensures)) _ _ _ _ (at-if1 .if1 .left) _ _ (sym (keyed-as (start .args .text .now) (start .args .at) (omega (arith, value-within (start .args .text .now) (start .args .shapes .now) (start .args .at) (start .pre .1 .0))) (at-is-fixed .is-fixed .ensures)) ∙ at-if2 .if2 .taken)
+    told (c .behind .ensures) (step-keyed (entry-padded (contextOf (start .args .ride)) (start .args .part .now) _ _ (start .pre .1 .0) refl (start .pre .1 .1) (start .pre .1 .2) (at-padded .padded .ensures)) _ _ _ _
+    (at-if1 .if1 .left) _ _ (sym (keyed-as (start .args .text .now) (start .args .at) (omega (arith, value-within (start .args .text .now) (start .args .shapes .now) (start .args .at) (start .pre .1 .0)))
+    (at-is-fixed .is-fixed .ensures)) ∙ at-if2 .if2 .taken)
     (at-fixed-key .fixed-key .ensures _))
 
 dictionary·entry-text-key-requires : (t : ℕ) → dictionary·entry-lts.Need-text-key-requires (dictionary·entry-callees t) (dictionary·entry-at t) dictionary·entry.Post
@@ -143,7 +145,9 @@ dictionary·entry-returns-3 t c =
     let at-if1 = at-is-fixed .before .before in
     let at-padded = at-if1 .before in
     let start = at-padded .before .before .before .before .before in
-    told (c .behind2 .ensures) (step-text (entry-padded (contextOf (start .args .ride)) (start .args .part .now) _ _ (start .pre .1 .0) refl (start .pre .1 .1) (start .pre .1 .2) (at-padded .padded .ensures)) _ _ _ _ (at-if1 .if1 .left) _ _ (sym (keyed-as (start .args .text .now) (start .args .at) (omega (arith, value-within (start .args .text .now) (start .args .shapes .now) (start .args .at) (start .pre .1 .0))) (at-is-fixed .is-fixed .ensures)) ∙ at-if2 .if2 .left)
+    told (c .behind2 .ensures) (step-text (entry-padded (contextOf (start .args .ride)) (start .args .part .now) _ _ (start .pre .1 .0) refl (start .pre .1 .1) (start .pre .1 .2) (at-padded .padded .ensures)) _ _ _ _
+    (at-if1 .if1 .left) _ _ (sym (keyed-as (start .args .text .now) (start .args .at) (omega (arith, value-within (start .args .text .now) (start .args .shapes .now) (start .args .at) (start .pre .1 .0)))
+    (at-is-fixed .is-fixed .ensures)) ∙ at-if2 .if2 .left)
     (at-text-key .text-key .ensures))
 
 pub dictionary·entry-spec : {M : Type 1} (t : ℕ) → dictionary·entry-lts.Closed (dictionary·entry-callees t) (dictionary·entry-at t) dictionary·entry.Post M

@@ -17,10 +17,10 @@ use cycle.Proof.Measures.{dictionary·fixed-key-at, value-below}
 use Rattle.reader_basic.proofs.behind.Reads as behind-reads
 use Rattle.reader_basic.proofs.refused.Reads as refused-reads
 use cycle.Lts-dictionary-fixed_key as dictionary·fixed-key-lts
-use Rattle.reader_steps.proofs.codes.leaf.Reads as leaf-reads
 use of.dictionary.fixed_key.Reads as dictionary·fixed-key
-use Rattle.reader_steps.proofs.ends.end_padded.Reads as end-padded-reads
 use of.value.Reads as value
+use Rattle.reader_steps.proofs.codes.leaf.Reads as leaf-reads
+use Rattle.reader_steps.proofs.ends.end_padded.Reads as end-padded-reads
 use Rattle.signature.proofs.shapes.fixed_of.Reads as fixed-of-reads
 
 abbrev dictionary·fixed-key-callees : ℕ → dictionary·fixed-key-lts.Claims
@@ -140,8 +140,18 @@ dictionary·fixed-key-end-padded-requires : (t : ℕ) → dictionary·fixed-key-
 dictionary·fixed-key-end-padded-requires t c κs =
     let at-value = c .before .before .before .before .before .before in
     let at-leaf = at-value .before .before .before .before .before in
-    let start = at-leaf .before .before .before .before .before .before .before .before in
-    (start .pre .1 .1 .in-frame, start .pre .1 .1 .near, omega (arith, part-fits (start .args .part .now) (start .args .j) (start .args .e) (at-leaf .leaf .ensures (depthsOf (contextOf (start .args .ride) .depths)) .fits), at-value .value .ensures .fits, start .pre .1 .2), start .pre .1 .0 .aligned)
+    let start = at-leaf .before .before .before .before .before .before .before .before in (
+      start .pre .1 .1 .in-frame,
+      start .pre .1 .1 .near,
+      omega (
+        arith,
+        part-fits (start .args .part .now) (start .args .j) (start .args .e) (at-leaf .leaf .ensures (depthsOf (contextOf
+            (start .args .ride) .depths)) .fits),
+        at-value .value .ensures .fits,
+        start .pre .1 .2,
+      ),
+      start .pre .1 .0 .aligned,
+    )
 
 dictionary·fixed-key-behind-requires : (t : ℕ) → dictionary·fixed-key-lts.Need-behind-requires (dictionary·fixed-key-callees t) (dictionary·fixed-key-at t) dictionary·fixed-key.Post
 dictionary·fixed-key-behind-requires t c κs =
@@ -165,7 +175,8 @@ dictionary·fixed-key-returns-3 t c =
     let start = at-if1 .before .before .before .before in
     let key = key-read (start .args .text .now) (start .args .at + 2) (omega (arith, value-within (start .args .text .now) (start .args .shapes .now) (start .args .at) (start .pre .1 .0))) (contextOf (start .args .ride) .position) (contextOf (start .args .ride) .big)
     (start .args .place) (start .args .part .now) (start .args .j) (start .args .e) _ _ _ _ (at-if1 .if1 .left) (start .pre .1 .3) (at-leaf .leaf .ensures) (depthsOf (contextOf (start .args .ride) .depths)) in
-    λ b. told (c .behind .ensures) (fixed-key-padded _ _ _ _ _ _ _ _ b _ _ _ _ _ _ key (at-if2 .if2 .left) _ _ (at-value .value .ensures) _ (and-second (start .pre .1 .5) (at-fixed-of .fixed-of .ensures) (at-if3 .if3 .taken)) (start .pre .1 .4 (and-second (start .pre .1 .5) (at-fixed-of .fixed-of .ensures) (at-if3 .if3 .taken))) (at-end-padded .end-padded .ensures))
+    λ b. told (c .behind .ensures) (fixed-key-padded _ _ _ _ _ _ _ _ b _ _ _ _ _ _ key (at-if2 .if2 .left) _ _ (at-value .value .ensures) _ (and-second (start .pre .1 .5) (at-fixed-of .fixed-of .ensures)
+    (at-if3 .if3 .taken)) (start .pre .1 .4 (and-second (start .pre .1 .5) (at-fixed-of .fixed-of .ensures) (at-if3 .if3 .taken))) (at-end-padded .end-padded .ensures))
 
 dictionary·fixed-key-behind-requires-2 : (t : ℕ) → dictionary·fixed-key-lts.Need-behind-requires-2 (dictionary·fixed-key-callees t) (dictionary·fixed-key-at t) dictionary·fixed-key.Post
 dictionary·fixed-key-behind-requires-2 t c κs =

@@ -17,11 +17,11 @@ use cycle.Proof.Measures.{dictionary·text-key-at, value-below}
 use Rattle.reader_basic.proofs.behind.Reads as behind-reads
 use Rattle.reader_basic.proofs.refused.Reads as refused-reads
 use cycle.Lts-dictionary-text_key as dictionary·text-key-lts
+use of.dictionary.text_key.Reads as dictionary·text-key
+use of.value.Reads as value
 use Rattle.reader_steps.proofs.codes.leaf.Reads as leaf-reads
 use Rattle.reader_steps.proofs.dictionary.key_ends.Reads as key-ends-reads
-use of.dictionary.text_key.Reads as dictionary·text-key
 use Rattle.reader_steps.proofs.ends.past.Reads as past-reads
-use of.value.Reads as value
 
 abbrev dictionary·text-key-callees : ℕ → dictionary·text-key-lts.Claims
 dictionary·text-key-callees t = (
@@ -93,7 +93,8 @@ dictionary·text-key-leaf-requires t c κs =
     let at-if1 = c .before .before .before in
     let at-key-ends = at-if1 .before in
     let start = at-key-ends .before .before .before .before in
-    within-child (start .args .part .now) (start .args .j) (at-key-ends .key-ends .result .child) (start .pre .1 .1) (omega (arith, (key-there _ _ _ _ _ (at-key-ends .key-ends .ensures) (at-if1 .if1 .left)) .end)) (omega (arith, (key-there _ _ _ _ _ (at-key-ends .key-ends .ensures) (at-if1 .if1 .left)) .within, start .pre .1 .4))
+    within-child (start .args .part .now) (start .args .j) (at-key-ends .key-ends .result .child) (start .pre .1 .1) (omega (arith, (key-there _ _ _ _ _ (at-key-ends .key-ends .ensures) (at-if1 .if1 .left)) .end))
+    (omega (arith, (key-there _ _ _ _ _ (at-key-ends .key-ends .ensures) (at-if1 .if1 .left)) .within, start .pre .1 .4))
 
 dictionary·text-key-same-length : (t : ℕ) → dictionary·text-key-lts.Need-same-length (dictionary·text-key-callees t) (dictionary·text-key-at t) dictionary·text-key.Post
 dictionary·text-key-same-length t c = search needs
@@ -105,7 +106,8 @@ dictionary·text-key-returns-2 t c =
     let at-key-ends = at-if1 .before in
     let start = at-key-ends .before .before .before .before in
     let key = key-read (start .args .text .now) (start .args .at + 2) (omega (arith, value-within (start .args .text .now) (start .args .shapes .now) (start .args .at) (start .pre .1 .0))) (contextOf (start .args .ride) .position) (contextOf (start .args .ride) .big)
-    (start .args .place) (start .args .part .now) (start .args .j) (at-key-ends .key-ends .result .child) _ _ _ _ (omega (arith, (key-there _ _ _ _ _ (at-key-ends .key-ends .ensures) (at-if1 .if1 .left)) .end)) (omega (arith, (key-there _ _ _ _ _ (at-key-ends .key-ends .ensures) (at-if1 .if1 .left)) .within, start .pre .1 .4)) (at-leaf .leaf .ensures) (depthsOf (contextOf (start .args .ride) .depths)) in
+    (start .args .place) (start .args .part .now) (start .args .j) (at-key-ends .key-ends .result .child) _ _ _ _ (omega (arith, (key-there _ _ _ _ _ (at-key-ends .key-ends .ensures) (at-if1 .if1 .left)) .end)) (omega
+    (arith, (key-there _ _ _ _ _ (at-key-ends .key-ends .ensures) (at-if1 .if1 .left)) .within, start .pre .1 .4)) (at-leaf .leaf .ensures) (depthsOf (contextOf (start .args .ride) .depths)) in
     text-key-stop _ _ _ _ _ _ _ (key-there _ _ _ _ _ (at-key-ends .key-ends .ensures) (at-if1 .if1 .left)) _ _ (start .pre .1 .3) (start .pre .1 .4) _ _ key (c .if2 .taken)
 
 dictionary·text-key-add-from : (t : ℕ) → dictionary·text-key-lts.Need-add-from (dictionary·text-key-callees t) (dictionary·text-key-at t) dictionary·text-key.Post
@@ -146,7 +148,8 @@ dictionary·text-key-returns-3 t c =
     let at-key-ends = at-if1 .before in
     let start = at-key-ends .before .before .before .before in
     let key = key-read (start .args .text .now) (start .args .at + 2) (omega (arith, value-within (start .args .text .now) (start .args .shapes .now) (start .args .at) (start .pre .1 .0))) (contextOf (start .args .ride) .position) (contextOf (start .args .ride) .big)
-    (start .args .place) (start .args .part .now) (start .args .j) (at-key-ends .key-ends .result .child) _ _ _ _ (omega (arith, (key-there _ _ _ _ _ (at-key-ends .key-ends .ensures) (at-if1 .if1 .left)) .end)) (omega (arith, (key-there _ _ _ _ _ (at-key-ends .key-ends .ensures) (at-if1 .if1 .left)) .within, start .pre .1 .4)) (at-leaf .leaf .ensures) (depthsOf (contextOf (start .args .ride) .depths)) in
+    (start .args .place) (start .args .part .now) (start .args .j) (at-key-ends .key-ends .result .child) _ _ _ _ (omega (arith, (key-there _ _ _ _ _ (at-key-ends .key-ends .ensures) (at-if1 .if1 .left)) .end)) (omega
+    (arith, (key-there _ _ _ _ _ (at-key-ends .key-ends .ensures) (at-if1 .if1 .left)) .within, start .pre .1 .4)) (at-leaf .leaf .ensures) (depthsOf (contextOf (start .args .ride) .depths)) in
     told (c .refused2 .ensures) (text-key-narrow _ _ _ _ _ _ _ (key-there _ _ _ _ _ (at-key-ends .key-ends .ensures) (at-if1 .if1 .left)) _ _ (start .pre .1 .3) (start .pre .1 .4) _ _ key (at-if2 .if2 .left) (at-if3 .if3 .taken))
 
 dictionary·text-key-sub-end : (t : ℕ) → dictionary·text-key-lts.Need-sub-end (dictionary·text-key-callees t) (dictionary·text-key-at t) dictionary·text-key.Post
@@ -205,7 +208,8 @@ dictionary·text-key-returns-4 t c =
     let at-key-ends = at-if1 .before in
     let start = at-key-ends .before .before .before .before in
     let key = key-read (start .args .text .now) (start .args .at + 2) (omega (arith, value-within (start .args .text .now) (start .args .shapes .now) (start .args .at) (start .pre .1 .0))) (contextOf (start .args .ride) .position) (contextOf (start .args .ride) .big)
-    (start .args .place) (start .args .part .now) (start .args .j) (at-key-ends .key-ends .result .child) _ _ _ _ (omega (arith, (key-there _ _ _ _ _ (at-key-ends .key-ends .ensures) (at-if1 .if1 .left)) .end)) (omega (arith, (key-there _ _ _ _ _ (at-key-ends .key-ends .ensures) (at-if1 .if1 .left)) .within, start .pre .1 .4)) (at-leaf .leaf .ensures) (depthsOf (contextOf (start .args .ride) .depths)) in
+    (start .args .place) (start .args .part .now) (start .args .j) (at-key-ends .key-ends .result .child) _ _ _ _ (omega (arith, (key-there _ _ _ _ _ (at-key-ends .key-ends .ensures) (at-if1 .if1 .left)) .end)) (omega
+    (arith, (key-there _ _ _ _ _ (at-key-ends .key-ends .ensures) (at-if1 .if1 .left)) .within, start .pre .1 .4)) (at-leaf .leaf .ensures) (depthsOf (contextOf (start .args .ride) .depths)) in
     told (c .behind .ensures) (text-key-value _ _ _ _ _ _ _ (key-there _ _ _ _ _ (at-key-ends .key-ends .ensures) (at-if1 .if1 .left)) _ _ (start .pre .1 .3) (start .pre .1 .4) _ _ key (at-if2 .if2 .left) (at-if3 .if3 .left) _ _ _
     (at-value .value .ensures) (at-past .past .ensures))
 

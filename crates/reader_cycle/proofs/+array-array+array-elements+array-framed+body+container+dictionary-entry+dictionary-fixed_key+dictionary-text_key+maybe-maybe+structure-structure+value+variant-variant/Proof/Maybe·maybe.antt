@@ -14,10 +14,10 @@ use Rattle.events.proofs.emit.Reads as emit-reads
 use Rattle.reader_basic.proofs.done.Reads as done-reads
 use Rattle.reader_basic.proofs.refused.Reads as refused-reads
 use cycle.Lts-maybe-maybe as maybe·maybe-lts
-use Rattle.reader_steps.proofs.maybe.end_byte.Reads as end-byte-reads
 use of.maybe.maybe.Reads as maybe·maybe
-use Rattle.reader_steps.proofs.opening.in_maybe.Reads as in-maybe-reads
 use of.value.Reads as value
+use Rattle.reader_steps.proofs.maybe.end_byte.Reads as end-byte-reads
+use Rattle.reader_steps.proofs.opening.in_maybe.Reads as in-maybe-reads
 use Rattle.signature.proofs.shapes.fixed_of.Reads as fixed-of-reads
 
 abbrev maybe·maybe-callees : ℕ → maybe·maybe-lts.Claims

@@ -1,14 +1,14 @@
 -- The needs of `structure·structure`, and what answers each.
+use Prim.Native.Nat.{_+_, _-_, ℕ}
+use Rattle.container_depths.specs.Opening.{depthsOf}
+use Rattle.meaning.specs.Offsets.{encodedWidth}
 use Rattle.reader_basic.proofs.Loops.{kept}
 use Rattle.reader_steps.proofs.Characters.{rowed-typed, typed-within}
 use Rattle.reader_steps.proofs.Deepening.{few-variants, inside-deeper, level-falls, told}
 use Rattle.reader_steps.proofs.Structures.{FieldsLeft, behind-within, ends-room, field-turn, fields-begin, fields-last, fields-next, fields-no-offset, fields-stop, last-by, next-by, structure-deep, structure-on, structure-stop}
-use Rattle.signature.proofs.TreeLaws.{described-aligned, structure-fixed, structure-rowed}
-use Prim.Native.Nat.{_+_, _-_, ℕ}
-use Rattle.container_depths.specs.Opening.{depthsOf}
-use Rattle.meaning.specs.Offsets.{encodedWidth}
 use Rattle.reader_steps.specs.Rides.{contextOf}
 use Rattle.signature.proofs.Letters.{cut}
+use Rattle.signature.proofs.TreeLaws.{described-aligned, structure-fixed, structure-rowed}
 use Rattle.signature.specs.Shapes.{shapeIn}
 use Rattle.signature.specs.declared.Letter.the-variants.{OpenStructure}
 use borrow.Author.Needs.{needs}
@@ -23,11 +23,11 @@ use Rattle.reader_basic.proofs.basic.close.Reads as close-reads
 use Rattle.reader_basic.proofs.behind.Reads as behind-reads
 use Rattle.reader_basic.proofs.refused.Reads as refused-reads
 use cycle.Lts-structure-structure as structure·structure-lts
+use of.structure.structure.Reads as structure·structure
+use of.value.Reads as value
 use Rattle.reader_steps.proofs.opening.in_structure.Reads as in-structure-reads
 use Rattle.reader_steps.proofs.structure.close_fields.Reads as close-fields-reads
 use Rattle.reader_steps.proofs.structure.field_ends.Reads as field-ends-reads
-use of.structure.structure.Reads as structure·structure
-use of.value.Reads as value
 use Rattle.signature.proofs.shapes.next_of.Reads as next-of-reads
 
 abbrev structure·structure-callees : ℕ → structure·structure-lts.Claims
@@ -118,13 +118,14 @@ structure·structure-next-of-requires t c κs = search needs
 
 structure·structure-shared-slice-read-if2 : (t : ℕ) → structure·structure-lts.Need-shared-slice-read-if2 (structure·structure-callees t) (structure·structure-at t) structure·structure.Post structure·structure-Inv-loop structure·structure-μ-loop
 structure·structure-shared-slice-read-if2 t c =
-    let at-loop = c .before .before .before in
-    let at-emit = c .before .before .before .before .before .before in
-    let at-open = c .before .before .before .before .before .before .before .before in
-    let at-in-structure = c .before .before .before .before .before .before .before .before .before in
-    let start = c .before .before .before .before .before .before .before .before .before .before .before .before .before in
+    let at-next-of = c .before in
+    let at-loop = at-next-of .before .before in
+    let at-emit = at-loop .before .before .before in
+    let at-open = at-emit .before .before in
+    let at-in-structure = at-open .before in
+    let start = at-in-structure .before .before .before .before in
     let d = at-in-structure .in-structure .ensures .deeper (at-open .if1 .left) in
-    omega (arith, behind-within _ _ _ (at-loop .loop .inv .rowed) (start .pre .1 .0 .table) (c .before .next-of .ensures))
+    omega (arith, behind-within _ _ _ (at-loop .loop .inv .rowed) (start .pre .1 .0 .table) (at-next-of .next-of .ensures))
 
 structure·structure-mul-field : (t : ℕ) → structure·structure-lts.Need-mul-field (structure·structure-callees t) (structure·structure-at t) structure·structure.Post structure·structure-Inv-loop structure·structure-μ-loop
 structure·structure-mul-field t c =
@@ -165,14 +166,14 @@ structure·structure-same-length t c = search needs
 structure·structure-returns-2 : (t : ℕ) → structure·structure-lts.Need-returns-2 (structure·structure-callees t) (structure·structure-at t) structure·structure.Post structure·structure-Inv-loop structure·structure-μ-loop
 structure·structure-returns-2 t c =
     let at-if2 = c .before in
-    let at-field-ends = c .before .before in
-    let at-if1 = c .before .before .before .before in
-    let at-shape-in = c .before .before .before .before .before .before in
-    let at-loop = c .before .before .before .before .before .before .before .before in
-    let at-emit = c .before .before .before .before .before .before .before .before .before .before .before in
-    let at-open = c .before .before .before .before .before .before .before .before .before .before .before .before .before in
-    let at-in-structure = c .before .before .before .before .before .before .before .before .before .before .before .before .before .before in
-    let start = c .before .before .before .before .before .before .before .before .before .before .before .before .before .before .before .before .before .before in
+    let at-field-ends = at-if2 .before in
+    let at-if1 = at-field-ends .before .before in
+    let at-shape-in = at-if1 .before .before in
+    let at-loop = at-shape-in .before .before in
+    let at-emit = at-loop .before .before .before in
+    let at-open = at-emit .before .before in
+    let at-in-structure = at-open .before in
+    let start = at-in-structure .before .before .before .before in
     let d = at-in-structure .in-structure .ensures .deeper (at-open .if1 .left) in
     structure-stop (start .pre .1 .0) (start .pre .1 .1) _ _ _ _ _ _ d _ _ _ _ _ (at-emit .emit .ensures .0) (at-emit .emit .ensures .1) (c .refused2 .ensures) (at-if2 .if3 .taken) (fields-no-offset (at-loop .loop .inv) (few-variants (inside-deeper d (start .pre .1 .2)))
     (next-by _ _ _ (at-loop .loop .inv .rowed) (start .pre .1 .0 .table) (at-shape-in .next-of .ensures) (at-if1 .if2 .taken)) _ (at-field-ends .field-ends .ensures) (at-if2 .if3 .taken))
@@ -190,12 +191,12 @@ structure·structure-add-j t c =
 structure·structure-value-requires : (t : ℕ) → structure·structure-lts.Need-value-requires (structure·structure-callees t) (structure·structure-at t) structure·structure.Post structure·structure-Inv-loop structure·structure-μ-loop
 structure·structure-value-requires t c κs =
     let at-if1 = c .before .before .before .before in
-    let at-shape-in = c .before .before .before .before .before .before in
-    let at-loop = c .before .before .before .before .before .before .before .before in
-    let at-emit = c .before .before .before .before .before .before .before .before .before .before .before in
-    let at-open = c .before .before .before .before .before .before .before .before .before .before .before .before .before in
-    let at-in-structure = c .before .before .before .before .before .before .before .before .before .before .before .before .before .before in
-    let start = c .before .before .before .before .before .before .before .before .before .before .before .before .before .before .before .before .before .before in
+    let at-shape-in = at-if1 .before .before in
+    let at-loop = at-shape-in .before .before in
+    let at-emit = at-loop .before .before .before in
+    let at-open = at-emit .before .before in
+    let at-in-structure = at-open .before in
+    let start = at-in-structure .before .before .before .before in
     let d = at-in-structure .in-structure .ensures .deeper (at-open .if1 .left) in
     (omega (arith, level-falls d, start .pre .0), ((next-by _ _ _ (at-loop .loop .inv .rowed) (start .pre .1 .0 .table) (at-shape-in .next-of .ensures) (at-if1 .if2 .taken)) .shape, inside-deeper d (start .pre .1 .2), at-loop .loop .inv .within))
 
@@ -216,16 +217,16 @@ structure·structure-same-length-2 t c = search needs
 structure·structure-returns-3 : (t : ℕ) → structure·structure-lts.Need-returns-3 (structure·structure-callees t) (structure·structure-at t) structure·structure.Post structure·structure-Inv-loop structure·structure-μ-loop
 structure·structure-returns-3 t c =
     let at-if3 = c .before in
-    let at-value2 = c .before .before .before .before in
-    let at-if2 = c .before .before .before .before .before .before in
-    let at-field-ends = c .before .before .before .before .before .before .before in
-    let at-if1 = c .before .before .before .before .before .before .before .before .before in
-    let at-shape-in = c .before .before .before .before .before .before .before .before .before .before .before in
-    let at-loop = c .before .before .before .before .before .before .before .before .before .before .before .before .before in
-    let at-emit = c .before .before .before .before .before .before .before .before .before .before .before .before .before .before .before .before in
-    let at-open = c .before .before .before .before .before .before .before .before .before .before .before .before .before .before .before .before .before .before in
-    let at-in-structure = c .before .before .before .before .before .before .before .before .before .before .before .before .before .before .before .before .before .before .before in
-    let start = c .before .before .before .before .before .before .before .before .before .before .before .before .before .before .before .before .before .before .before .before .before .before .before in
+    let at-value2 = at-if3 .before .before .before in
+    let at-if2 = at-value2 .before .before in
+    let at-field-ends = at-if2 .before in
+    let at-if1 = at-field-ends .before .before in
+    let at-shape-in = at-if1 .before .before in
+    let at-loop = at-shape-in .before .before in
+    let at-emit = at-loop .before .before .before in
+    let at-open = at-emit .before .before in
+    let at-in-structure = at-open .before in
+    let start = at-in-structure .before .before .before .before in
     let d = at-in-structure .in-structure .ensures .deeper (at-open .if1 .left) in
     structure-stop (start .pre .1 .0) (start .pre .1 .1) _ _ _ _ _ _ d _ _ _ _ _ (at-emit .emit .ensures .0) (at-emit .emit .ensures .1) (c .behind .ensures) (at-if3 .if4 .taken) (fields-stop (at-loop .loop .inv) (few-variants (inside-deeper d (start .pre .1 .2)))
     (next-by _ _ _ (at-loop .loop .inv .rowed) (start .pre .1 .0 .table) (at-shape-in .next-of .ensures) (at-if1 .if2 .taken))
@@ -256,28 +257,28 @@ structure·structure-next-of-requires-2 t c κs = search needs
 structure·structure-loop-less : (t : ℕ) → structure·structure-lts.Need-loop-less (structure·structure-callees t) (structure·structure-at t) structure·structure.Post structure·structure-Inv-loop structure·structure-μ-loop
 structure·structure-loop-less t c =
     let at-if1 = c .before .before .before .before .before .before .before .before .before .before .before in
-    let at-shape-in = c .before .before .before .before .before .before .before .before .before .before .before .before .before in
-    let at-loop = c .before .before .before .before .before .before .before .before .before .before .before .before .before .before .before in
-    let at-emit = c .before .before .before .before .before .before .before .before .before .before .before .before .before .before .before .before .before .before in
-    let at-open = c .before .before .before .before .before .before .before .before .before .before .before .before .before .before .before .before .before .before .before .before in
-    let at-in-structure = c .before .before .before .before .before .before .before .before .before .before .before .before .before .before .before .before .before .before .before .before .before in
-    let start = c .before .before .before .before .before .before .before .before .before .before .before .before .before .before .before .before .before .before .before .before .before .before .before .before .before in
+    let at-shape-in = at-if1 .before .before in
+    let at-loop = at-shape-in .before .before in
+    let at-emit = at-loop .before .before .before in
+    let at-open = at-emit .before .before in
+    let at-in-structure = at-open .before in
+    let start = at-in-structure .before .before .before .before in
     let d = at-in-structure .in-structure .ensures .deeper (at-open .if1 .left) in
     let g = (next-by _ _ _ (at-loop .loop .inv .rowed) (start .pre .1 .0 .table) (at-shape-in .next-of .ensures) (at-if1 .if2 .taken)) in omega (arith, g .onward, g .within, c .next-of2 .ensures)
 
 structure·structure-loop-again : (t : ℕ) → structure·structure-lts.Need-loop-again (structure·structure-callees t) (structure·structure-at t) structure·structure.Post structure·structure-Inv-loop structure·structure-μ-loop
 structure·structure-loop-again t c =
     let at-if3 = c .before .before .before in
-    let at-value2 = c .before .before .before .before .before .before in
-    let at-if2 = c .before .before .before .before .before .before .before .before in
-    let at-field-ends = c .before .before .before .before .before .before .before .before .before in
-    let at-if1 = c .before .before .before .before .before .before .before .before .before .before .before in
-    let at-shape-in = c .before .before .before .before .before .before .before .before .before .before .before .before .before in
-    let at-loop = c .before .before .before .before .before .before .before .before .before .before .before .before .before .before .before in
-    let at-emit = c .before .before .before .before .before .before .before .before .before .before .before .before .before .before .before .before .before .before in
-    let at-open = c .before .before .before .before .before .before .before .before .before .before .before .before .before .before .before .before .before .before .before .before in
-    let at-in-structure = c .before .before .before .before .before .before .before .before .before .before .before .before .before .before .before .before .before .before .before .before .before in
-    let start = c .before .before .before .before .before .before .before .before .before .before .before .before .before .before .before .before .before .before .before .before .before .before .before .before .before in
+    let at-value2 = at-if3 .before .before .before in
+    let at-if2 = at-value2 .before .before in
+    let at-field-ends = at-if2 .before in
+    let at-if1 = at-field-ends .before .before in
+    let at-shape-in = at-if1 .before .before in
+    let at-loop = at-shape-in .before .before in
+    let at-emit = at-loop .before .before .before in
+    let at-open = at-emit .before .before in
+    let at-in-structure = at-open .before in
+    let start = at-in-structure .before .before .before .before in
     let d = at-in-structure .in-structure .ensures .deeper (at-open .if1 .left) in
     rw (c .next-of2 .ensures) (fields-next (at-loop .loop .inv) (few-variants (inside-deeper d (start .pre .1 .2)))
     (next-by _ _ _ (at-loop .loop .inv .rowed) (start .pre .1 .0 .table) (at-shape-in .next-of .ensures) (at-if1 .if2 .taken))
@@ -297,13 +298,15 @@ structure·structure-add-j-2 t c =
 
 structure·structure-value-requires-2 : (t : ℕ) → structure·structure-lts.Need-value-requires-2 (structure·structure-callees t) (structure·structure-at t) structure·structure.Post structure·structure-Inv-loop structure·structure-μ-loop
 structure·structure-value-requires-2 t c κs =
-    let at-loop = c .before .before .before .before .before in
-    let at-emit = c .before .before .before .before .before .before .before .before in
-    let at-open = c .before .before .before .before .before .before .before .before .before .before in
-    let at-in-structure = c .before .before .before .before .before .before .before .before .before .before .before in
-    let start = c .before .before .before .before .before .before .before .before .before .before .before .before .before .before .before in
+    let at-if2 = c .before in
+    let at-next-of = at-if2 .before .before in
+    let at-loop = at-next-of .before .before in
+    let at-emit = at-loop .before .before .before in
+    let at-open = at-emit .before .before in
+    let at-in-structure = at-open .before in
+    let start = at-in-structure .before .before .before .before in
     let d = at-in-structure .in-structure .ensures .deeper (at-open .if1 .left) in
-    (omega (arith, level-falls d, start .pre .0), ((last-by _ _ _ (at-loop .loop .inv .rowed) (start .pre .1 .0 .table) (c .before .before .before .next-of .ensures) (c .before .if2 .left)) .shape, inside-deeper d (start .pre .1 .2), at-loop .loop .inv .within))
+    (omega (arith, level-falls d, start .pre .0), ((last-by _ _ _ (at-loop .loop .inv .rowed) (start .pre .1 .0 .table) (at-next-of .next-of .ensures) (at-if2 .if2 .left)) .shape, inside-deeper d (start .pre .1 .2), at-loop .loop .inv .within))
 
 structure·structure-mul-close-fields : (t : ℕ) → structure·structure-lts.Need-mul-close-fields (structure·structure-callees t) (structure·structure-at t) structure·structure.Post structure·structure-Inv-loop structure·structure-μ-loop
 structure·structure-mul-close-fields t c =
@@ -344,39 +347,56 @@ structure·structure-add-close t c =
 
 structure·structure-close-requires : (t : ℕ) → structure·structure-lts.Need-close-requires (structure·structure-callees t) (structure·structure-at t) structure·structure.Post structure·structure-Inv-loop structure·structure-μ-loop
 structure·structure-close-requires t c κs =
-    let at-loop = c .before .before .before .before .before .before .before .before .before .before .before .before in
-    let at-emit = c .before .before .before .before .before .before .before .before .before .before .before .before .before .before .before in
-    let at-open = c .before .before .before .before .before .before .before .before .before .before .before .before .before .before .before .before .before in
-    let at-in-structure = c .before .before .before .before .before .before .before .before .before .before .before .before .before .before .before .before .before .before in
-    let start = c .before .before .before .before .before .before .before .before .before .before .before .before .before .before .before .before .before .before .before .before .before .before in
+    let at-behind2 = c .before in
+    let at-close-fields = at-behind2 .before in
+    let at-value2 = at-close-fields .before .before .before .before in
+    let at-if2 = at-value2 .before .before in
+    let at-next-of = at-if2 .before .before in
+    let at-loop = at-next-of .before .before in
+    let at-emit = at-loop .before .before .before in
+    let at-open = at-emit .before .before in
+    let at-in-structure = at-open .before in
+    let start = at-in-structure .before .before .before .before in
     let d = at-in-structure .in-structure .ensures .deeper (at-open .if1 .left) in
-    let whole = told (c .before .behind2 .ensures) (fields-last (at-loop .loop .inv) (few-variants (inside-deeper d (start .pre .1 .2))) _ _
-    (last-by _ _ _ (at-loop .loop .inv .rowed) (start .pre .1 .0 .table) (c .before .before .before .before .before .before .before .before .before .before .next-of .ensures) (c .before .before .before .before .before .before .before .before .if2 .left)) (c .before .before .close-fields .ensures _ _ _ _ (c .before .before .before .before .before .before .value2 .ensures))) in
+    let whole = told (at-behind2 .behind2 .ensures) (fields-last (at-loop .loop .inv) (few-variants (inside-deeper d (start .pre .1 .2))) _ _
+    (last-by _ _ _ (at-loop .loop .inv .rowed) (start .pre .1 .0 .table) (at-next-of .next-of .ensures) (at-if2 .if2 .left)) (at-close-fields .close-fields .ensures _ _ _ _ (at-value2 .value2 .ensures))) in
     omega (arith, whole .fits, start .pre .1 .2 .in-frame, start .pre .1 .3)
 
 structure·structure-same-length-3 : (t : ℕ) → structure·structure-lts.Need-same-length-3 (structure·structure-callees t) (structure·structure-at t) structure·structure.Post structure·structure-Inv-loop structure·structure-μ-loop
 structure·structure-same-length-3 t c =
-    let at-loop = c .before .before .before .before .before .before .before .before .before .before .before .before .before .before .before in
-    let at-emit = c .before .before .before .before .before .before .before .before .before .before .before .before .before .before .before .before .before .before in
-    let at-open = c .before .before .before .before .before .before .before .before .before .before .before .before .before .before .before .before .before .before .before .before in
-    let at-in-structure = c .before .before .before .before .before .before .before .before .before .before .before .before .before .before .before .before .before .before .before .before .before in
-    let start = c .before .before .before .before .before .before .before .before .before .before .before .before .before .before .before .before .before .before .before .before .before .before .before .before .before in
+    let at-close = c .before .before in
+    let at-behind2 = at-close .before .before in
+    let at-close-fields = at-behind2 .before in
+    let at-value2 = at-close-fields .before .before .before .before in
+    let at-if2 = at-value2 .before .before in
+    let at-next-of = at-if2 .before .before in
+    let at-loop = at-next-of .before .before in
+    let at-emit = at-loop .before .before .before in
+    let at-open = at-emit .before .before in
+    let at-in-structure = at-open .before in
+    let start = at-in-structure .before .before .before .before in
     let d = at-in-structure .in-structure .ensures .deeper (at-open .if1 .left) in
     kept (structure-on (start .pre .1 .0) (start .pre .1 .1) (start .args .part .now) (start .args .lead) (start .args .place) (contextOf (start .args .ride)) (start .args .n) (start .args .out .now) d _ _ _ _ (at-emit .emit .ensures .0) (at-emit .emit .ensures .1)
-    (c .before .before .close .ensures _ _ _ _ _ (told (c .before .before .before .before .behind2 .ensures) (fields-last (at-loop .loop .inv) (few-variants (inside-deeper d (start .pre .1 .2))) _ _
-    (last-by _ _ _ (at-loop .loop .inv .rowed) (start .pre .1 .0 .table) (c .before .before .before .before .before .before .before .before .before .before .before .before .before .next-of .ensures) (c .before .before .before .before .before .before .before .before .before .before .before .if2 .left)) (c .before .before .before .before .before .close-fields .ensures _ _ _ _ (c .before .before .before .before .before .before .before .before .before .value2 .ensures))))))
+    (at-close .close .ensures _ _ _ _ _ (told (at-behind2 .behind2 .ensures) (fields-last (at-loop .loop .inv) (few-variants (inside-deeper d (start .pre .1 .2))) _ _
+    (last-by _ _ _ (at-loop .loop .inv .rowed) (start .pre .1 .0 .table) (at-next-of .next-of .ensures) (at-if2 .if2 .left)) (at-close-fields .close-fields .ensures _ _ _ _ (at-value2 .value2 .ensures))))))
 
 structure·structure-returns-4 : (t : ℕ) → structure·structure-lts.Need-returns-4 (structure·structure-callees t) (structure·structure-at t) structure·structure.Post structure·structure-Inv-loop structure·structure-μ-loop
 structure·structure-returns-4 t c =
-    let at-loop = c .before .before .before .before .before .before .before .before .before .before .before .before .before .before .before in
-    let at-emit = c .before .before .before .before .before .before .before .before .before .before .before .before .before .before .before .before .before .before in
-    let at-open = c .before .before .before .before .before .before .before .before .before .before .before .before .before .before .before .before .before .before .before .before in
-    let at-in-structure = c .before .before .before .before .before .before .before .before .before .before .before .before .before .before .before .before .before .before .before .before .before in
-    let start = c .before .before .before .before .before .before .before .before .before .before .before .before .before .before .before .before .before .before .before .before .before .before .before .before .before in
+    let at-close = c .before .before in
+    let at-behind2 = at-close .before .before in
+    let at-close-fields = at-behind2 .before in
+    let at-value2 = at-close-fields .before .before .before .before in
+    let at-if2 = at-value2 .before .before in
+    let at-next-of = at-if2 .before .before in
+    let at-loop = at-next-of .before .before in
+    let at-emit = at-loop .before .before .before in
+    let at-open = at-emit .before .before in
+    let at-in-structure = at-open .before in
+    let start = at-in-structure .before .before .before .before in
     let d = at-in-structure .in-structure .ensures .deeper (at-open .if1 .left) in
     structure-on (start .pre .1 .0) (start .pre .1 .1) _ _ _ _ _ _ d _ _ _ _ (at-emit .emit .ensures .0) (at-emit .emit .ensures .1)
-    (c .before .before .close .ensures _ _ _ _ _ (told (c .before .before .before .before .behind2 .ensures) (fields-last (at-loop .loop .inv) (few-variants (inside-deeper d (start .pre .1 .2))) _ _
-    (last-by _ _ _ (at-loop .loop .inv .rowed) (start .pre .1 .0 .table) (c .before .before .before .before .before .before .before .before .before .before .before .before .before .next-of .ensures) (c .before .before .before .before .before .before .before .before .before .before .before .if2 .left)) (c .before .before .before .before .before .close-fields .ensures _ _ _ _ (c .before .before .before .before .before .before .before .before .before .value2 .ensures)))))
+    (at-close .close .ensures _ _ _ _ _ (told (at-behind2 .behind2 .ensures) (fields-last (at-loop .loop .inv) (few-variants (inside-deeper d (start .pre .1 .2))) _ _
+    (last-by _ _ _ (at-loop .loop .inv .rowed) (start .pre .1 .0 .table) (at-next-of .next-of .ensures) (at-if2 .if2 .left)) (at-close-fields .close-fields .ensures _ _ _ _ (at-value2 .value2 .ensures)))))
 
 pub structure·structure-spec : {M : Type 1} (t : ℕ) → structure·structure-lts.Closed (structure·structure-callees t) (structure·structure-at t) structure·structure.Post M
 structure·structure-spec t =

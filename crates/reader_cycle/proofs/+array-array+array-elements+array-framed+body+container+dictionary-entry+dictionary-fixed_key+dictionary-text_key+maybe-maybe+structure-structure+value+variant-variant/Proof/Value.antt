@@ -11,9 +11,9 @@ use Rattle.reader_cycle.proofs.+array-array+array-elements+array-framed
 use cycle.Proof.Measures.{container-below, value-at}
 use Rattle.reader_basic.proofs.refused.Reads as refused-reads
 use cycle.Lts-value as value-lts
-use Rattle.reader_steps.proofs.codes.leaf.Reads as leaf-reads
 use of.container.Reads as container
 use of.value.Reads as value
+use Rattle.reader_steps.proofs.codes.leaf.Reads as leaf-reads
 
 abbrev value-callees : ℕ → value-lts.Claims
 value-callees t = (

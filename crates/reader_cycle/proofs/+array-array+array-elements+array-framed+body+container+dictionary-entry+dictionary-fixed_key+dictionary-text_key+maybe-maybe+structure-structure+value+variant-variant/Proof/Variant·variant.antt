@@ -18,13 +18,13 @@ use cycle.Proof.Measures.{value-below, variant·variant-at}
 use Rattle.reader_basic.proofs.basic.separator.Reads as separator-reads
 use Rattle.reader_basic.proofs.refused.Reads as refused-reads
 use cycle.Lts-variant-variant as variant·variant-lts
-use Rattle.reader_steps.proofs.opening.in_variant.Reads as in-variant-reads
 use of.value.Reads as value
+use of.variant.variant.Reads as variant·variant
+use Rattle.reader_steps.proofs.opening.in_variant.Reads as in-variant-reads
 use Rattle.reader_steps.proofs.variant.basic_variant.Reads as basic-variant-reads
 use Rattle.reader_steps.proofs.variant.close_variant.Reads as close-variant-reads
 use Rattle.reader_steps.proofs.variant.only_basic.Reads as only-basic-reads
 use Rattle.reader_steps.proofs.variant.type_text.Reads as type-text-reads
-use of.variant.variant.Reads as variant·variant
 use Rattle.signature.proofs.shapes.shapes_of.Reads as shapes-of-reads
 
 abbrev variant·variant-callees : ℕ → variant·variant-lts.Claims

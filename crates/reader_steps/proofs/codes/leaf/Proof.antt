@@ -51,7 +51,8 @@ same-length-3 c = search needs
 
 returns-3 : tie.Need-returns-3
 returns-3 c =
-    leaf-bool _ _ _ _ _ _ _ _ _ (sym (c .before .before .before .before .before .before .if1 .left) ∙ c .before .before .before .before .before .before .before .number-width .ensures) (sym (c .before .before .before .before .if2 .left) ∙ c .before .before .before .before .before .is-text .ensures) (c .before .before .boolean .ensures)
+    leaf-bool _ _ _ _ _ _ _ _ _ (sym (c .before .before .before .before .before .before .if1 .left) ∙ c .before .before .before .before .before .before .before .number-width .ensures) (sym
+    (c .before .before .before .before .if2 .left) ∙ c .before .before .before .before .before .is-text .ensures) (c .before .before .boolean .ensures)
 
 pub leaf-spec : {M : Type 1} → statement M
 leaf-spec =

@@ -23,19 +23,22 @@ refused-requires c κs = search needs
 returns : tie.Need-returns
 returns c =
     let start = c .before .before .before .before .before in
-    let p = pads-at (contextOf (start .args .ride) .position) (start .args .place) (start .args .j + start .args .r .used) (start .args .shape % 16) (start .args .part .now) _ (start .pre .3) (omega (arith, start .pre .0, start .pre .1, start .pre .2)) (start .pre .2) (c .before .before .padded .ensures) in
+    let p = pads-at (contextOf (start .args .ride) .position) (start .args .place) (start .args .j + start .args .r .used) (start .args .shape % 16) (start .args .part .now) _ (start .pre .3) (omega
+    (arith, start .pre .0, start .pre .1, start .pre .2)) (start .pre .2) (c .before .before .padded .ensures) in
     λ o end len n l l′ e d. told (c .refused .ensures) (ending-missing _ _ _ _ end len n _ l l′ o (start .args .r) _ (start .pre .2) e p d (c .before .if1 .taken))
 
 behind-requires : tie.Need-behind-requires
 behind-requires c κs =
     let start = c .before .before .before .before in
-    let p = pads-at (contextOf (start .args .ride) .position) (start .args .place) (start .args .j + start .args .r .used) (start .args .shape % 16) (start .args .part .now) _ (start .pre .3) (omega (arith, start .pre .0, start .pre .1, start .pre .2)) (start .pre .2) (c .before .padded .ensures) in
+    let p = pads-at (contextOf (start .args .ride) .position) (start .args .place) (start .args .j + start .args .r .used) (start .args .shape % 16) (start .args .part .now) _ (start .pre .3) (omega
+    (arith, start .pre .0, start .pre .1, start .pre .2)) (start .pre .2) (c .before .padded .ensures) in
     omega (arith, p .fits, start .pre .0, start .pre .2)
 
 returns-2 : tie.Need-returns-2
 returns-2 c =
     let start = c .before .before .before .before .before in
-    let p = pads-at (contextOf (start .args .ride) .position) (start .args .place) (start .args .j + start .args .r .used) (start .args .shape % 16) (start .args .part .now) _ (start .pre .3) (omega (arith, start .pre .0, start .pre .1, start .pre .2)) (start .pre .2) (c .before .before .padded .ensures) in
+    let p = pads-at (contextOf (start .args .ride) .position) (start .args .place) (start .args .j + start .args .r .used) (start .args .shape % 16) (start .args .part .now) _ (start .pre .3) (omega
+    (arith, start .pre .0, start .pre .1, start .pre .2)) (start .pre .2) (c .before .before .padded .ensures) in
     λ o end len n l l′ e d. told (c .behind .ensures) (ending-there _ _ _ _ end len n _ l l′ o (start .args .r) _ (start .pre .2) e p d (c .before .if1 .left))
 
 pub end-padded-spec : {M : Type 1} → statement M

@@ -46,7 +46,8 @@ failed-requires c κs = search needs
 returns-2 : tie.Need-returns-2
 returns-2 c =
     let start = c .before .before .before .before .before .before .before in
-    c .failed .ensures ∙ too-short (start .args .part .now) (start .args .j) (start .args .place) (start .args .ride) (start .pre .3) (c .before .before .before .before .before .alignment-of .ensures) (c .before .before .before .before .wrapping-add-usize .result) (c .before .before .before .wrapping-sub-usize .result)
+    c .failed .ensures ∙ too-short (start .args .part .now) (start .args .j) (start .args .place) (start .args .ride) (start .pre .3) (c .before .before .before .before .before .alignment-of .ensures)
+    (c .before .before .before .before .wrapping-add-usize .result) (c .before .before .before .wrapping-sub-usize .result)
     (start .pre .0) (start .pre .1) (start .pre .2) (c .before .before .before .before .wrapping-add-usize .ensures) (c .before .before .before .wrapping-sub-usize .ensures) (c .before .before .if1 .left) (c .before .if2 .taken)
 
 zeros-requires : tie.Need-zeros-requires
@@ -58,8 +59,11 @@ passed-requires-2 c κs = search needs
 returns-3 : tie.Need-returns-3
 returns-3 c =
     let start = c .before .before .before .before .before .before .before .before .before in
-    c .passed2 .ensures ∙ zeros-there (start .args .part .now) (start .args .j) (start .args .place) (start .args .ride) (start .pre .3) (c .before .before .before .before .before .before .before .alignment-of .ensures) (c .before .before .before .before .before .before .wrapping-add-usize .result) (c .before .before .before .before .before .wrapping-sub-usize .result)
-    (start .pre .0) (start .pre .1) (start .pre .2) (c .before .before .before .before .before .before .wrapping-add-usize .ensures) (c .before .before .before .before .before .wrapping-sub-usize .ensures) (c .before .before .before .before .if1 .left) (c .before .before .before .if2 .left) (c .before .before .zeros .ensures) (c .before .if3 .taken)
+    c .passed2 .ensures ∙ zeros-there (start .args .part .now) (start .args .j) (start .args .place) (start .args .ride) (start .pre .3)
+    (c .before .before .before .before .before .before .before .alignment-of .ensures) (c .before .before .before .before .before .before .wrapping-add-usize .result)
+    (c .before .before .before .before .before .wrapping-sub-usize .result)
+    (start .pre .0) (start .pre .1) (start .pre .2) (c .before .before .before .before .before .before .wrapping-add-usize .ensures) (c .before .before .before .before .before .wrapping-sub-usize .ensures)
+    (c .before .before .before .before .if1 .left) (c .before .before .before .if2 .left) (c .before .before .zeros .ensures) (c .before .if3 .taken)
 
 failed-requires-2 : tie.Need-failed-requires-2
 failed-requires-2 c κs = search needs
@@ -67,8 +71,11 @@ failed-requires-2 c κs = search needs
 returns-4 : tie.Need-returns-4
 returns-4 c =
     let start = c .before .before .before .before .before .before .before .before .before in
-    c .failed2 .ensures ∙ other-there (start .args .part .now) (start .args .j) (start .args .place) (start .args .ride) (start .pre .3) (c .before .before .before .before .before .before .before .alignment-of .ensures) (c .before .before .before .before .before .before .wrapping-add-usize .result) (c .before .before .before .before .before .wrapping-sub-usize .result)
-    (start .pre .0) (start .pre .1) (start .pre .2) (c .before .before .before .before .before .before .wrapping-add-usize .ensures) (c .before .before .before .before .before .wrapping-sub-usize .ensures) (c .before .before .before .before .if1 .left) (c .before .before .before .if2 .left) (c .before .before .zeros .ensures) (c .before .if3 .left)
+    c .failed2 .ensures ∙ other-there (start .args .part .now) (start .args .j) (start .args .place) (start .args .ride) (start .pre .3)
+    (c .before .before .before .before .before .before .before .alignment-of .ensures) (c .before .before .before .before .before .before .wrapping-add-usize .result)
+    (c .before .before .before .before .before .wrapping-sub-usize .result)
+    (start .pre .0) (start .pre .1) (start .pre .2) (c .before .before .before .before .before .before .wrapping-add-usize .ensures) (c .before .before .before .before .before .wrapping-sub-usize .ensures)
+    (c .before .before .before .before .if1 .left) (c .before .before .before .if2 .left) (c .before .before .zeros .ensures) (c .before .if3 .left)
 
 pub padded-spec : {M : Type 1} → statement M
 padded-spec =

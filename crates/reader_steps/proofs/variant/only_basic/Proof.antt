@@ -21,14 +21,22 @@ is-fixed-requires c κs = search needs
 
 returns-2 : tie.Need-returns-2
 returns-2 c =
-    λ z. (sym (letter-some (c .before .before .before .before .before .args .text .now) 0 (omega (arith, c .before .before .before .if1 .left))) ∙ only-one (c .before .before .before .before .before .args .text .now) (c .before .before .before .if1 .left), fixed-key _ (sym (c .if2 .taken) ∙ c .before .is-fixed .ensures))
+    λ z. (
+      sym (letter-some (c .before .before .before .before .before .args .text .now) 0 (omega (arith, c .before .before .before .if1 .left))) ∙ only-one (c .before .before .before .before .before .args .text .now)
+          (c .before .before .before .if1 .left),
+      fixed-key _ (sym (c .if2 .taken) ∙ c .before .is-fixed .ensures),
+    )
 
 is-text-requires : tie.Need-is-text-requires
 is-text-requires c κs = search needs
 
 returns-3 : tie.Need-returns-3
 returns-3 c =
-    λ z. (sym (letter-some (c .before .before .before .before .before .before .before .args .text .now) 0 (omega (arith, c .before .before .before .before .before .if1 .left))) ∙ only-one (c .before .before .before .before .before .before .before .args .text .now) (c .before .before .before .before .before .if1 .left), text-key _ (sym (c .if3 .taken) ∙ c .before .is-text .ensures))
+    λ z. (
+      sym (letter-some (c .before .before .before .before .before .before .before .args .text .now) 0 (omega (arith, c .before .before .before .before .before .if1 .left))) ∙ only-one
+          (c .before .before .before .before .before .before .before .args .text .now) (c .before .before .before .before .before .if1 .left),
+      text-key _ (sym (c .if3 .taken) ∙ c .before .is-text .ensures),
+    )
 
 returns-4 : tie.Need-returns-4
 returns-4 c = λ z. absurd (z refl)

@@ -155,3 +155,8 @@ module _ (before : List ℕ) (at w n : ℕ) where
       let z : i ≡ 0 = omega arith in
       let e : at + i ≡ at = omega arith in
       f .out-is ∙ ap (λ (k : ℕ). over before k (f .put)) e ∙ ap (λ (l : List ℕ). over before at l) (rw z at (f .whole))
+
+-- a number of one byte
+pub over-one : (out : List ℕ) (at w n : ℕ) → w ≡ 1 → over out at (bytes w n) ≡ set out at (n % 256)
+unfolding over bytes
+over-one out at w n e = rw e refl

@@ -54,8 +54,8 @@ pub fn move_part(out: &mut [u8], at: usize, padding: usize, part: &[u8])
     put_part(out, at + padding, part);
 }
 
-// A number of so many bytes, the lowest first: an offset, or a reading's number.
-pub fn put_low_first(out: &mut [u8], at: usize, width: usize, number: usize)
+// A number of so many bytes, the lowest first.
+fn put_each(out: &mut [u8], at: usize, width: usize, number: usize)
     ensures { λ r. ⌜ now (out .exit) ≡ over (now (out .entry)) at (bytes width number) ⌝ }
 {
     let most = room(out.len(), at, width);
@@ -65,6 +65,19 @@ pub fn put_low_first(out: &mut [u8], at: usize, width: usize, number: usize)
         out[at + i] = (rest % 256) as u8;
         rest = rest / 256;
         i += 1;
+    }
+}
+
+// The same, of an offset or of a reading's number: one byte, as most offsets of short frames have, is put without a loop.
+pub fn put_low_first(out: &mut [u8], at: usize, width: usize, number: usize)
+    ensures { λ r. ⌜ now (out .exit) ≡ over (now (out .entry)) at (bytes width number) ⌝ }
+{
+    if width != 1 {
+        put_each(out, at, width, number);
+        return;
+    }
+    if at < out.len() {
+        out[at] = (number % 256) as u8;
     }
 }
 

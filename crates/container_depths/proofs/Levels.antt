@@ -1,36 +1,20 @@
 -- How many containers may still be opened: the number that falls as containers nest. Assumes nothing.
-use mathlib.Core.Path.{_≡_, refl, sym, ap, _∙_}
-use mathlib.Core.Bool.{Bool, true, false}
+use mathlib.Core.Path.{_≡_, sym, ap, _∙_}
+use mathlib.Core.Bool.{true}
 use mathlib.Core.List.{List}
-use Prim.Native.Nat.{ℕ, _+_, _-_, _≤_, _<_}
+use Prim.Native.Nat.{ℕ, _+_, _-_, _<_}
 use native.Mathlib.Omega.{arith}
-use lib.Dec.{ltb, eqb}
-use borrow.Author.Tests.{eq-eqb, ltb-false}
+use lib.Dec.{eqb}
+use borrow.Author.Tests.{eq-eqb}
 use borrow.Fn.Kind.{PK}
 use borrow.Fn.Kinds.{In}
 use borrow.Fn.PlainCycle.{Measures, and, falls, is}
-use Rattle.meaning.specs.Choice.{pick}
 use Rattle.meaning.specs.Depths as Depth
-use Rattle.meaning.specs.Depths.{Depths, Opened, total, depthRefusal, opened}
+use Rattle.meaning.specs.Depths.{Opened, total, depthRefusal, opened}
+use Rattle.meaning.proofs.Bounds.{total-most, total-opened}
 use Rattle.container_depths.specs.Opening.{depthsOf, Raises}
 use Rattle.container_depths.specs.declared.ContainerDepths.{ContainerDepths}
 use Rattle.container_depths.specs.declared.Raised.{Raised}
-
-pub total-most : (d : Depths) → depthRefusal d ≡ 0 → total d ≤ 64
-unfolding depthRefusal
-total-most d h = go (ltb 32 (d .structure)) (ltb 32 (d .array)) (ltb 64 (total d)) refl h
-  where
-    go : (x y z : Bool) → ltb 64 (total d) ≡ z → _≡_ {A = ℕ} (pick x 10 (pick y 11 (pick z 12 0))) 0 → total d ≤ 64
-    go true y z e h = absurd (omega arith)
-    go false true z e h = absurd (omega arith)
-    go false false true e h = absurd (omega arith)
-    go false false false e h = ltb-false 64 (total d) e
-
-pub total-opened : (x : Opened) (d : Depths) → total (opened x d) ≡ total d + 1
-total-opened Depth.structure d = omega arith
-total-opened Depth.array d = omega arith
-total-opened Depth.variant d = omega arith
-total-opened Depth.maybe d = omega arith
 
 -- what is left of the depth
 abbrev pub level : ContainerDepths → ℕ

@@ -16,9 +16,9 @@ use Rattle.editor_basic.proofs.PutLaws.{over-none, over-append, length-
 use Rattle.editor_basic.specs.declared.fields.Row.{Row}
 use Rattle.editor_basic.specs.declared.fields.Field.{Field}
 use Rattle.editor_basic.specs.Rows.{fieldsIn, rowPieces, StandingRow, behindField, foundField, FirstField}
-use Rattle.editor_basic.proofs.ElementLaws.{padding-most}
 use Rattle.editor_basic.proofs.StepLaws.{stop-stride}
 use Rattle.meaning.specs.Types.{Fields, last, next}
+use Rattle.meaning.proofs.PaddingLaws.{padding-small}
 use Rattle.signature.specs.Trees.{fieldsAt}
 use Rattle.strict_basic.proofs.TableLaws.{field-place}
 
@@ -128,7 +128,7 @@ module _ {text tables : List ℕ} {row : Row} {l before : List ℕ} {w below to 
     pub ends-most : place + pad + (f .stop - f .start) < to + 100000
     ends-most =
         let i = field-place text tables (rest .at) (s .stands .rowed) (s .stands .table .shapes) in
-        omega (arith, padding-most (g .aligned) place, s .near, g .after, g .order, g .inside, s .stands .short)
+        omega (arith, padding-small (g .aligned) place, s .near, g .after, g .order, g .inside, s .stands .short)
 
     module _ (h : f .last ≡ false) where
       abbrev behind : List Piece
@@ -154,6 +154,6 @@ module _ {text tables : List ℕ} {row : Row} {l before : List ℕ} {w below to 
           let m = g .rest h in
           rw q (record {
             stands = m .stands;
-            near = omega (arith, padding-most (g .aligned) place, s .near, g .after, g .order, m .onward, p);
+            near = omega (arith, padding-small (g .aligned) place, s .near, g .after, g .order, m .onward, p);
             sinks = sinking-next (s .sinks) (f .fixed) (place + pad + (f .stop - f .start)) (fieldEnds (place + pad + (f .stop - f .start)) behind) out′ spot ends-are o n;
           })

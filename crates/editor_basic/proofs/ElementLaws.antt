@@ -15,8 +15,8 @@ use Rattle.meaning.specs.Offsets.{largest, firstWidth, bareWidth, writtenWidth}
 use Rattle.meaning.specs.Padding.{Aligns, padding}
 use Rattle.meaning.specs.Written.{Piece, stop, layout}
 use Rattle.meaning.proofs.Tests.{both-true}
-use Rattle.meaning.proofs.PaddingLaws.{by-alignment, padding-below}
-use Rattle.meaning.proofs.LayoutLaws.{length-layout}
+use Rattle.meaning.proofs.PaddingLaws.{padding-small}
+use Rattle.meaning.proofs.LayoutLaws.{length-layout, layout-none}
 use Rattle.meaning_writing.specs.Shapes.{part}
 use Rattle.meaning_writing.specs.Edited.{foundPiece, elementsFrom}
 use Rattle.meaning_writing.proofs.Parts.{length-part}
@@ -34,16 +34,11 @@ use Rattle.editor_basic.specs.Elements.{elementsIn, startOf, endIn, behi
 
 -- ---- the leaves
 
-pub padding-most : {a : ℕ} → Aligns a → (k : ℕ) → padding k a < 8
-padding-most {a} al k =
-    let m : a ≤ 8 = by-alignment (λ (a : ℕ). a ≤ 8) (omega arith) (omega arith) (omega arith) (omega arith) al in
-    omega (arith, padding-below al k)
-
 pub due-is : {a : ℕ} → Aligns a → (k : ℕ) (r : Checked) → r ≡ paddingFor k a → (r .value ≡ padding k a) × (r .value < 8)
 unfolding paddingFor
 due-is {a} al k r h =
     let e : r .value ≡ padding k a = ap (λ (x : Checked). x .value) h ∙ rw (al .listed) in
-    (e, omega (arith, padding-most al k))
+    (e, omega (arith, padding-small al k))
 
 -- the width of a body's offsets is the one that fits, and 8 where none does
 written-bare : (n m : ℕ) → writtenWidth n m ≡ pick (eqb (bareWidth n m) 0) 8 (bareWidth n m)
@@ -136,10 +131,6 @@ pub stop-is : (k a : ℕ) (l : List ℕ) → stop k (foundPiece a false l) ≡ k
 unfolding stop
 stop-is k a l = refl
 
-layout-none : (k : ℕ) → layout k [] ≡ []
-unfolding layout
-layout-none k = refl
-
 pub first-length : (e : Elements) (l : List ℕ) (c : Child) → FirstOf e l c → length (part (c .start) (c .end) l) ≡ c .end - c .start
 first-length e l c f = length-part (c .start) (c .end) l (f .inside)
 
@@ -157,7 +148,7 @@ layout-most (suc m) e l k n s =
     let i = layout-most m (behindOf e (c .end)) l q (omega arith) (f .behind) in
     let b = stop-is k (e .alignment) (part (c .start) (c .end) l) in
     let a = first-length e l c f in
-    let p = padding-most (s .aligned) k in
+    let p = padding-small (s .aligned) k in
     let o = f .order in
     let d = f .inside in
     omega arith

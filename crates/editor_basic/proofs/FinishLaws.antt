@@ -1,7 +1,7 @@
 -- A structure from the end of its changed field on: offsets read and written again at another width, and the table of all ends. Assumes
 -- nothing.
 use mathlib.Core.Path.{_≡_, refl, sym, ap, _∙_}
-use mathlib.Core.List.{List, [], _∷_, _++_, append-assoc, append-nil, reverse, reverse-cons}
+use mathlib.Core.List.{List, _∷_, _++_, append-assoc}
 use mathlib.Core.Bool.{Bool, true, false}
 use Prim.Native.Nat.{ℕ, zero, suc, _+_, _-_, _*_, _/_, _^_, _≤_, _<_}
 use native.Mathlib.Nat.{mul-div-cancel, div-mul-le-self, div-le-self}
@@ -16,9 +16,10 @@ use Rattle.meaning.specs.Types.{Fields, last, next, fixed}
 use Rattle.meaning.specs.Written.{Piece, stop, layout, ends, unless, fieldEnds}
 use Rattle.meaning.proofs.NumberLaws.{length-bytes}
 use Rattle.meaning.proofs.PaddingLaws.{by-alignment, aligns-positive}
-use Rattle.meaning.proofs.LayoutLaws.{length-table, length-backTable, length-ends, fieldEnds-one}
+use Rattle.meaning.proofs.LayoutLaws.{length-table, length-backTable, length-ends, fieldEnds-one, backTable-append, backTable-reverse}
 use Rattle.meaning_writing.specs.Shapes.{part, oneMore, offsetsLeft}
 use Rattle.meaning_writing.proofs.PieceLaws.{fieldEnds-more}
+use Rattle.meaning.proofs.Bounds.{length-entries}
 use Rattle.signature.specs.Trees.{fieldsAt}
 use Rattle.strict_basic.specs.Sizes.{offsetsIn}
 use Rattle.framing_offset_size.specs.Widths.{widthOf}
@@ -60,23 +61,6 @@ module _ (l : List ℕ) (n w j v at : ℕ) (out whole : List ℕ) (g : over out 
   widen-end h = sym (over-none out at) ∙ sym (ap (λ (i : ℕ). over out at (table v (entries i w (drop j l)))) h) ∙ g
 
 -- ---- tables from the back
-
-pub backTable-append : (w : ℕ) (xs ys : List ℕ) → backTable w (xs ++ ys) ≡ backTable w ys ++ backTable w xs
-unfolding backTable
-backTable-append w [] ys = sym (append-nil (backTable w ys))
-backTable-append w (x ∷ xs) ys =
-    ap (λ (z : List ℕ). z ++ bytes w x) (backTable-append w xs ys) ∙ append-assoc (backTable w ys) (backTable w xs) (bytes w x)
-
-pub backTable-reverse : (w : ℕ) (es : List ℕ) → backTable w (reverse es) ≡ table w es
-unfolding backTable table
-backTable-reverse w [] = refl
-backTable-reverse w (e ∷ es) =
-    ap (λ (z : List ℕ). backTable w z) (reverse-cons e es) ∙ backTable-append w (reverse es) (e ∷ []) ∙ ap (λ (z : List ℕ). bytes w e ++ z) (backTable-reverse w es)
-
-pub length-entries : (n w : ℕ) (l : List ℕ) → length (entries n w l) ≡ n
-unfolding entries
-length-entries zero w l = refl
-length-entries (suc n) w l = ap suc (length-entries n w (drop w l))
 
 pub kept-count : (e w : ℕ) (l : List ℕ) → length (keptEnds e w l) ≡ (length l - e) / w
 kept-count e w l = length-reverse (entries ((length l - e) / w) w (drop e l)) ∙ length-entries ((length l - e) / w) w (drop e l)

@@ -14,10 +14,10 @@ use Rattle.meaning.specs.Padding.{padding}
 use Rattle.meaning.specs.Types.{Tree, next, fixed}
 use Rattle.meaning.specs.Written.{Piece, stop, layout, unless, fieldEnds, structureBytes}
 use Rattle.meaning.proofs.PaddingLaws.{aligns-positive}
-use Rattle.meaning.proofs.LayoutLaws.{fieldEnds-one}
+use Rattle.meaning.proofs.LayoutLaws.{fieldEnds-one, layout-none}
 use Rattle.meaning_writing.specs.Shapes.{part, oneMore, fieldEnd, offsetsLeft}
 use Rattle.meaning_writing.proofs.Parts.{length-part}
-use Rattle.meaning_writing.proofs.PieceLaws.{fieldEnds-more, layout-none}
+use Rattle.meaning_writing.proofs.PieceLaws.{fieldEnds-more}
 use Rattle.meaning_writing.proofs.EditedSteps.{endOf, endOf-cons, endsBefore, upTo, upToEnd, offsetsNow, structure-rewritten, structure-length}
 use Rattle.signature.specs.Trees.{fieldsAt}
 use Rattle.strict_basic.specs.Sizes.{offsetsIn}

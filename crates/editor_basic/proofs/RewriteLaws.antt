@@ -1,6 +1,6 @@
 -- The loops of the rewriter: what is left of the elements to move, and of their ends to write, makes the whole. Assumes nothing.
 use mathlib.Core.Path.{_≡_, refl, sym, ap, _∙_}
-use mathlib.Core.List.{List, [], _∷_, _++_, append-assoc}
+use mathlib.Core.List.{List, [], _∷_, _++_}
 use mathlib.Core.Bool.{false}
 use Prim.Native.Nat.{ℕ, zero, suc, _+_, _-_, _*_, _≤_, _<_}
 use native.Mathlib.Omega.{arith}
@@ -10,7 +10,7 @@ use Rattle.meaning.specs.Offsets.{writtenWidth, table}
 use Rattle.meaning.specs.Padding.{padding, zeros}
 use Rattle.meaning.specs.Written.{Piece, stop, layout, ends}
 use Rattle.meaning.proofs.NumberLaws.{length-bytes}
-use Rattle.meaning.proofs.LayoutLaws.{length-table, length-ends}
+use Rattle.meaning.proofs.LayoutLaws.{length-table, length-ends, table-append}
 use Rattle.meaning_writing.specs.Shapes.{part}
 use Rattle.meaning_writing.specs.Edited.{elementsFrom}
 use Rattle.framing_offset_size.specs.Widths.{widthOf}
@@ -133,11 +133,6 @@ elements-count e l = go (e .count) (e .from) (e .place)
     go : (n j k : ℕ) → length (elementsFrom (e .alignment) false l (widthOf (e .size)) n j k) ≡ n
     go zero j k = unfold elementsFrom in refl
     go (suc n) j k = more n j k (go n (j + widthOf (e .size)) (endFrom j))
-
-table-append : (w : ℕ) (xs ys : List ℕ) → table w (xs ++ ys) ≡ table w xs ++ table w ys
-unfolding table
-table-append w [] ys = refl
-table-append w (x ∷ xs) ys = ap (λ (z : List ℕ). bytes w x ++ z) (table-append w xs ys) ∙ sym (append-assoc (bytes w x) (table w xs) (table w ys))
 
 table-cons : (w x : ℕ) (xs : List ℕ) → table w (x ∷ xs) ≡ bytes w x ++ table w xs
 unfolding table

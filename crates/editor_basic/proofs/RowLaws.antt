@@ -14,6 +14,7 @@ use Rattle.meaning.proofs.Tests.{both-true}
 use Rattle.meaning_writing.specs.Shapes.{Shape, part, behindPadding, lastEnd, oneMore, fieldEnd, offsetsLeft}
 use Rattle.meaning_writing.specs.Edited.{foundPiece}
 use Rattle.meaning_writing.proofs.StrictSteps.{test-size}
+use Rattle.meaning.proofs.PaddingLaws.{padding-small}
 use Rattle.signature.specs.Trees.{treeAt, fieldsAt}
 use Rattle.signature.specs.Shapes.{shapeIn}
 use Rattle.signature.specs.declared.shapes.Shape as shapes
@@ -25,7 +26,6 @@ use Rattle.strict_basic.specs.declared.ends.Extent.{Extent}
 use Rattle.strict_basic.proofs.TableLaws.{placed-known, field-described, field-place}
 use Rattle.editor_basic.specs.Puts.{over}
 use Rattle.editor_basic.proofs.PutLaws.{over-none}
-use Rattle.editor_basic.proofs.ElementLaws.{padding-most}
 use Rattle.editor_basic.proofs.ShapeLaws.{Same, same-last, same-next}
 use Rattle.editor_basic.proofs.StepLaws.{stride, total-next, bytes-next}
 use Rattle.editor_basic.specs.declared.fields.Row.{Row}
@@ -192,7 +192,7 @@ module _ {text tables : List ℕ} {row : Row} {l before : List ℕ} {at to : ℕ
     pub row-most : place + (pad + (f .stop - f .start)) < to + 100000
     row-most =
         let i = field-place text tables (rest .at) (w .stands .rowed) (w .stands .table .shapes) in
-        omega (arith, padding-most (g .aligned) place, w .near, g .after, g .order, g .inside, w .stands .short)
+        omega (arith, padding-small (g .aligned) place, w .near, g .after, g .order, g .inside, w .stands .short)
 
     module _ (out′ : List ℕ) (o : out′ ≡ over out spot (zeros pad ++ take (f .stop - f .start) (drop (f .start) l))) where
       pub row-last : f .last ≡ true
@@ -214,7 +214,7 @@ module _ {text tables : List ℕ} {row : Row} {l before : List ℕ} {at to : ℕ
           let k : pad + (f .stop - f .start) ≡ padding place (f .alignment) + (f .stop - f .start) = rw p in
           rw (q, k) (record {
             stands = m .stands;
-            near = omega (arith, padding-most (g .aligned) place, w .near, g .after, g .order, m .onward);
+            near = omega (arith, padding-small (g .aligned) place, w .near, g .after, g .order, m .onward);
             total = total-next l (f .alignment) (f .fixed) (f .start) (f .stop) cs ds (m .pieces) (g .inside) place ∙ w .total;
             bytes = rw o (bytes-next l (f .alignment) (f .fixed) (f .start) (f .stop) cs ds (m .pieces) (g .inside) place out _ spot _ pad (w .bytes) p refl);
             even = omega (arith, w .even);

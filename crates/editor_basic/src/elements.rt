@@ -27,7 +27,7 @@ pub struct Child {
 }
 
 // The padding that is due at a place.
-pub fn due(place: usize, alignment: usize) -> usize
+pub(crate) fn due(place: usize, alignment: usize) -> usize
     requires { ⌜ Aligns alignment ⌝ }
     ensures { λ r. ⌜ (r ≡ padding place alignment) × (r < 8) ⌝ }
 {
@@ -36,7 +36,7 @@ pub fn due(place: usize, alignment: usize) -> usize
 }
 
 // The width of the offsets of a body.
-pub fn width_for(body: usize, count: usize) -> FramingOffsetSize
+pub(crate) fn width_for(body: usize, count: usize) -> FramingOffsetSize
     ensures { λ r. ⌜ widthOf r ≡ writtenWidth body count ⌝ }
 {
     match FramingOffsetSize::for_bare_container(body, count) {

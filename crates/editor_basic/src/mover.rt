@@ -2,7 +2,7 @@
 // only measures.
 ghost use mathlib.Core.Path.{_≡_};
 ghost use mathlib.Core.List.{_++_, reverse};
-ghost use Prim.Native.Nat.{_+_, _-_, _<_, _≤_, _^_, min};
+ghost use Prim.Native.Nat.{_+_, _-_, _<_, _^_, min};
 ghost use lib.ListN.{length};
 ghost use Rattle.meaning.specs.Numbers.{bytes, ordered};
 ghost use Rattle.meaning.specs.Padding.{zeros};
@@ -69,7 +69,7 @@ fn put_each(out: &mut [u8], at: usize, width: usize, number: usize)
 }
 
 // The same, of an offset or of a reading's number: one byte, as most offsets of short frames have, is put without a loop.
-pub fn put_low_first(out: &mut [u8], at: usize, width: usize, number: usize)
+pub(crate) fn put_low_first(out: &mut [u8], at: usize, width: usize, number: usize)
     ensures { λ r. ⌜ now (out .exit) ≡ over (now (out .entry)) at (bytes width number) ⌝ }
 {
     if width != 1 {

@@ -11,7 +11,7 @@ use crate::fields::first_field;
 use crate::mover::move_part;
 use crate::mover::put_low_first;
 ghost use mathlib.Core.Path.{_≡_};
-ghost use mathlib.Core.List.{[], _++_};
+ghost use mathlib.Core.List.{[]};
 ghost use Prim.Native.Nat.{_+_, _-_, _*_, _<_, _≤_, _^_};
 ghost use lib.ListN.{length};
 ghost use Rattle.meaning.specs.Offsets.{table, backTable};
@@ -21,7 +21,13 @@ ghost use Rattle.editor_basic.specs.Elements.{elementsIn, Standing, rest
 ghost use Rattle.editor_basic.specs.Rows.{fieldsIn, StandingRow};
 
 // Elements laid out anew from the place `to` of their array, which is the place `at` of the slice. The place where they end.
-pub fn move_elements(old: &[u8], elements: Elements, out: &mut [u8], at: usize, to: usize) -> usize
+pub(crate) fn move_elements(
+    old: &[u8],
+    elements: Elements,
+    out: &mut [u8],
+    at: usize,
+    to: usize,
+) -> usize
     requires { ⌜ Standing elements (now old) × (at + to < 2 ^ 30) ⌝ }
     ensures bytes { λ r. ⌜ now (out .exit) ≡ over (now (out .entry)) at (layout to (elementsIn elements (now (old .entry)))) ⌝ }
     ensures end { λ r. ⌜ r ≡ to + length (layout to (elementsIn elements (now (old .entry)))) ⌝ }
@@ -44,7 +50,7 @@ pub fn move_elements(old: &[u8], elements: Elements, out: &mut [u8], at: usize, 
 }
 
 // The ends of the same elements, as a table of a width from the place `at` of the slice on.
-pub fn rewrite_ends(
+pub(crate) fn rewrite_ends(
     old: &[u8],
     elements: Elements,
     width: usize,
@@ -101,7 +107,7 @@ pub fn finish_array(
 }
 
 // Fields laid out anew from the place `to` of their structure, which is the place `at` of the slice. The place where they end.
-pub fn move_fields(
+pub(crate) fn move_fields(
     text: &[u8],
     tables: &[u16],
     old: &[u8],
@@ -152,7 +158,7 @@ fn put_end(out: &mut [u8], fixed: bool, below: usize, width: usize, end: usize) 
 
 // The ends of fields that lie from the place `to` of their structure on, as offsets in front of those that begin at a place. Where they
 // begin then.
-pub fn rewrite_field_ends(
+pub(crate) fn rewrite_field_ends(
     text: &[u8],
     tables: &[u16],
     old: &[u8],

@@ -8,7 +8,7 @@ use Rattle.meaning.specs.Depths.{Depths}
 use Rattle.meaning.specs.Written.{Piece, stop, layout}
 use Rattle.meaning_writing.specs.Readings.{MaybeNumber}
 use Rattle.meaning_writing.specs.Edited.{Editor, Child, childCount, childSpot, childEdited, countIn, spotIn, piecesOf, editedIn, alike}
-use Rattle.meaning_writing.proofs.EditedSteps.{endOf, endOf-cons}
+use Rattle.meaning_writing.proofs.EditedSteps.{endOf, endOf-cons, endOf-none}
 
 pub count-append : (xs ys : List Child) → countIn (xs ++ ys) ≡ countIn xs + countIn ys
 unfolding countIn
@@ -22,10 +22,6 @@ count-cons c ys = refl
 pub count-none : countIn [] ≡ 0
 unfolding countIn
 count-none = refl
-
-endOf-none : (k : ℕ) → endOf k [] ≡ k
-unfolding layout
-endOf-none k = omega arith
 
 -- the child c behind xs has the reading
 module _ (c : Child) (ys : List Child) (left : ℕ) (h : left < childCount c) where

@@ -1,7 +1,7 @@
 -- Laws of what stands behind a changed child: handed on, or put. Assumes nothing.
 use mathlib.Core.Path.{_≡_, refl, sym, ap, _∙_, subst}
 use mathlib.Core.List.{List}
-use mathlib.Core.Bool.{Bool, true, false, _&&_, false≢true}
+use mathlib.Core.Bool.{Bool, true, false, _&&_}
 use Prim.Native.Nat.{ℕ, zero, suc, _+_, _-_, _*_, _≤_, _<_}
 use native.Mathlib.Omega.{arith}
 use lib.Dec.{leb, eqb}
@@ -25,20 +25,18 @@ use Rattle.editor_basic.specs.Rows.{behindField, StandingRow, lastNow, rowNow, 
 use Rattle.editor_basic.proofs.FinishLaws.{array-rest-length, structure-rest-length}
 use Rattle.editor_steps.specs.declared.answers.Walked.{Walked}
 use Rattle.editor_steps.specs.Closing.{editedAs, edits, endNow, endIn, Closes, frontOf, FieldBehind, fieldRest}
-
-not-both : {A : Type 0} {b : Bool} → b ≡ false → b ≡ true → A
-not-both h g = absurd (false≢true (sym h ∙ g))
+use Rattle.editor_steps.proofs.WalkLaws.{unfound}
 
 module _ (p start : ℕ) (rest : List ℕ) (more : ℕ) (w : Walked) where
   pub closes-same : (out : List ℕ) → edits w ≡ false → Closes p start rest more w out out w
   closes-same out h =
-      record { same = λ f. refl; kept = λ f. refl; answer = λ f. not-both h f; bytes = λ f. not-both h f; few = λ f. not-both h f }
+      record { same = λ f. refl; kept = λ f. refl; answer = λ f. unfound h f; bytes = λ f. unfound h f; few = λ f. unfound h f }
 
   pub closes-joined : (out out′ : List ℕ) (n at : ℕ) (r : Walked) → edits w ≡ true → r ≡ editedAs (w .place) n → endNow start w + length rest ≡ n → at ≡ endIn p start w
       → out′ ≡ over out at rest → n ≤ endNow start w + more → Closes p start rest more w out out′ r
   closes-joined out out′ n at r h q e a o m = record {
-    same = λ f. not-both f h;
-    kept = λ f. not-both f h;
+    same = λ f. unfound f h;
+    kept = λ f. unfound f h;
     answer = λ f. q ∙ ap (λ (k : ℕ). editedAs (w .place) k) (sym e);
     bytes = λ f. o ∙ ap (λ (k : ℕ). over out k rest) a;
     few = λ f. omega arith;
@@ -73,7 +71,7 @@ rises-less a l w (suc n) (suc m) j k h g =
     let y = both-true (leb v (length l)) (rises a l w m (j + w) v) (x .1) in
     rw (x .0, y .0) (rises-less a l w n m (j + w) v (omega arith) (y .1))
 
-times-less : (s : FramingOffsetSize) (n m : ℕ) → n ≤ m → n * widthOf s ≤ m * widthOf s
+pub times-less : (s : FramingOffsetSize) (n m : ℕ) → n ≤ m → n * widthOf s ≤ m * widthOf s
 times-less U8 n m h = omega arith
 times-less U16 n m h = omega arith
 times-less U32 n m h = omega arith

@@ -29,12 +29,12 @@ use Rattle.signature.specs.declared.items.Item.{Item}
 use Rattle.signature.specs.declared.shapes.Shape.{Shape}
 use Rattle.strict_basic.specs.Ends.{letterExtent, letterTest, Laid}
 use Rattle.strict_basic.specs.Items.{Placed, treeTest}
-use Rattle.strict_basic.proofs.ItemLaws.{letter-test, found-placed, found-entry, found-element}
+use Rattle.strict_basic.proofs.ItemLaws.{letter-test, found-placed, found-entry, found-element, letter-laid}
 use Rattle.editor_basic.proofs.ShapeLaws.{editor-alignment, editor-fixed}
 use Rattle.editor_steps.specs.declared.answers.Walked.{Walked}
 use Rattle.editor_steps.specs.Walks.{treeEditor, Walks, containerMost, most, Ready, letterEditor, entryEditors, entryTests, itemEditor, itemTest, Repeats, elementsTest, elementsEditor}
 use Rattle.editor_steps.proofs.WalkLaws.{walks-by}
-use Rattle.editor_steps.proofs.Values.{Deeper, deeper-true, deepens, letter-laid}
+use Rattle.editor_steps.proofs.Values.{Deeper, deeper-true, deepens}
 
 -- ---- the two kinds
 

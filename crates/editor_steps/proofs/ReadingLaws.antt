@@ -7,16 +7,14 @@ use mathlib.Core.Option.{none, some}
 use mathlib.Core.Bool.{Bool, true, false}
 use Prim.Native.Nat.{ℕ, _+_, _-_, _%_, _^_, _≤_, _<_}
 use native.Mathlib.Omega.{arith}
-use lib.Dec.{leb, ltb}
-use lib.ListN.{length, drop, length-reverse}
-use borrow.Author.Tests.{lt-ltb, eq-eqb, ne-eqb, leb-true}
+use lib.Dec.{leb}
+use lib.ListN.{length, drop}
+use borrow.Author.Tests.{eq-eqb, ne-eqb, leb-true}
 use Rattle.meaning.specs.Numbers.{bytes, ordered}
-use Rattle.meaning.specs.Padding.{Aligns}
 use Rattle.meaning.specs.Depths as Depth
 use Rattle.meaning.specs.Depths.{Depths, depthRefusal, opened}
 use Rattle.meaning.specs.Types.{Tree, numberWidth}
-use Rattle.meaning.proofs.PaddingLaws.{by-alignment}
-use Rattle.meaning.proofs.NumberLaws.{length-bytes}
+use Rattle.meaning.proofs.NumberLaws.{length-bytes, length-ordered}
 use Rattle.meaning_writing.specs.Readings.{MaybeNumber, spotAt, spells, mayStand, Slot, ofBool, ofNumber, slotType}
 use Rattle.meaning_writing.specs.Edited.{Editor, slotBytes, maybeEditor}
 use Rattle.container_depths.specs.declared.ContainerDepths.{ContainerDepths}
@@ -72,12 +70,6 @@ spells-bool CloseStructure n h = refl
 spells-bool OpenEntry n h = refl
 spells-bool CloseEntry n h = refl
 
-pub eight-fits : (x w : ℕ) → w ≡ 8 → x < 18446744073709551616 → true ≡ ltb x (256 ^ w)
-eight-fits x w e h = rw e (sym (lt-ltb x (256 ^ 8) h))
-
-pub eight-left : {w : ℕ} → Aligns w → (w ≡ 1 → ⊥) → (w ≡ 2 → ⊥) → (w ≡ 4 → ⊥) → w ≡ 8
-eight-left h = by-alignment (λ w. (w ≡ 1 → ⊥) → (w ≡ 2 → ⊥) → (w ≡ 4 → ⊥) → w ≡ 8) (λ a b c. absurd (a refl)) (λ a b c. absurd (b refl)) (λ a b c. absurd (c refl)) (λ a b c. refl) h
-
 -- ---- what bars a reading
 
 spelled-is : {u : Tree} (s : Slot u) (k : Letter) (n : ℕ) → k ≡ basicKind (slotType s) → spells (slotType s) (some n) ≡ letterSpells k n
@@ -115,10 +107,6 @@ unfolding bytes
 one-byte true n h = let e : n % 256 ≡ n = omega arith in rw e
 one-byte false n h = let e : n % 256 ≡ n = omega arith in rw e
 
-ordered-length : (big : Bool) (l : List ℕ) → length (ordered big l) ≡ length l
-ordered-length true l = length-reverse l
-ordered-length false l = refl
-
 pub slot-bytes : (big : Bool) {u : Tree} (s : Slot u) (k : Letter) (n : ℕ) → k ≡ basicKind (slotType s) → letterSpells k n ≡ true
     → (slotBytes big s (some n) ≡ ordered big (bytes (letterExtent k .size) n)) × (letterExtent k .size ≡ length (slotBytes big s (some n)))
 unfolding slotBytes
@@ -128,7 +116,7 @@ slot-bytes big ofBool k n h f =
     (sym (ap (λ (w : ℕ). ordered big (bytes w n)) q ∙ one-byte big n g), q)
 slot-bytes big (ofNumber c) k n h f =
     let q : letterExtent k .size ≡ numberWidth c = ap (λ (x : Letter). letterExtent x .size) h in
-    (ap (λ (w : ℕ). ordered big (bytes w n)) (sym q), q ∙ sym (ordered-length big (bytes (numberWidth c) n) ∙ length-bytes (numberWidth c) n))
+    (ap (λ (w : ℕ). ordered big (bytes w n)) (sym q), q ∙ sym (length-ordered big (bytes (numberWidth c) n) ∙ length-bytes (numberWidth c) n))
 
 -- ---- the walk over it
 

@@ -19,8 +19,6 @@ use Rattle.meaning_writing.specs.Edited.{Editor, still, maybeEditor, editorOf}
 use Rattle.container_depths.specs.Opening.{depthsOf}
 use Rattle.container_depths.specs.declared.ContainerDepths.{ContainerDepths}
 use Rattle.framing_offset_size.specs.Widths.{widthOf}
-use Rattle.framing_offset_size.specs.declared.FramingOffsetSize.{FramingOffsetSize}
-use Rattle.framing_offset_size.specs.declared.FramingOffsetSize.the-variants.{U8, U16, U32, U64}
 use Rattle.signature.specs.Places.{basicKind, letterAt}
 use Rattle.signature.specs.Items.{heldNumber, itemIn, ElementOf}
 use Rattle.signature.specs.Shapes.{shapeIn}
@@ -32,7 +30,7 @@ use Rattle.signature.specs.declared.shapes.Shape.{Shape}
 use Rattle.signature.proofs.Dispatch.{Shown, shown}
 use Rattle.strict_basic.specs.Ends.{letterExtent, Laid}
 use Rattle.strict_basic.specs.Items.{Placed}
-use Rattle.strict_basic.proofs.ItemLaws.{found-placed, found-entry, found-element}
+use Rattle.strict_basic.proofs.ItemLaws.{found-placed, found-entry, found-element, letter-laid}
 use Rattle.editor_basic.specs.Elements as its
 use Rattle.editor_basic.specs.Elements.{startOf, behindOf, Standing, FirstOf, restNow}
 use Rattle.editor_basic.specs.declared.elements.Elements.{Elements}
@@ -45,24 +43,19 @@ use Rattle.editor_steps.specs.Slots.{isSlot, Reads}
 use Rattle.editor_steps.specs.Starts.{bodyOf, AllOf}
 use Rattle.editor_steps.specs.Closing.{countedAs, edits, Fits, endNow, frontOf, Behind, Closes}
 use Rattle.editor_steps.specs.ReadingArrays.{fromNth, Slotted, ReadyEach, ReadsEach}
-use Rattle.editor_steps.proofs.Values.{letter-laid, most-small, slot-there, held-placed, tree-is, maybe-editor}
+use Rattle.editor_steps.proofs.Values.{most-small, slot-there, held-placed, tree-is, maybe-editor}
 use Rattle.editor_steps.proofs.Arrays.{ElementsLeft, body-inside, elements-begin, elements-next, elements-behind, elements-counted, element-fits, elements-found}
 use Rattle.editor_steps.proofs.Items.{plain-editor, ItemIs}
+use Rattle.editor_steps.proofs.ClosingLaws.{times-less}
 
 -- ---- the elements behind so many
-
-widths-more : (s : FramingOffsetSize) (n m : ℕ) → n ≤ m → n * widthOf s ≤ m * widthOf s
-widths-more U8 n m h = omega arith
-widths-more U16 n m h = omega arith
-widths-more U32 n m h = omega arith
-widths-more U64 n m h = omega arith
 
 -- the offset in front of those behind some stands in the table
 pub nth-inside : (e : Elements) (l : List ℕ) (n w : ℕ) → Standing e l → n ≤ e .count → (n ≡ 0 → ⊥) → w ≡ widthOf (e .size) → (e .from + (n - 1) * w + w ≤ length l) × (length l ≤ largestFrame)
 nth-inside e l zero w s h z q = absurd (z refl)
 nth-inside e l (suc n) w s h z q =
     let o : suc n - 1 ≡ n = omega arith in
-    let r : e .from + n * widthOf (e .size) + widthOf (e .size) ≤ length l = omega (arith, s .room, widths-more (e .size) (suc n) (e .count) h) in
+    let r : e .from + n * widthOf (e .size) + widthOf (e .size) ≤ length l = omega (arith, s .room, times-less (e .size) (suc n) (e .count) h) in
     (rw (o, q) r, s .short)
 
 nth-count : (e : Elements) (n : ℕ) (l : List ℕ) → fromNth e n l .count ≡ e .count - n

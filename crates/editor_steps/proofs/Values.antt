@@ -4,31 +4,29 @@ use denote.Enum.Declared.{tagOf}
 use mathlib.Core.Path.{_≡_, refl, sym, ap, _∙_, subst}
 use mathlib.Core.List.{List, [], _∷_, _++_}
 use mathlib.Core.Option.{Option, none, some}
-use mathlib.Core.Bool.{Bool, true, false, _&&_, false≢true}
-use Prim.Native.Nat.{ℕ, _+_, _-_, _*_, _≤_, _<_}
+use mathlib.Core.Bool.{Bool, true, false, false≢true}
+use Prim.Native.Nat.{ℕ, _+_, _-_, _≤_}
 use native.Mathlib.Omega.{arith}
 use lib.Dec.{eqb}
-use lib.ListN.{length, take, drop, getD, length-take, length-drop}
+use lib.ListN.{length, take, drop, getD, length-take}
 use borrow.Author.Tests.{eq-eqb, ne-eqb, eqb-true}
 use Rattle.meaning.specs.Choice.{pick}
 use Rattle.meaning.specs.Padding.{zeros}
 use Rattle.meaning.specs.Depths as Depth
 use Rattle.meaning.specs.Depths.{Depths, Opened, depthRefusal, opened}
-use Rattle.meaning.specs.Types.{Basic, bool, number, text, Tree, Fields, basic, variant, maybe, array, dictionary, structure, alignment, fixed, allFixed, largestAlignment}
+use Rattle.meaning.specs.Types.{bool, number, text, Tree, Fields, basic, variant, maybe, array, dictionary, structure, alignment, fixed, allFixed, largestAlignment}
 use Rattle.meaning.specs.TypeText.{firstType}
 use Rattle.meaning.specs.Written.{deeper}
 use Rattle.meaning.proofs.Tests.{both-true}
-use Rattle.meaning.proofs.PaddingLaws.{by1}
-use Rattle.meaning.proofs.TypeLaws.{aligns-most, number-aligned}
 use Rattle.meaning_writing.specs.Strict.{Test, presentWritten, maybeWritten, maybeTest, testOf}
-use Rattle.meaning_writing.specs.Readings.{MaybeNumber, Spot, Slot, ofBool, ofNumber, slotOf, slotType}
-use Rattle.meaning_writing.specs.Edited.{Editor, still, childBytes, roundChild, countMaybe, maybeEditor, structureEditor, editorOf}
+use Rattle.meaning_writing.specs.Readings.{MaybeNumber, Slot, ofBool, ofNumber, slotOf, slotType}
+use Rattle.meaning_writing.specs.Edited.{Editor, childBytes, roundChild, countMaybe, maybeEditor, structureEditor, editorOf}
 use Rattle.meaning_writing.proofs.StrictSteps.{test-maybe}
 use Rattle.meaning_writing.proofs.EditedSteps.{editor-basic, editor-maybe, editor-structure, editorsOf}
 use Rattle.container_depths.specs.Opening.{depthsOf, Raises}
 use Rattle.container_depths.specs.declared.ContainerDepths.{ContainerDepths}
 use Rattle.container_depths.specs.declared.Raised.{Raised}
-use Rattle.container_depths.proofs.Levels.{level, total-most, raised-to, raised-shallow, level-falls}
+use Rattle.container_depths.proofs.Levels.{level, raised-to, raised-shallow, level-falls}
 use Rattle.signature.specs.Places.{basicKind, letterAt}
 use Rattle.signature.specs.Shapes.{shapeIn}
 use Rattle.signature.specs.Trees.{treeAt, behindBy, Typed}
@@ -40,12 +38,13 @@ use Rattle.signature.proofs.Dispatch.{Shown, shown, is-variant}
 use Rattle.signature.proofs.TreeLaws.{described-as, described-kind, described-fixed, maybe-tree, maybe-described}
 use Rattle.strict_basic.specs.Ends.{letterExtent, Laid}
 use Rattle.strict_basic.specs.Items.{Placed, treeTest}
+use Rattle.strict_basic.proofs.ItemLaws.{letter-laid}
 use Rattle.editor_steps.specs.declared.answers.Aim.{Aim}
 use Rattle.editor_steps.specs.declared.answers.Walked.{Walked}
 use Rattle.editor_steps.specs.Walks.{newOf, treeEditor, Walks, most, Ready, variantTest, variantEditor}
 use Rattle.editor_steps.specs.Slots.{isSlot, Reads}
-use Rattle.editor_steps.specs.Closing.{countedAs, edits, Fits, Closes}
-use Rattle.editor_steps.proofs.WalkLaws.{counts, walks-by, fits-here, through-closed}
+use Rattle.editor_steps.specs.Closing.{edits, Fits, Closes}
+use Rattle.editor_steps.proofs.WalkLaws.{fits-here, through-closed}
 
 -- ---- one container deeper, where the strict test went so deep
 
@@ -154,11 +153,6 @@ module _ (sig : List ℕ) (at : ℕ) (k : Letter) (t : Typed sig at) (e : k ≡ 
       go (array s) w = unfold slotOf in refl
       go (dictionary b s) w = unfold slotOf in refl
       go (structure ts) w = unfold slotOf in refl
-
-pub letter-laid : (b : Basic) → Laid (letterExtent (basicKind b))
-letter-laid bool = record { aligned = by1; small = omega arith }
-letter-laid (number c) = record { aligned = number-aligned c; small = omega (arith, aligns-most (number-aligned c)) }
-letter-laid (text c) = record { aligned = by1; small = omega arith }
 
 module _ {text tables : List ℕ} {s : Shape} (p : Placed text tables s) (e : letterAt text (s .at) ≡ Maybe) (c : Shape) (q : c ≡ shapeIn text tables (s .at + 1)) where
   pub held-placed : Placed text tables c

@@ -23,18 +23,15 @@ use Rattle.meaning_writing.specs.Edited as edited
 use Rattle.meaning_writing.specs.Edited.{Editor, countTyped, spotTyped, editedTyped, editorOf}
 use Rattle.meaning_writing.proofs.StrictSteps.{test-variant}
 use Rattle.meaning_writing.proofs.EditedSteps.{editor-variant}
+use Rattle.meaning.proofs.Bounds.{total-most}
 use Rattle.container_depths.specs.Opening.{depthsOf, Raises}
 use Rattle.container_depths.specs.declared.ContainerDepths.{ContainerDepths}
 use Rattle.container_depths.specs.declared.Raised.{Raised}
-use Rattle.container_depths.proofs.Levels.{total-most}
 use Rattle.signature.specs.Places.{isType}
-use Rattle.signature.specs.Shapes.{shapeIn}
 use Rattle.signature.specs.Trees.{treeAt}
-use Rattle.signature.specs.declared.shapes.Shape.{Shape}
 use Rattle.signature.proofs.Answers.{judged-none}
-use Rattle.signature.proofs.TreeLaws.{Front, front-described, described-as}
-use Rattle.strict_basic.specs.Sizes.{Tabled}
-use Rattle.strict_basic.specs.Items.{Placed, treeTest}
+use Rattle.signature.proofs.TreeLaws.{Front}
+use Rattle.strict_basic.specs.Items.{treeTest}
 use Rattle.editor_steps.specs.declared.answers.Walked.{Walked}
 use Rattle.editor_steps.specs.Walks.{treeEditor, Walks, most, Ready, variantTest, variantEditor}
 use Rattle.editor_steps.specs.Closing.{edits, Fits, Closes}
@@ -42,9 +39,6 @@ use Rattle.editor_steps.proofs.WalkLaws.{fits-here, through-closed}
 use Rattle.editor_steps.proofs.Values.{Deeper, deeper-true, deepens, most-small}
 
 -- a text that is one type, by its table
-pub front-placed : (sig tables : List ℕ) → Tabled sig tables → Front sig → (s : Shape) → s ≡ shapeIn sig tables 0 → Placed sig tables s
-front-placed sig tables w f s q = record { shape = described-as q (front-described sig tables (w .shapes) f); table = w }
-
 module _ (d : ContainerDepths) (p : ℕ) (l : List ℕ) (w : Ready (variantTest d) d p l) (s : ℕ) (hs : s ≡ separator l) where
   fuel : 65 - d .variant ≡ suc (64 - d .variant)
   fuel = let v = total-most (depthsOf d) (w .shallow) in omega arith

@@ -34,7 +34,7 @@ pub fn counted(length: usize) -> Walked
     }
 }
 
-pub fn refused(refusal: u8) -> Walked
+pub(crate) fn refused(refusal: u8) -> Walked
     ensures { λ r. ⌜ r ≡ refusedAs refusal ⌝ }
 {
     Walked {
@@ -45,7 +45,7 @@ pub fn refused(refusal: u8) -> Walked
     }
 }
 
-pub fn edited(place: usize, length: usize) -> Walked
+pub(crate) fn edited(place: usize, length: usize) -> Walked
     ensures { λ r. ⌜ r ≡ editedAs place length ⌝ }
 {
     Walked {
@@ -56,7 +56,7 @@ pub fn edited(place: usize, length: usize) -> Walked
     }
 }
 
-pub fn edits(walked: Walked) -> bool
+pub(crate) fn edits(walked: Walked) -> bool
     ensures { λ r. ⌜ r ≡ editsAs walked ⌝ }
 {
     let found = walked.found;

@@ -100,7 +100,7 @@ pub fits-count : (s : FramingOffsetSize) (len count : ℕ) {most room : ℕ} →
 fits-count s len count {most} e h r = rw (r, ← e) (room-for (widthOf s) len count most (width-positive s) h)
 
 -- the offset of a buffer that is empty is 0 in meaning too
-last-none : (w : ℕ) (l : List ℕ) → length l ≡ 0 → lastOffset w l ≡ 0
+pub last-none : (w : ℕ) (l : List ℕ) → length l ≡ 0 → lastOffset w l ≡ 0
 unfolding value
 last-none w [] h = rw (drop-nil (0 - w), take-nil w)
 last-none w (b ∷ l) h = absurd (omega arith)

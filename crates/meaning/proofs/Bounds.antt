@@ -1,15 +1,15 @@
 -- On all frames whatsoever: no reader uses more than its part, and the events are few, by the bytes used and the depth left.
 -- Assumes nothing.
-use mathlib.Core.Path.{_≡_, refl, sym, ap, _∙_}
-use mathlib.Core.List.{List, [], _∷_, _++_}
+use mathlib.Core.Path.{_≡_, refl, ap}
+use mathlib.Core.List.{List, [], _∷_}
 use mathlib.Core.Option.{Option, none, some}
 use mathlib.Core.Bool.{Bool, true, false, _&&_, _||_, false≢true}
 use Prim.Native.Nat.{ℕ, zero, suc, _+_, _*_, _-_, _/_, _%_, _≤_, _<_, min, max}
-use native.Mathlib.Nat.{zero-add, mul-add, add-mul, mul-suc, mul-le-mul-left, mul-le-mul-right, div-mul-le-self}
+use native.Mathlib.Nat.{zero-add, mul-add, add-mul, mul-suc, mul-le-mul-left, div-mul-le-self}
 use native.Mathlib.Omega.{arith}
 use lib.Dec.{T, leb, ltb, eqb, leb→le}
-use lib.ListN.{length, take, drop, getD, length-append, length-take, length-drop}
-use borrow.Author.Tests.{eqb-true, eqb-false, leb-true, leb-false, ltb-true, ltb-false}
+use lib.ListN.{length, take, drop, getD, length-drop}
+use borrow.Author.Tests.{eqb-true, eqb-false, leb-true, leb-false, ltb-false}
 use Rattle.meaning.specs.Choice.{pick}
 use Rattle.meaning.specs.Numbers.{value, ordered}
 use Rattle.meaning.specs.Padding.{padding, leadingZeros}
@@ -20,10 +20,10 @@ use Rattle.meaning.specs.Depths.{Depths, Opened, total, depthRefusal, op
 use Rattle.meaning.specs.Types.{Basic, bool, number, text, Tree, Fields, basic, variant, maybe, array, dictionary, structure, last, next, numberWidth, basicAlignment, basicFixed, alignment, largestAlignment, fixed, allFixed}
 use Rattle.meaning.specs.Letters.{numberLetter, textLetter}
 use Rattle.meaning.specs.TypeText.{typeOf}
-use Rattle.meaning.specs.Events.{Event, event, textEvent, present, nothing}
-use Rattle.meaning.specs.Outcome.{Outcome, outcome, done, refused, after, chain, unused, passing, enclosed}
+use Rattle.meaning.specs.Events.{event, textEvent, present, nothing}
+use Rattle.meaning.specs.Outcome.{Outcome, done, refused, chain, passing, enclosed}
 use Rattle.meaning.specs.Reading
-use Rattle.meaning.specs.Reading.{Reader, child, within, paddingOf, textAs, readText, readBool, numberIn, endByte, presentIn, maybeIn, further, elements, elementsTo, Step, tabled, arrayBody, arrayIn, childStep, Field, offsetStands, fieldOffset, padded, lastNul, separator, remaining, variantValue, variantType, variantTyped, variantBody, variantIn, pad, readNumber, readBasic, readMaybe, readArray, endPadding, fieldsIn, structureBody, structureIn, readStructure, valueFrom, fixedKey, valueBefore, keyTo, textKey, entryFrom, readEntry, entryStep, readVariant, readTree, readers, reading}
+use Rattle.meaning.specs.Reading.{Reader, child, within, paddingOf, textAs, readText, readBool, numberIn, endByte, presentIn, maybeIn, further, elements, elementsTo, Step, tabled, arrayBody, arrayIn, childStep, Field, offsetStands, fieldOffset, lastNul, separator, remaining, variantValue, variantType, variantTyped, variantBody, variantIn, pad, readNumber, readBasic, readMaybe, readArray, endPadding, fieldsIn, structureBody, structureIn, readStructure, valueFrom, fixedKey, valueBefore, keyTo, textKey, entryFrom, readEntry, entryStep, readVariant, readTree, readers, reading}
 use Rattle.meaning.specs.Limits.{largestFrame, mostVariants}
 use Rattle.meaning.specs.Refusals.{roomTooSmall}
 use Rattle.meaning.specs.Calls.{frameOf, frameReading, Counts, counts, sized, fitted, size, read}
@@ -48,13 +48,13 @@ abbrev pub least : Bool → ℕ
 least true = 1
 least false = 0
 
-total-opened : (x : Opened) (d : Depths) → total (opened x d) ≡ total d + 1
+pub total-opened : (x : Opened) (d : Depths) → total (opened x d) ≡ total d + 1
 total-opened Depth.structure d = omega arith
 total-opened Depth.array d = omega arith
 total-opened Depth.variant d = omega arith
 total-opened Depth.maybe d = omega arith
 
-total-most : (d : Depths) → depthRefusal d ≡ 0 → total d ≤ 64
+pub total-most : (d : Depths) → depthRefusal d ≡ 0 → total d ≤ 64
 total-most d h = limits (d .structure) (d .array) (d .variant) (d .maybe) h .total
 
 cost-opened : (x : Opened) (d : Depths) → depthRefusal (opened x d) ≡ 0 → cost d ≡ cost (opened x d) + 2
@@ -209,7 +209,7 @@ kept-elementsTo {c} step len w n s (e ∷ es) h a j g = go (leb e s) (noneAbove 
 kept-passing : {j m n c : ℕ} (t u : ℕ) → j + t ≤ m → j + t ≤ n → Kept j m n t c 0 (c * t) (passing t u)
 kept-passing t u h i = kept-done t [] h i (omega arith) (omega arith)
 
-length-entries : (n w : ℕ) (l : List ℕ) → length (entries n w l) ≡ n
+pub length-entries : (n w : ℕ) (l : List ℕ) → length (entries n w l) ≡ n
 unfolding entries
 length-entries zero w l = refl
 length-entries (suc n) w l = ap suc (length-entries n w (drop w l))
@@ -238,7 +238,7 @@ stands t l h = go (leb (t .start) (length l)) (eqb ((length l - t .start) % t .w
     go true false z p q a = absurd (false≢true a)
     go false y z p q a = absurd (false≢true a)
 
-length-ends : (t : Table) (l : List ℕ) → length (endsOf t l) ≡ t .count
+pub length-ends : (t : Table) (l : List ℕ) → length (endsOf t l) ≡ t .count
 unfolding endsOf
 length-ends t l = length-entries (t .count) (t .width) (drop (t .start) l)
 

@@ -1,18 +1,16 @@
 -- Laws of the layout of children and of the table of their ends. Assumes nothing.
 use mathlib.Core.Path.{_≡_, refl, sym, ap, _∙_}
-use mathlib.Core.List.{List, [], _∷_, _++_, append-nil, append-assoc}
-use mathlib.Core.Bool.{Bool, true, false, _&&_}
-use Prim.Native.Nat.{ℕ, zero, suc, _+_, _*_, _-_, _/_, _%_, _^_, _≤_, _<_}
-use native.Mathlib.Nat.{mul-div-cancel, mul-mod-left, zero-mul}
+use mathlib.Core.List.{List, [], _∷_, _++_, append-nil, append-assoc, reverse, reverse-cons}
+use mathlib.Core.Bool.{Bool, true, false}
+use Prim.Native.Nat.{ℕ, suc, _+_, _*_, _-_, _/_, _%_, _^_, _≤_, _<_}
+use native.Mathlib.Nat.{mul-div-cancel, mul-mod-left}
 use native.Mathlib.Omega.{arith}
-use lib.Dec.{T, leb, eqb}
 use lib.ListN.{length, take, drop, length-append, length-replicate}
 use lib.Seq.{take-at, drop-at, take-length, take-nil, drop-nil}
 use borrow.Author.Tests.{le-leb, eq-eqb}
 use Rattle.meaning.specs.Numbers.{bytes, value}
 use Rattle.meaning.specs.Padding.{padding, zeros}
-use Rattle.meaning.specs.Offsets.{encodedWidth, writtenWidth, table, backTable, offsetBefore, lastOffset, entries, noneAbove, Table, tableFrom, tableOf, endsOf, tableStands}
-use Rattle.meaning.specs.Events.{Event}
+use Rattle.meaning.specs.Offsets.{encodedWidth, table, backTable, lastOffset, entries, noneAbove, Table, tableFrom, tableOf, endsOf, tableStands}
 use Rattle.meaning.specs.Written.{Piece, stop, layout, eventsFrom, ends, unless, fieldEnds}
 use Rattle.meaning.proofs.NumberLaws.{length-bytes, value-bytes}
 use Rattle.meaning.proofs.OffsetLaws.{Fits, encodedWidth-fits, fits-below}
@@ -26,6 +24,10 @@ pub data All (P : Piece → Type 0) : List Piece → Type 0 where
 pub layout-cons : (k : ℕ) (c : Piece) (cs : List Piece) → layout k (c ∷ cs) ≡ zeros (padding k (c .alignment)) ++ (c .bytes ++ layout (stop k c) cs)
 unfolding layout
 layout-cons k c cs = refl
+
+pub layout-none : (k : ℕ) → layout k [] ≡ []
+unfolding layout
+layout-none k = refl
 
 pub layout-one : (j : ℕ) (c : Piece) → layout j (c ∷ []) ≡ zeros (padding j (c .alignment)) ++ c .bytes
 unfolding layout
@@ -72,6 +74,9 @@ pub stop-placed : (k : ℕ) (c : Piece) → k + length (placed k c) ≡ stop k c
 unfolding stop
 stop-placed k c = simp (length-append, length-replicate) (omega arith)
 
+pub layout-first : (k : ℕ) (c : Piece) (cs : List Piece) → layout k (c ∷ cs) ≡ placed k c ++ layout (stop k c) cs
+layout-first k c cs = layout-cons k c cs ∙ sym (append-assoc (zeros (padding k (c .alignment))) (c .bytes) (layout (stop k c) cs))
+
 pub length-layout : (k : ℕ) (c : Piece) (cs : List Piece) → k + length (layout k (c ∷ cs)) ≡ stop k c + length (layout (stop k c) cs)
 unfolding layout stop
 length-layout k c cs = simp (length-append, length-replicate) (omega arith)
@@ -85,6 +90,23 @@ pub length-backTable : (w : ℕ) (es : List ℕ) → length (backTable w es) ≡
 unfolding backTable
 length-backTable w [] = omega arith
 length-backTable w (e ∷ es) = simp (length-append, length-bytes, length-backTable w es) (omega arith)
+
+pub table-append : (w : ℕ) (xs ys : List ℕ) → table w (xs ++ ys) ≡ table w xs ++ table w ys
+unfolding table
+table-append w [] ys = refl
+table-append w (x ∷ xs) ys = ap (λ (z : List ℕ). bytes w x ++ z) (table-append w xs ys) ∙ sym (append-assoc (bytes w x) (table w xs) (table w ys))
+
+pub backTable-append : (w : ℕ) (xs ys : List ℕ) → backTable w (xs ++ ys) ≡ backTable w ys ++ backTable w xs
+unfolding backTable
+backTable-append w [] ys = sym (append-nil (backTable w ys))
+backTable-append w (x ∷ xs) ys =
+    ap (λ (z : List ℕ). z ++ bytes w x) (backTable-append w xs ys) ∙ append-assoc (backTable w ys) (backTable w xs) (bytes w x)
+
+pub backTable-reverse : (w : ℕ) (es : List ℕ) → backTable w (reverse es) ≡ table w es
+unfolding backTable table
+backTable-reverse w [] = refl
+backTable-reverse w (e ∷ es) =
+    ap (λ (z : List ℕ). backTable w z) (reverse-cons e es) ∙ backTable-append w (reverse es) (e ∷ []) ∙ ap (λ (z : List ℕ). bytes w e ++ z) (backTable-reverse w es)
 
 pub length-ends : (k : ℕ) (cs : List Piece) → length (ends k cs) ≡ length cs
 unfolding ends

@@ -1,10 +1,12 @@
 -- Laws of numbers as bytes, once over the width and the byte order. Assumes nothing.
-use mathlib.Core.Path.{_≡_, refl, ap, _∙_}
-use mathlib.Core.List.{List, [], _∷_, _++_, reverse, reverse-reverse}
+use mathlib.Core.Path.{_≡_, refl, sym, ap}
+use mathlib.Core.List.{List, [], _∷_, reverse-reverse}
 use mathlib.Core.Bool.{Bool, true, false}
-use Prim.Native.Nat.{ℕ, zero, suc, _+_, _*_, _/_, _%_, _^_, _≤_, _<_}
+use Prim.Native.Nat.{ℕ, zero, suc, _+_, _*_, _/_, _%_, _^_, _<_}
 use native.Mathlib.Omega.{arith}
-use lib.ListN.{length, length-reverse, replicate}
+use lib.Dec.{ltb}
+use lib.ListN.{length, length-reverse}
+use borrow.Author.Tests.{lt-ltb}
 use Rattle.meaning.specs.Numbers.{bytes, value, ordered}
 use Rattle.meaning.specs.Padding.{zeros}
 
@@ -52,3 +54,6 @@ ordered-twice false l = refl
 pub length-ordered : (big : Bool) (l : List ℕ) → length (ordered big l) ≡ length l
 length-ordered true l = length-reverse l
 length-ordered false l = refl
+
+pub eight-fits : (x w : ℕ) → w ≡ 8 → x < 18446744073709551616 → true ≡ ltb x (256 ^ w)
+eight-fits x w e h = rw e (sym (lt-ltb x (256 ^ 8) h))

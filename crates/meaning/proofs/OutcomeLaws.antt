@@ -40,6 +40,10 @@ pad-done position a k p l h =
     let long : p ≤ length (zeros p ++ l) = simp (length-append, length-replicate) (omega arith) in
     rw (← h, le-ltb (length (zeros p ++ l)) p long, le-ltb (leadingZeros (zeros p ++ l)) p (leadingZeros-zeros p l))
 
+pub unpadded : (k : ℕ) (l : List ℕ) → paddingOf 0 k l ≡ done 0 []
+unfolding paddingOf
+unpadded k l = rw (le-ltb (length l) 0 (omega arith), le-ltb (leadingZeros l) 0 (omega arith))
+
 -- what is read behind padding
 pub behind-padding : (position a k p u v : ℕ) (l : List ℕ) (f : ℕ → Outcome) (es : List Event) → p ≡ padding (position + k) a → f p ≡ done v es → u ≡ p + v
     → chain (pad position a k (zeros p ++ l)) f ≡ done u es

@@ -70,6 +70,16 @@ pub padding-below : {a : ℕ} → Aligns a → (k : ℕ) → padding k a < a
 unfolding padding
 padding-below al k = by-alignment (λ a. padding k a < a) (omega arith) (omega arith) (omega arith) (omega arith) al
 
+pub padding-small : {a : ℕ} → Aligns a → (k : ℕ) → padding k a < 8
+unfolding padding
+padding-small al k = by-alignment (λ a. padding k a < 8) (omega arith) (omega arith) (omega arith) (omega arith) al
+
+-- the last alignment is 8
+pub eight-left : {w : ℕ} → Aligns w → (w ≡ 1 → ⊥) → (w ≡ 2 → ⊥) → (w ≡ 4 → ⊥) → w ≡ 8
+eight-left al =
+    by-alignment (λ w. (w ≡ 1 → ⊥) → (w ≡ 2 → ⊥) → (w ≡ 4 → ⊥) → w ≡ 8)
+    (λ a b c. absurd (a refl)) (λ a b c. absurd (b refl)) (λ a b c. absurd (c refl)) (λ a b c. refl) al
+
 -- what stands at a multiple of b stands at a multiple of a
 abbrev pub Divides : ℕ → ℕ → Type 0
 Divides a b = (k : ℕ) → k % b ≡ 0 → k % a ≡ 0

@@ -1,15 +1,14 @@
 -- Texts and padding read byte by byte. Assumes nothing.
-use mathlib.Core.Path.{_≡_, refl, sym, ap, _∙_}
+use mathlib.Core.Path.{_≡_, refl, sym, _∙_}
 use mathlib.Core.List.{List, [], _∷_}
-use mathlib.Core.Bool.{Bool, true, false, _&&_}
+use mathlib.Core.Bool.{Bool, true, false}
 use Prim.Native.Nat.{ℕ, zero, suc, _+_, _-_, _≤_, _<_}
 use native.Mathlib.Numerals.{add-one}
 use native.Mathlib.Omega.{arith}
-use lib.Dec.{leb, eqb}
+use lib.Dec.{leb}
 use lib.ListN.{length, take, drop, getD, drop-of-length-le}
 use lib.Seq.{drop-cons}
 use borrow.Author.Tests.{le-leb, lt-leb, leb-true, leb-false, eq-eqb, ne-eqb}
-use Rattle.meaning.specs.Choice.{pick}
 use Rattle.meaning.specs.Padding.{leadingZeros}
 use Rattle.meaning.specs.Texts.{withoutFinalNul, noNul, Wanted, wanted, letter, impossible, between, following, afterByte, utf8From, utf8, textRefusal}
 
@@ -62,7 +61,7 @@ module _ (l : List ℕ) (s : Wanted) (i : ℕ) (h : length l ≤ i) (p : noNul l
   text-broken e = rw (p, q, drop-of-length-le l h, ne-eqb (s .count) 0 e)
 
 -- what stands in a list does not go by what is said of places past its end
-getD-any : (l : List ℕ) (i a b : ℕ) → i < length l → getD l i a ≡ getD l i b
+pub getD-any : (l : List ℕ) (i a b : ℕ) → i < length l → getD l i a ≡ getD l i b
 getD-any l i a b h = cc (drop-cons l i a h, drop-cons l i b h)
 
 -- a final nul

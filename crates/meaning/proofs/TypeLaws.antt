@@ -1,11 +1,12 @@
 -- Laws of alignments and fixed sizes. Assumes nothing.
 use mathlib.Core.Path.{_≡_, refl}
-use mathlib.Core.Bool.{Bool, true, false, _&&_}
+use mathlib.Core.Bool.{true, false}
 use Prim.Native.Nat.{ℕ, _+_, _≤_, _<_}
 use native.Mathlib.Omega.{arith}
 use Rattle.meaning.specs.Types.{Number, byte, int16, uint16, int32, uint32, int64, uint64, double, Basic, bool, number, text, Tree, Fields, basic, variant, maybe, array, dictionary, structure, last, next, numberWidth, basicAlignment, alignment, largestAlignment, fixed, allFixed, rounded, fixedSize, fieldsEnd}
 use Rattle.meaning.specs.Padding.{Aligns}
 use Rattle.meaning.proofs.PaddingLaws.{by1, by2, by4, by8, by-alignment, aligns-max, aligns-positive}
+use Rattle.meaning.proofs.Tests.{both-true}
 
 pub aligns-most : {a : ℕ} → Aligns a → a ≤ 8
 aligns-most al = by-alignment (λ a. a ≤ 8) (omega arith) (omega arith) (omega arith) (omega arith) al
@@ -44,10 +45,6 @@ mutual
 pub number-positive : (n : Number) → 0 < numberWidth n
 number-positive n = aligns-positive (number-aligned n)
 
-and-left : (a b : Bool) → (a && b) ≡ true → a ≡ true
-and-left true b h = refl
-and-left false b h = h
-
 -- where fields end is not before the place from which they are laid out
 pub fieldsEnd-least : (place : ℕ) (ts : Fields) → place ≤ fieldsEnd place ts
 unfolding fieldsEnd
@@ -71,7 +68,7 @@ mutual
   pub fieldsEnd-positive : (place : ℕ) (ts : Fields) → allFixed ts ≡ true → place < fieldsEnd place ts
   fieldsEnd-positive place (last t) h = omega (arith, fixedSize-positive t h)
   fieldsEnd-positive place (next t ts) h =
-      omega (arith, fixedSize-positive t (and-left (fixed t) (allFixed ts) h), fieldsEnd-least (rounded place (alignment t) + fixedSize t) ts)
+      omega (arith, fixedSize-positive t (both-true (fixed t) (allFixed ts) h .0), fieldsEnd-least (rounded place (alignment t) + fixedSize t) ts)
 
 -- a type that is not fixed has size 0
 pub fixedSize-none : (t : Tree) → fixed t ≡ false → fixedSize t ≡ 0

@@ -24,7 +24,7 @@ use Rattle.meaning.specs.Written.{Piece, fits, stop, layout, eventsFrom, deeper
 use Rattle.meaning_writing.specs.Readings.{MaybeNumber, readingEvents, Spot, spells, mayStand, Slot, ofBool, ofNumber, slotOf, slotType, Readings, noReadings, inContainer, asReading, asValue, changedSlot, listMaybe, spotMaybe, changedMaybe, maybeReadings, spotTwo, changedTwo, twoReadings, listAll, spotAll, changedAll, allReadings, readingsOver, fieldReadings, variantReadings, readings, readingsOf, spotOf, changed}
 use Rattle.meaning.proofs.Tests.{both, both-left, both-right}
 use Rattle.meaning.proofs.FitLaws.{allFit, all-fit, held-fits, children-fit, variant-fits, fits-by-all, fits-by-held, fits-by-children, fits-by-variant}
-use Rattle.meaning.proofs.LayoutLaws.{placed, layout-cons, stop-placed}
+use Rattle.meaning.proofs.LayoutLaws.{placed, stop-placed, layout-first}
 use Rattle.meaning_writing.proofs.PieceLaws.{maybe-alignment, piece-alignment, deeper-limits, deeper-with, deeper-holds}
 
 -- ---- lists that begin alike
@@ -110,9 +110,6 @@ getD-left (z ∷ l) r (suc i) y h = getD-left l r i y (omega arith)
 
 getD-right : (l r : List MaybeNumber) (i : ℕ) (y : MaybeNumber) → length l ≤ i → getD (l ++ r) i y ≡ getD r (i - length l) y
 getD-right l r i y h = let e : length l + (i - length l) ≡ i = omega arith in ap (λ (n : ℕ). getD (l ++ r) n y) (sym e) ∙ getD-append-add l r (i - length l) y
-
-layout-first : (k : ℕ) (c : Piece) (cs : List Piece) → layout k (c ∷ cs) ≡ placed k c ++ layout (stop k c) cs
-layout-first k c cs = layout-cons k c cs ∙ sym (append-assoc (zeros (padding k (c .alignment))) (c .bytes) (layout (stop k c) cs))
 
 -- in the first child, or in one of the others
 module _ {s : Spot} {i : ℕ} {x : MaybeNumber} {q k : ℕ} (d : Depths) (c : Piece) (cs : List Piece) where

@@ -18,7 +18,7 @@ use Rattle.meaning.specs.Written.{Piece, stop, layout, ends, fieldEnds, unless,
 use Rattle.meaning_writing.specs.Shapes.{shapeOf, basicShape}
 use Rattle.meaning_writing.specs.Readings.{MaybeNumber, slotOf}
 use Rattle.meaning_writing.specs.Edited.{Editor, still, maybeEditor, arrayEditor, structureEditor, variantEditor, Child, childCount, childSpot, childEdited, countIn, spotIn, piecesOf, editedIn, editorOver, editorsOver, editorOf}
-use Rattle.meaning.proofs.LayoutLaws.{placed, layout-cons, stop-placed, length-table, length-backTable, length-ends}
+use Rattle.meaning.proofs.LayoutLaws.{placed, layout-cons, stop-placed, length-table, length-backTable, length-ends, layout-first}
 use Rattle.meaning_writing.proofs.PieceLaws.{fieldEnds-more}
 
 -- ---- the clauses
@@ -76,10 +76,7 @@ endOf-cons k c cs =
     let d = stop-placed k c in
     omega arith
 
-layout-first : (k : ℕ) (c : Piece) (cs : List Piece) → layout k (c ∷ cs) ≡ placed k c ++ layout (stop k c) cs
-layout-first k c cs = layout-cons k c cs ∙ sym (append-assoc (zeros (padding k (c .alignment))) (c .bytes) (layout (stop k c) cs))
-
-endOf-none : (k : ℕ) → endOf k [] ≡ k
+pub endOf-none : (k : ℕ) → endOf k [] ≡ k
 unfolding layout
 endOf-none k = omega arith
 

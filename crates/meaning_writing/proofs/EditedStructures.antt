@@ -17,8 +17,8 @@ use Rattle.meaning_writing.specs.Edited.{Editor, fieldsFrom, fieldsOf, e
 use Rattle.meaning.proofs.Tests.{both-left, both-right, impossible, both-true}
 use Rattle.meaning.proofs.FitLaws.{allFit, all-fit, children-fit}
 use Rattle.meaning.proofs.OffsetLaws.{Chosen, writtenWidth-chosen}
-use Rattle.meaning.proofs.LayoutLaws.{placed, length-layout, length-backTable, stop-placed, length-placed}
-use Rattle.meaning_writing.proofs.PieceLaws.{deeper-holds, chosen-width, chosen-below, stop-is, layout-none, split}
+use Rattle.meaning.proofs.LayoutLaws.{placed, length-layout, length-backTable, stop-placed, length-placed, layout-none}
+use Rattle.meaning_writing.proofs.PieceLaws.{deeper-holds, chosen-width, chosen-below, stop-is, split}
 use Rattle.meaning_writing.proofs.ShapeLaws.{ShapedRow, and-one, last-shaped, ends-two, next-shaped, structure-shaped, loose-shaped}
 use Rattle.meaning_writing.proofs.StrictStructures.{BackTableAt, back-rest, back-value, back-eq, field-end-is}
 use Rattle.meaning_writing.proofs.EditedLaws.{structure-likes, Does, Together, one-together, two-together, part-child, still-finds, container-finds}

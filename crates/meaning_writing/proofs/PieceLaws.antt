@@ -89,10 +89,6 @@ pub stop-is : (k : ℕ) (c : Piece) → stop k c ≡ k + padding k (c .alignment
 unfolding stop
 stop-is k c = refl
 
-pub layout-none : (k : ℕ) → layout k [] ≡ []
-unfolding layout
-layout-none k = refl
-
 -- a layout in its place, taken apart behind its first child: what stands in front of the rest, and what is left
 pub record Split (x y l : List ℕ) (k : ℕ) (c : Piece) (cs : List Piece) : Type 0 where
   pub first : l ≡ x ++ (placed k c ++ (layout (stop k c) cs ++ y))

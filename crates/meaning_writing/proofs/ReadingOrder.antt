@@ -18,8 +18,8 @@ use Rattle.meaning.specs.TypeText.{typeText}
 use Rattle.meaning.specs.Values.{BasicValue, ValueOver, Value}
 use Rattle.meaning.specs.Written.{Piece, stop, layout, basicPiece, maybePiece, arrayPiece, structurePiece, entryPiece, variantPiece, pieceOver, piecesOver, piece}
 use Rattle.meaning_writing.specs.Readings.{Spot, Slot, slotOf, Readings, noReadings, inContainer, listMaybe, spotMaybe, maybeReadings, spotTwo, twoReadings, listAll, spotAll, allReadings, readingsOver, fieldReadings, variantReadings, readings, readingsOf, spotOf}
-use Rattle.meaning.proofs.LayoutLaws.{length-layout}
-use Rattle.meaning_writing.proofs.PieceLaws.{maybe-alignment, piece-alignment, stop-is, layout-none}
+use Rattle.meaning.proofs.LayoutLaws.{length-layout, layout-none}
+use Rattle.meaning_writing.proofs.PieceLaws.{maybe-alignment, piece-alignment, stop-is}
 use Rattle.meaning_writing.proofs.ChangedLaws.{Begins, array-begins, structure-begins, padding-zero, variant-alignment}
 
 -- n spots, none before the place `least` and none behind the place `most`, each no further behind than the next

@@ -11,8 +11,8 @@ use Rattle.meaning.specs.Types.{Basic}
 use Rattle.meaning.specs.Written.{Piece, stop, layout, fieldEnds, unless, basicPiece, structureBytes}
 use Rattle.meaning_writing.specs.Shapes.{Shape, shapeOf, basicShape, allShapesFixed, oneMore, offsetCount, sizesFrom}
 use Rattle.meaning.proofs.Tests.{impossible, both-true}
-use Rattle.meaning.proofs.LayoutLaws.{length-layout, fieldEnds-one}
-use Rattle.meaning_writing.proofs.PieceLaws.{basic-alignment, basic-fixed, basic-size, stop-is, layout-none, fieldEnds-more}
+use Rattle.meaning.proofs.LayoutLaws.{length-layout, fieldEnds-one, layout-none}
+use Rattle.meaning_writing.proofs.PieceLaws.{basic-alignment, basic-fixed, basic-size, stop-is, fieldEnds-more}
 
 -- what is written as p says has this shape
 pub record Shaped {A : Type 0} (s : Shape) (p : A → Piece) : Type 0 where

@@ -26,9 +26,9 @@ use Rattle.meaning.proofs.NumberLaws.{Bytes, none as no-bytes, more, bytes-valu
 use Rattle.meaning.proofs.PaddingLaws.{padding-none}
 use Rattle.meaning.proofs.TypeLaws.{number-positive, basic-aligned}
 use Rattle.meaning.proofs.OffsetLaws.{Chosen, writtenWidth-chosen}
-use Rattle.meaning.proofs.LayoutLaws.{layout-cons, length-layout, length-table, length-ends, lastOffset-table, stop-placed}
+use Rattle.meaning.proofs.LayoutLaws.{layout-cons, length-layout, length-table, length-ends, lastOffset-table, stop-placed, layout-none}
 use Rattle.meaning_writing.proofs.Parts.{part-whole, part-none, part-split, length-part, part-mid, zeros-all, all-zeros, take-bytes, part-bytes, offset-form, but-last, last-zero, last-off}
-use Rattle.meaning_writing.proofs.PieceLaws.{maybe-alignment, maybe-fixed, deeper-true, deeper-opens, deeper-accepts, chosen-width, chosen-below, stop-is, layout-none, split}
+use Rattle.meaning_writing.proofs.PieceLaws.{maybe-alignment, maybe-fixed, deeper-true, deeper-opens, deeper-accepts, chosen-width, chosen-below, stop-is, split}
 use Rattle.meaning_writing.proofs.ShapeLaws.{Shaped, basic-shaped, loose-shaped}
 
 -- l is the written form of a value that may be read where d is open

@@ -21,9 +21,9 @@ use Rattle.meaning.proofs.FitLaws.{allFit, all-fit, children-fit, fits-by-all, 
 use Rattle.meaning.proofs.NumberLaws.{Bytes, length-bytes, value-bytes}
 use Rattle.meaning.proofs.PaddingLaws.{padding-aligned}
 use Rattle.meaning.proofs.OffsetLaws.{Chosen, writtenWidth-chosen}
-use Rattle.meaning.proofs.LayoutLaws.{length-layout, length-backTable, fieldEnds-one, stop-placed}
+use Rattle.meaning.proofs.LayoutLaws.{length-layout, length-backTable, fieldEnds-one, stop-placed, layout-none}
 use Rattle.meaning_writing.proofs.Parts.{part-whole, part-none, part-split, length-part, part-mid, part-end, zeros-all, all-zeros, part-bytes, offset-form}
-use Rattle.meaning_writing.proofs.PieceLaws.{deeper-true, deeper-opens, deeper-accepts, chosen-width, chosen-below, stop-is, layout-none, split}
+use Rattle.meaning_writing.proofs.PieceLaws.{deeper-true, deeper-opens, deeper-accepts, chosen-width, chosen-below, stop-is, split}
 use Rattle.meaning_writing.proofs.ShapeLaws.{ShapedRow, and-one, last-shaped, ends-two, next-shaped, structure-shaped}
 use Rattle.meaning_writing.proofs.StrictLaws.{Judges, child-sound, child-complete, child-laid, stop-there}
 
@@ -169,12 +169,6 @@ back-value l w e o es t h =
     (length-append (r .front) (backTable w es) ∙ (let m = length-backTable w es in omega arith)) (rw length-bytes (omega arith)) in
     rw c (value-bytes w o h)
 
-and-left : (a b : Bool) → (a && b) ≡ true → a ≡ true
-and-left a b h = both-true a b h .0
-
-and-right : (a b : Bool) → (a && b) ≡ true → b ≡ true
-and-right a b h = both-true a b h .1
-
 pub back-eq : (l : List ℕ) (w e : ℕ) (es es′ : List ℕ) → es ≡ es′ → BackTableAt l w e es → BackTableAt l w e es′
 back-eq l w e es es′ h t = subst (λ (z : List ℕ). BackTableAt l w e z) h t
 
@@ -229,19 +223,19 @@ module _ {A B : Type 0} (t : Test) (p : A → Piece) (g : Judges t p) (u : Test)
       rw i
       (and-true (childWritten t d l b k (stop k c)) (fieldsWritten all a d l b w (u ∷ ts) (stop k c) (offsetsLeft (t .shape .fixed) w e))
       (child-complete t d l b k (stop k c) c x (layout (stop k c) cs ++ y) (g .shaped .alignment-is (v .0)) (o .first) hx refl (omega arith) (g .complete d (v .0) (both-left (fits c d) (allFit cs d) f) (omega (arith, stop-is k c))))
-      (r .complete all a d l b w (v .1) (stop k c) (offsetsLeft (t .shape .fixed) w e) s (x ++ (zeros (padding k (c .alignment)) ++ c .bytes)) y (λ z. and-right (t .shape .fixed) (allShapesFixed (testShapes (u ∷ ts))) (hf z)) hb big hw
+      (r .complete all a d l b w (v .1) (stop k c) (offsetsLeft (t .shape .fixed) w e) s (x ++ (zeros (padding k (c .alignment)) ++ c .bytes)) y (λ z. both-true (t .shape .fixed) (allShapesFixed (testShapes (u ∷ ts))) (hf z) .1) hb big hw
       (both-right (fits c d) (allFit cs d) f) (o .rest) (length-append x (zeros (padding k (c .alignment)) ++ c .bytes) ∙ omega arith) (omega arith) le finished
       (back-rest (t .shape .fixed) l w e (stop k c) (fieldEnds (stop k c) cs) bk′)))
     where
       small : (all fx : Bool) (w b : ℕ) → fx ≡ false → (all ≡ true → (fx && allShapesFixed (testShapes (u ∷ ts))) ≡ true) → (all ≡ false → b < 256 ^ w) → {n : ℕ} → n ≤ b → n < 256 ^ w
-      small true fx w b z hf hw le = impossible (sym z ∙ and-left fx (allShapesFixed (testShapes (u ∷ ts))) (hf refl))
+      small true fx w b z hf hw le = impossible (sym z ∙ both-true fx (allShapesFixed (testShapes (u ∷ ts))) (hf refl) .0)
       small false fx w b z hf hw le = omega (arith, hw refl)
 
   pub next-judged : JudgesRow (t ∷ u ∷ ts) both-p
   unfolding offsetCount sizesFrom
   next-judged = record {
     shaped = next-shaped (t .shape) p (g .shaped) (u .shape) (testShapes ts) q (r .shaped);
-    solid = λ h k. omega (arith, r .solid (and-right (t .shape .fixed) (allShapesFixed (testShapes (u ∷ ts))) h) (k + padding k (t .shape .alignment) + t .shape .size));
+    solid = λ h k. omega (arith, r .solid (both-true (t .shape .fixed) (allShapesFixed (testShapes (u ∷ ts))) h .1) (k + padding k (t .shape .alignment) + t .shape .size));
     sound = two-sound;
     complete = two-complete;
   }

@@ -12,7 +12,7 @@ use types.Run.{OneOf, miss}
 use denote.Enum.Declared.{tagOf}
 use lib.Dec.{leb, ltb, eqb}
 use lib.ListN.{length, take, drop, getD, length-take, length-drop}
-use lib.Seq.{take-nil, take-take, drop-drop, drop-cons}
+use lib.Seq.{take-nil, take-take, drop-drop}
 use borrow.Author.Tests.{eq-eqb, ne-eqb, lt-ltb, le-ltb, le-leb, lt-leb, leb-true, leb-false, eqb-true, eqb-false}
 use Rattle.meaning.specs.Choice.{pick}
 use Rattle.meaning.specs.Padding.{padding, leadingZeros, Aligns}
@@ -23,7 +23,7 @@ use Rattle.meaning.specs.Depths.{Depths}
 use Rattle.meaning.specs.Events.{event, textEvent}
 use Rattle.meaning.specs.Outcome.{Outcome, done, refused, chain, unused, closingAt}
 use Rattle.meaning.specs.Reading.{child, paddingOf, pad, readBool, numberIn, readNumber, textAs, readText, padded, endPadding, offsetStands, fieldOffset, lastNul}
-use Rattle.meaning.proofs.PaddingLaws.{by-alignment}
+use Rattle.meaning.proofs.TextSteps.{getD-any}
 use Rattle.utils.specs.Checks as leaf
 use Rattle.utils.specs.Checks.{paddingFor}
 use Rattle.de.proofs.PaddingAnswers.{paddingIn}
@@ -177,11 +177,6 @@ module _ (d : Depths) (k n : ℕ) (l out : List ℕ) (r : leafs.Checked) (e : r 
 -- ---- numbers
 
 -- the last width is 8
-pub eight-left : {w : ℕ} → Aligns w → (w ≡ 1 → ⊥) → (w ≡ 2 → ⊥) → (w ≡ 4 → ⊥) → w ≡ 8
-eight-left al a b c =
-    by-alignment (λ w. (w ≡ 1 → ⊥) → (w ≡ 2 → ⊥) → (w ≡ 4 → ⊥) → w ≡ 8)
-    (λ a b c. absurd (a refl)) (λ a b c. absurd (b refl)) (λ a b c. absurd (c refl)) (λ a b c. refl) al a b c
-
 module _ (position : ℕ) (big : Bool) (kind w : ℕ) (d : Depths) (k n : ℕ) (l out : List ℕ) (r : leafs.Checked) (p : Pads (pad position w k l) (length l) r) where
   pub number-unpadded : (r .refusal ≡ 0 → ⊥) → Done (readNumber position big kind w d k l) (length l) (length l) n out out (answer (r .refusal) 0 n)
   unfolding readNumber chain unused
@@ -294,9 +289,6 @@ module _ (n w e : ℕ) (l : List ℕ) where
             rw (ne-eqb (e - n) 0 (λ o. z (omega arith)), lt-leb w (e - n) (omega arith))
 
 -- ---- a variant's separator
-
-getD-any : (l : List ℕ) (i a b : ℕ) → i < length l → getD l i a ≡ getD l i b
-getD-any l i a b h = cc (drop-cons l i a h, drop-cons l i b h)
 
 pub last-nul-none : (i : ℕ) (l : List ℕ) → i ≡ 0 → lastNul i l ≡ 0
 unfolding lastNul

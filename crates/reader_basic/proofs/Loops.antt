@@ -11,7 +11,7 @@ use lib.ListN.{length, take, drop, getD, length-drop, drop-of-length-le}
 use lib.Seq.{drop-cons, take-all}
 use borrow.Author.Tests.{leb-true, le-leb, lt-leb}
 use Rattle.meaning.specs.Choice.{pick}
-use Rattle.meaning.specs.Offsets.{Table, noneAbove, entries, tableFrom, tableOf, endsOf, tableStands}
+use Rattle.meaning.specs.Offsets.{Table, noneAbove, tableFrom, tableOf, endsOf, tableStands}
 use Rattle.meaning.specs.Outcome.{Outcome, done, chain, passing}
 use Rattle.meaning.specs.Reading.{further, elements, elementsTo}
 use Rattle.meaning.proofs.OffsetLaws.{encodedWidth-positive}
@@ -175,15 +175,6 @@ stands-by l e t y = go (tableStands (tableOf l) l) refl
     go : (b : Bool) → tableStands (tableOf l) l ≡ b → Stands (tableIn (e .offsets)) l
     go true q = rw (t .table ∙ ap (λ (x : Bool). pick x (tableOf l) emptyTable) q) (standing l q)
     go false q = let w : e .refusal ≡ 3 = t .refusal ∙ ap (λ (x : Bool). pick x 0 3) q in absurd (omega arith)
-
-length-entries : (n w : ℕ) (l : List ℕ) → length (entries n w l) ≡ n
-unfolding entries
-length-entries zero w l = refl
-length-entries (suc n) w l = ap suc (length-entries n w (drop w l))
-
-pub length-ends : (t : Table) (l : List ℕ) → length (endsOf t l) ≡ t .count
-unfolding endsOf
-length-ends t l = length-entries (t .count) (t .width) (drop (t .start) l)
 
 none-above : (n : ℕ) (es : List ℕ) → noneAbove n es ≡ true → (i : ℕ) → getD es i 0 ≤ n
 unfolding noneAbove

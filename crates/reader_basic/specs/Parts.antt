@@ -11,7 +11,6 @@ use Rattle.meaning.specs.Outcome.{Outcome, chain, passing}
 use Rattle.meaning.specs.Reading.{Reader, readBool, readNumber, readText, readMaybe, elementsTo, offsetStands, fieldOffset}
 use Rattle.meaning.specs.Padding.{Aligns}
 use Rattle.meaning.specs.Limits.{largestFrame}
-use Rattle.meaning.specs.Letters.{arrayLetter, dictionaryLetter}
 use Rattle.meaning.specs.Refusals.{outOfBounds}
 use Rattle.utils.specs.Checks.{passed, failed}
 use Rattle.utils.specs.declared.Checked.{Checked}
@@ -20,7 +19,6 @@ use Rattle.container_depths.specs.declared.ContainerDepths.{ContainerDepths}
 use Rattle.framing_offsets.specs.Tables.{tableIn}
 use Rattle.framing_offsets.specs.declared.OffsetTable.{OffsetTable}
 use Rattle.signature.specs.declared.Letter.{Letter}
-use Rattle.signature.specs.declared.items.Item.{Item}
 use Rattle.reader_basic.specs.declared.Context.{Context}
 use Rattle.signature.specs.declared.Letter.the-variants.{End, Bad, Boolean, Number, Text, Variant, Maybe, Array, OpenStructure, CloseStructure, OpenEntry, CloseEntry}
 
@@ -89,7 +87,3 @@ elementsBy step t l lead = chain (elementsTo step lead (endsOf (tableIn t) (drop
 -- the offset before an end of a structure's table
 unfoldable pub offsetAnswer : ℕ → ℕ → ℕ → List ℕ → Checked
 offsetAnswer n w e l = pick (offsetStands n w e) (passed (fieldOffset n w e l)) (failed outOfBounds)
-
--- the kind of an array's first event, or of a dictionary's
-abbrev pub itemKind : Item → ℕ
-itemKind i = pick (i .entry) dictionaryLetter arrayLetter

@@ -1,7 +1,6 @@
 // Reading what holds nothing further: bools, numbers, texts, keys; and the small parts of containers.
 use crate::Answer;
 use crate::Context;
-use crate::behind;
 use crate::done;
 use crate::refused;
 use byte_order::byte_at;
@@ -13,30 +12,25 @@ use de::read_bool;
 use events::emit;
 use framing_offset_size::FramingOffsetSize;
 use framing_offsets::table::last_in;
-use meaning::letters::ARRAY_LETTER;
 use meaning::letters::BOOL_LETTER;
 use meaning::letters::CONTAINER_END;
-use meaning::letters::DICTIONARY_LETTER;
 use meaning::refusals::OUT_OF_BOUNDS;
-use signature::Letter;
-use signature::items::Item;
 use texts::text;
 use texts::text_refusal;
 use utils::Checked;
 ghost use mathlib.Core.Path.{_≡_};
-ghost use mathlib.Core.Bool.{true};
 ghost use Prim.Native.Nat.{ℕ, _+_, _-_, _≤_, _<_};
 ghost use mathlib.Core.List.{List};
 ghost use lib.ListN.{length};
 ghost use Rattle.meaning.specs.Depths.{Depths};
 ghost use Rattle.meaning.specs.Outcome.{Outcome, chain, closingAt};
-ghost use Rattle.meaning.specs.Reading.{child, readBool, readText, endPadding, separator as separatorOf};
+ghost use Rattle.meaning.specs.Reading.{readBool, readText, separator as separatorOf};
 ghost use Rattle.meaning.specs.Padding.{Aligns};
 ghost use Rattle.meaning.specs.Limits.{largestFrame};
 ghost use Rattle.byte_order.specs.Standing.{numberAt};
 ghost use Rattle.framing_offset_size.specs.Widths.{widthOf};
-ghost use Rattle.reader_basic.specs.Answers.{Done, Whole, Between};
-ghost use Rattle.reader_basic.specs.Parts.{Inside, numberBy, keyReader, KeyAligned, offsetAnswer, itemKind};
+ghost use Rattle.reader_basic.specs.Answers.{Done, Whole};
+ghost use Rattle.reader_basic.specs.Parts.{Inside, numberBy, offsetAnswer};
 
 pub fn wide(code: u8) -> u64
     ensures { λ r. ⌜ r ≡ code ⌝ }
@@ -121,69 +115,6 @@ pub fn text_value(part: &[u8], place: usize, code: u8, out: &mut [u64], n: usize
     done(part.len(), count)
 }
 
-// A dictionary's key, by its letter.
-pub fn key_value(
-    key: Letter,
-    part: &[u8],
-    place: usize,
-    context: Context,
-    out: &mut [u64],
-    n: usize,
-) -> Answer
-    requires { ⌜ Inside (length (now part)) place context × KeyAligned key ⌝ }
-    ensures { λ r. ⌜ ((d : Depths) → Whole (keyReader (context .position) (context .big) key d place (now (part .entry))) (now (part .entry)) n (now (out .entry)) (now (out .exit)) r) ⌝ }
-{
-    match key {
-        Letter::Number { code, width } => number(part, place, context, code, width, out, n),
-        Letter::Text { code } => text_value(part, place, code, out, n),
-        _ => boolean(part, place, out, n),
-    }
-}
-
-// A key from j to e of a dictionary's part.
-pub fn child_key(
-    key: Letter,
-    part: &[u8],
-    j: usize,
-    e: usize,
-    place: usize,
-    context: Context,
-    out: &mut [u64],
-    n: usize,
-) -> Answer
-    requires { ⌜ Inside (length (now part)) place context × (j ≤ length (now part)) × KeyAligned key ⌝ }
-    ensures { λ r. ⌜ ((d : Depths) → Between (child (keyReader (context .position) (context .big) key d) place (now (part .entry)) j e) (now (part .entry)) j e n (now (out .entry)) (now (out .exit)) r) ⌝ }
-{
-    if e < j {
-        return refused(OUT_OF_BOUNDS, 0, n);
-    }
-    if part.len() < e {
-        return refused(OUT_OF_BOUNDS, 0, n);
-    }
-    key_value(key, &part[j..e], place + j, context, out, n)
-}
-
-// The padding at the end of what is fixed, judged from where it stands, whatever came of its last child.
-pub fn end_padding(
-    part: &[u8],
-    j: usize,
-    place: usize,
-    position: usize,
-    alignment: usize,
-    r: Answer,
-) -> Answer
-    requires { ⌜ (place + length (now part) ≤ largestFrame) × (position ≤ largestFrame) × (j + r .used ≤ length (now part)) × Aligns alignment ⌝ }
-    ensures { λ s. ⌜ ((o : Outcome) (end len n : ℕ) (l l′ : List ℕ) → len ≡ length (now (part .entry)) - j → Done o end len n l l′ r → Done (endPadding position true alignment place (now (part .entry)) j o) len len n l l′ s) ⌝ }
-{
-    let at = j + r.used;
-    let padding = parse_padding(position + place, at, alignment, part);
-    let refusal = padding.refusal;
-    if refusal != 0 {
-        return refused(refusal, r.used, r.count);
-    }
-    behind(padding.value, r)
-}
-
 // The offset before an end of a structure's table, over a part whose structure begins at lead.
 pub fn offset_before(part: &[u8], lead: usize, size: FramingOffsetSize, end: usize) -> Checked
     requires { ⌜ end ≤ length (now part) ⌝ }
@@ -214,16 +145,4 @@ pub fn separator(part: &[u8]) -> usize
         i = i - 1;
     }
     0
-}
-
-// The kind of an array's first event, or of a dictionary's.
-pub fn item_kind(item: Item) -> u64
-    ensures { λ r. ⌜ r ≡ itemKind item ⌝ }
-{
-    let entry = item.entry;
-    if entry {
-        DICTIONARY_LETTER
-    } else {
-        ARRAY_LETTER
-    }
 }

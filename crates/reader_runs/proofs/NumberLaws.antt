@@ -17,6 +17,7 @@ use Rattle.meaning.specs.Events.{event, present, nothing}
 use Rattle.meaning.specs.Outcome.{Outcome, done, refused, after, chain, unused}
 use Rattle.meaning.specs.Reading.{child, childStep, within, paddingOf, pad, numberIn, readNumber, presentIn, maybeIn, readMaybe, elements}
 use Rattle.meaning.proofs.PaddingLaws.{by-alignment, aligns-positive, padding-aligned, padding-none}
+use Rattle.meaning.proofs.OutcomeLaws.{unpadded}
 use Rattle.utils.specs.declared.Checked as leafs
 use Rattle.byte_order.specs.Standing.{numberAt}
 use Rattle.events.specs.Slices.{nextEvent, put, putAll, advance}
@@ -130,10 +131,6 @@ padded-by n k l = go (ltb (length l) n) (ltb (leadingZeros l) n)
     go true y h = absurd (omega arith)
     go false true h = absurd (omega arith)
     go false false h = refl
-
-unpadded : (k : ℕ) (l : List ℕ) → paddingOf 0 k l ≡ done 0 []
-unfolding paddingOf
-unpadded k l = rw (le-ltb (length l) 0 (omega arith), le-ltb (leadingZeros l) 0 (omega arith))
 
 -- a number of the array whose bytes are drop j l, where no padding is due: it stands there, or is cut
 module _ (position : ℕ) (big : Bool) (kind w : ℕ) (d : Depths) (k : ℕ) (l : List ℕ) where

@@ -6,6 +6,7 @@ use native.Mathlib.Omega.{arith}
 use lib.ListN.{length, take, drop, getD, length-drop}
 use Rattle.meaning.specs.Offsets.{endsOf}
 use Rattle.meaning.specs.Outcome.{Outcome}
+use Rattle.meaning.proofs.Bounds.{length-ends}
 use Rattle.utils.specs.declared.Checked as leafs
 use Rattle.framing_offsets.specs.Tables.{tableIn, offsetIn}
 use Rattle.framing_offsets.specs.declared.OffsetTable.{OffsetTable}
@@ -13,7 +14,7 @@ use Rattle.reader_basic.specs.Answers.{From, Between}
 use Rattle.reader_basic.specs.Parts.{Tabled, elementsBy}
 use Rattle.reader_basic.specs.declared.Answer.{Answer}
 use Rattle.reader_basic.proofs.Answers.{answer}
-use Rattle.reader_basic.proofs.Loops.{tail, ends-below, next-end, length-ends, FramedLeft, framed-begin, framed-end, framed-stop, framed-next}
+use Rattle.reader_basic.proofs.Loops.{tail, ends-below, next-end, FramedLeft, framed-begin, framed-end, framed-stop, framed-next}
 
 pub body-ends : {t : OffsetTable} {part : List ℕ} {lead : ℕ} → Tabled t part lead → lead + t .start ≤ length part
 body-ends {part = part} {lead = lead} k = let b = k .begins in omega (arith, k .stands .start, length-drop lead part)

@@ -23,7 +23,6 @@ use Rattle.utils.specs.declared.Checked.{Checked}
 use Rattle.framing_offsets.proofs.HeldLaws.{offset-through}
 use Rattle.framing_offsets.specs.declared.EncodedArray.{EncodedArray}
 use Rattle.events.specs.Slices.{nextEvent, put}
-use Rattle.reader_basic.specs.Parts.{itemKind}
 use Rattle.reader_basic.specs.Answers.{Done, From}
 use Rattle.signature.specs.Trees.{treeAt}
 use Rattle.reader_steps.specs.Openings.{Deeper, Opens}
@@ -32,6 +31,7 @@ use Rattle.reader_steps.specs.Places.{insideOf, itemStep, elementsOf, fr
 use Rattle.reader_basic.specs.declared.Answer.{Answer}
 use Rattle.reader_basic.specs.declared.Context.{Context}
 use Rattle.signature.specs.declared.items.Item.{Item}
+use Rattle.signature.specs.Items.{itemKind}
 use Rattle.reader_basic.proofs.Answers.{answer, refusing, after-event}
 use Rattle.reader_steps.proofs.Deepening.{too-deep, within-open, same-inside}
 

@@ -20,18 +20,17 @@ use Rattle.meaning.specs.Reading.{Reader, child, readBool}
 use Rattle.meaning.proofs.TypeLaws.{number-positive}
 use Rattle.meaning.proofs.TypeTextLaws.{basic-of, firstType-none}
 use Rattle.signature.specs.Places.{basicKind, letterBy, letterOf, letterAt, fieldAt}
-use Rattle.signature.specs.Steps.{keyAlignment, keyFixed}
+use Rattle.signature.specs.Steps.{keyAlignment, keyFixed, widthBy, isText}
 use Rattle.signature.specs.Trees.{treeAt, behindBy, Typed, Rowed}
 use Rattle.signature.specs.declared.Letter.{Letter}
 use Rattle.signature.specs.declared.Letter.the-variants.{Bad, Number, Text, Variant, Maybe, Array, OpenStructure, CloseStructure, OpenEntry, CloseEntry}
-use Rattle.signature.proofs.Letters.{letter-some, mark, cut}
+use Rattle.signature.proofs.Letters.{letter-some, mark, cut, key-zero}
 use Rattle.signature.proofs.Dispatch.{Shown, shown, is-last, is-next}
 use Rattle.signature.proofs.TreeLaws.{typed-by}
 use Rattle.reader_basic.specs.Answers.{Done, Whole, Between}
 use Rattle.reader_basic.specs.Parts.{keyReader}
 use Rattle.reader_basic.specs.declared.Answer.{Answer}
 use Rattle.reader_basic.proofs.Leaves.{child-there}
-use Rattle.reader_steps.specs.Codes.{widthBy, isText}
 use Rattle.reader_steps.specs.Places.{Contains, readerOf}
 use Rattle.reader_steps.proofs.Readers.{reading-basic, width-by}
 use Rattle.reader_steps.proofs.ItemLaws.{key-reader}
@@ -216,11 +215,6 @@ module _ (l : List ℕ) (at : ℕ) (h : at < length l) where
   unfolding letterBy basicAmong
   code-entry e = letter-some l at h ∙ ap letterOf e
 
-basic-positive : (b : Basic) → keyAlignment (basicKind b) ≡ 0 → ⊥
-basic-positive bool h = omega arith
-basic-positive (number n) h = omega (arith, number-positive n)
-basic-positive (text x) h = omega arith
-
 abbrev OneOfFour : ℕ → Type 0
 OneOfFour c = (c ≡ 40) ⊎ ((c ≡ 97) ⊎ ((c ≡ 109) ⊎ (c ≡ 118)))
 
@@ -236,7 +230,7 @@ module _ {l : List ℕ} {at : ℕ} (t : Typed l at) where
       none-aligned (inr (inr (inr e))) = ap keyAlignment (code-variant l at (typed-within t) e)
 
       go : (s : Tree) → Shown l at s (behindBy (firstType (drop at l))) → Contains s
-      go (basic b) w = absurd (basic-positive b (ap keyAlignment (sym (w .letter)) ∙ none-aligned h))
+      go (basic b) w = absurd (key-zero b (ap keyAlignment (sym (w .letter)) ∙ none-aligned h))
       go variant w = tt
       go (maybe s) w = tt
       go (array s) w = tt

@@ -1,12 +1,11 @@
 -- A law for each way out of the readers of a dictionary's entry: its conclusion has the form of the need, and its premises are what the
 -- code knows there. Assumes nothing.
-use Rattle.framing_offset_size.proofs.WidthLaws.{lastOffsetIn-is}
+use Rattle.framing_offset_size.proofs.WidthLaws.{lastOffsetIn-is, last-none}
 use mathlib.Core.Path.{_≡_, refl, ap, sym, _∙_}
-use mathlib.Core.List.{List, [], _∷_}
+use mathlib.Core.List.{List, []}
 use mathlib.Core.Bool.{Bool, true, false}
-use Prim.Native.Nat.{ℕ, zero, suc, _+_, _-_, _≤_, _<_}
+use Prim.Native.Nat.{ℕ, _+_, _-_, _≤_, _<_}
 use native.Mathlib.Omega.{arith}
-use native.Mathlib.Nat.{add-assoc}
 use lib.Dec.{leb, eqb}
 use lib.ListN.{length, take, drop, length-take, length-drop}
 use borrow.Author.Tests.{eq-eqb, ne-eqb, le-leb, lt-leb, leb-true, leb-false, eqb-true, eqb-false}
@@ -25,13 +24,13 @@ use Rattle.reader_basic.specs.Answers.{Done, Between}
 use Rattle.reader_steps.specs.Children.{keyEnd, keyEnds, endsAt, endsMissing}
 use Rattle.reader_steps.specs.declared.ends.Ends.{Ends}
 use Rattle.signature.specs.Trees.{treeAt}
-use Rattle.reader_steps.specs.Places.{readerOf, itemStep, valueAt, valueIn, stepIn, fixedKeyIn, textKeyIn, Repeated}
+use Rattle.reader_steps.specs.Places.{valueAt, valueIn, stepIn, fixedKeyIn, textKeyIn, Repeated}
 use Rattle.reader_basic.specs.Parts.{keyReader, Inside}
 use Rattle.reader_basic.specs.declared.Answer.{Answer}
 use Rattle.reader_basic.specs.declared.Context.{Context}
 use Rattle.container_depths.specs.Opening.{depthsOf}
 use Rattle.signature.specs.declared.items.Item.{Item}
-use Rattle.reader_basic.proofs.Answers.{answer, refusing, after-bytes, both, stopped, ended, ended-refused}
+use Rattle.reader_basic.proofs.Answers.{answer, refusing, after-bytes, both, stopped, ended-refused}
 use Rattle.reader_basic.proofs.Leaves.{Pads, pads-at}
 
 -- ---- children
@@ -96,12 +95,6 @@ module _ (position a : ℕ) (fx : Bool) (key value : Reader) (d : Depths) (place
 
 -- ---- a text, the value, and the key's offset
 
-no-byte : (w : ℕ) (l : List ℕ) → length l ≡ 0 → lastOffset w l ≡ 0
-unfolding value
-no-byte zero [] h = refl
-no-byte (suc w) [] h = let z : 0 - suc w ≡ 0 = omega arith in rw z
-no-byte w (x ∷ l) h = absurd (omega arith)
-
 -- what is read as the last offset of an entry
 pub record KeyEnd (part : List ℕ) (j e : ℕ) (r : leafs.Checked) : Type 0 where
   pub there : r .refusal ≡ 0
@@ -117,7 +110,7 @@ key-end part j e w r h i p q = go (eqb (e - j) 0) refl
     go true x =
         let y = eqb-true (e - j) 0 x in
         let t : eqb (length (take (e - j) (drop j part))) 0 ≡ true = eq-eqb _ _ (m ∙ y) in
-        record { there = ap (λ s. s .refusal) (q ∙ lastOffsetIn-is w (take (e - j) (drop j part))) ∙ rw t; end = ap (λ s. s .value) (q ∙ lastOffsetIn-is w (take (e - j) (drop j part))) ∙ rw t (sym (no-byte (encodedWidth (e - j)) (take (e - j) (drop j part)) (m ∙ y))) }
+        record { there = ap (λ s. s .refusal) (q ∙ lastOffsetIn-is w (take (e - j) (drop j part))) ∙ rw t; end = ap (λ s. s .value) (q ∙ lastOffsetIn-is w (take (e - j) (drop j part))) ∙ rw t (sym (last-none (encodedWidth (e - j)) (take (e - j) (drop j part)) (m ∙ y))) }
     go false x =
         let y = eqb-false (e - j) 0 x in
         let t : eqb (length (take (e - j) (drop j part))) 0 ≡ false = ne-eqb _ _ (λ o. y (sym m ∙ o)) in

@@ -28,6 +28,7 @@ use Rattle.reader_basic.specs.declared.Answer.{Answer}
 use Rattle.meaning.specs.Choice.{pick}
 use Rattle.meaning.specs.Outcome.{Outcome}
 use Rattle.meaning.specs.Reading.{readText}
+use Rattle.meaning.proofs.Tests.{both-true}
 use Rattle.container_depths.specs.Opening.{depthsOf}
 use Rattle.framing_offsets.specs.declared.OffsetTable.{OffsetTable}
 use Rattle.signature.proofs.TreeLaws.{described-kind}
@@ -55,10 +56,6 @@ key-aligned bool = tt
 key-aligned (number c) = number-aligned c
 key-aligned (text c) = tt
 
-both-first : (x y : Bool) → (x && y) ≡ true → x ≡ true
-both-first true y h = refl
-both-first false y h = h
-
 -- a step that is fixed uses a byte
 entry-pays : (position a : ℕ) (fk fv : Bool) (key value : Reader) → Bounded fk key → Bounded fv value → (fk && fv) ≡ true → (d : Depths) (k : ℕ) (l : List ℕ) (b j : ℕ) → j ≤ length l
     → entryStep position a fk (fk && fv) key value d k l b j (length l) .refusal ≡ 0 → 0 < entryStep position a fk (fk && fv) key value d k l b j (length l) .used
@@ -80,7 +77,7 @@ module _ (text shapes : List ℕ) (at : ℕ) (b : Basic) (t : Tree) (whole : tre
       child = there;
       aligned = aligned (dictionary b t);
       key = key-aligned b;
-      keyed = λ f y. both-first (basicFixed b) (fixed t) f;
+      keyed = λ f y. both-true (basicFixed b) (fixed t) f .0;
       number = λ c w q. let y : _≡_ {A = ℕ} 0 1 = cc in absurd (omega arith);
       pays = λ f position big nested d k l s j h. rw (value, ← key-reader position big b)
           (entry-pays position (alignment (dictionary b t)) (basicFixed b) (fixed t) (readBasic position big b) (reading position big (65 - nested) t)

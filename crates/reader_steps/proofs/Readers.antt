@@ -4,7 +4,7 @@ use mathlib.Core.List.{List}
 use mathlib.Core.Bool.{Bool}
 use Prim.Native.Nat.{ℕ, zero, suc, _+_, _-_, _≤_}
 use native.Mathlib.Omega.{arith}
-use lib.ListN.{length, take, drop, length-take, length-drop}
+use lib.ListN.{length}
 use Rattle.meaning.specs.Types.{Number as NumberType, Text as TextType, numberWidth, Basic, bool, number, text, Tree, basic, variant, maybe, array, dictionary, structure, alignment}
 use Rattle.meaning.specs.Letters.{numberLetter, textLetter}
 use Rattle.meaning.specs.Events.{nothing}
@@ -118,8 +118,3 @@ pub body-variant : (signature : List ℕ) (at position : ℕ) (big : Bool) (d : 
 body-variant signature at position big d k part lead end len n l l′ r e g = rw e g
 
 -- ---- what callees ask
-
-pub within-child : {place position : ℕ} {d : ContainerDepths} (part : List ℕ) (j e : ℕ) → Within (length part) place position d → j ≤ e → e ≤ length part → Within (length (take (e - j) (drop j part))) (place + j) position d
-within-child {place} part j e w g h =
-    let a = w .in-frame in
-    record { in-frame = simp (length-take, length-drop) (omega arith); near = w .near; shallow = w .shallow }

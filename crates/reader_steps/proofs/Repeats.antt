@@ -10,7 +10,7 @@ use borrow.Author.Tests.{eq-eqb, ne-eqb, eqb-true, eqb-false}
 use Rattle.meaning.specs.Choice.{pick}
 use Rattle.meaning.specs.Reading.{child}
 use Rattle.signature.specs.Places.{letterAt, letterOf}
-use Rattle.signature.specs.Steps.{keyFixed}
+use Rattle.signature.specs.Steps.{keyFixed, widthBy, isText}
 use Rattle.signature.specs.Shapes.{shapeIn}
 use Rattle.signature.specs.Items.{heldNumber, itemIn}
 use Rattle.signature.specs.Trees.{treeAt, Described}
@@ -23,7 +23,7 @@ use Rattle.signature.proofs.ItemLaws.{item-entry, item-element, opens}
 use Rattle.reader_basic.specs.Answers.{Between}
 use Rattle.reader_basic.specs.declared.Answer.{Answer}
 use Rattle.reader_basic.specs.declared.Context.{Context}
-use Rattle.reader_steps.specs.Codes.{widthBy, isText, Held}
+use Rattle.reader_steps.specs.Codes.{Held}
 use Rattle.reader_steps.specs.Places.{valueIn, stepIn, elementKind, itemBy, itemOf, Repeated, ItemAt}
 use Rattle.reader_steps.proofs.Characters.{number-code, text-code, typed-within, mark-code, code-entry}
 use Rattle.reader_steps.proofs.Entries.{step-child}

@@ -2,33 +2,32 @@
 use mathlib.Core.Path.{_≡_}
 use mathlib.Core.List.{List}
 use mathlib.Core.Bool.{Bool, true, false, _&&_}
-use Prim.Native.Nat.{ℕ, _+_, _-_, _%_, _≤_, _<_, max}
+use Prim.Native.Nat.{ℕ, _+_, _-_, _%_, _≤_, _<_}
 use lib.Dec.{leb, eqb}
-use lib.ListN.{length, drop, getD}
+use lib.ListN.{length, getD}
 use Rattle.meaning.specs.Choice.{pick}
 use Rattle.meaning.specs.Depths.{Depths}
 use Rattle.meaning.specs.Types.{Tree, Fields, basic, variant, maybe, array, dictionary, structure, alignment, largestAlignment, fixed, allFixed, basicFixed, entryAlignment, entryFixed}
 use Rattle.meaning.specs.Outcome as outcome
-use Rattle.meaning.specs.Outcome.{Outcome, chain, passing}
-use Rattle.meaning.specs.Offsets.{encodedWidth, endsOf}
-use Rattle.meaning.specs.Reading.{Reader, Step, Field, readNumber, readBasic, readMaybe, maybeIn, arrayIn, childStep, entryStep, structureIn, variantIn, readers, readVariant, reading, elements, elementsTo, fixedKey, textKey, fieldsIn}
+use Rattle.meaning.specs.Outcome.{Outcome}
+use Rattle.meaning.specs.Offsets.{encodedWidth}
+use Rattle.meaning.specs.Reading.{Reader, Step, Field, readNumber, readBasic, readMaybe, maybeIn, arrayIn, childStep, entryStep, structureIn, variantIn, readers, readVariant, reading, elements, fixedKey, textKey, fieldsIn}
 use Rattle.meaning.specs.Padding.{Aligns}
 use Rattle.meaning.specs.Limits.{mostVariants, mostContainers}
 use Rattle.meaning.specs.Letters.{arrayLetter, dictionaryLetter}
 use Rattle.meaning.specs.Refusals.{typeRefused}
 use Rattle.container_depths.specs.Opening.{depthsOf}
 use Rattle.container_depths.specs.declared.ContainerDepths.{ContainerDepths}
-use Rattle.framing_offsets.specs.Tables.{tableIn}
 use Rattle.framing_offsets.specs.declared.OffsetTable.{OffsetTable}
 use Rattle.signature.specs.Places.{letterAt}
 use Rattle.signature.specs.Steps.{keyFixed}
 use Rattle.signature.specs.Shapes.{shapeIn}
 use Rattle.signature.specs.Trees.{treeAt, fieldsAt, Described}
-use Rattle.signature.specs.Items.{heldNumber}
+use Rattle.signature.specs.Items.{heldNumber, itemKind}
 use Rattle.signature.specs.declared.shapes.Shape.{Shape}
 use Rattle.signature.specs.declared.Letter.{Letter}
 use Rattle.signature.specs.declared.Letter.the-variants.{Number, End}
-use Rattle.reader_basic.specs.Parts.{keyReader, KeyAligned, itemKind, elementsBy}
+use Rattle.reader_basic.specs.Parts.{keyReader, KeyAligned, elementsBy}
 use Rattle.signature.specs.declared.items.Item.{Item}
 use Rattle.reader_basic.specs.declared.Context.{Context}
 

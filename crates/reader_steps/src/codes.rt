@@ -9,10 +9,10 @@ ghost use Prim.Native.Nat.{_<_};
 ghost use lib.ListN.{length};
 ghost use Rattle.meaning.specs.Depths.{Depths};
 ghost use Rattle.signature.specs.Places.{letterOf};
-ghost use Rattle.signature.specs.Steps.{keyFixed};
+ghost use Rattle.signature.specs.Steps.{keyFixed, widthBy, isText};
 ghost use Rattle.reader_basic.specs.Answers.{Whole};
 ghost use Rattle.reader_basic.specs.Parts.{Inside, keyReader};
-ghost use Rattle.reader_steps.specs.Codes.{widthBy, isText, HeldWidth};
+ghost use Rattle.reader_steps.specs.Codes.{HeldWidth};
 ghost use Rattle.reader_steps.specs.Rides.{contextOf};
 
 // The width of the number that a character stands for, 0 for another.

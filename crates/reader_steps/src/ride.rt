@@ -27,12 +27,6 @@ pub fn ride_of(position: usize, big: bool) -> usize
     position
 }
 
-pub fn position_of(ride: usize) -> usize
-    ensures { λ r. ⌜ r ≡ contextOf ride .position ⌝ }
-{
-    ride % 2147483648
-}
-
 fn depths_of(counts: usize) -> ContainerDepths
     ensures { λ r. ⌜ r ≡ openIn counts ⌝ }
 {

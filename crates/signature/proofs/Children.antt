@@ -169,12 +169,12 @@ pub no-entry-by : (l : List ℕ) (at : ℕ) → length l ≤ 255 → firstType (
 unfolding entryBy
 no-entry-by l at n h = sym (entry-by l at n ∙ ap (entryBy l at) h)
 
-key-alignment : (b : Basic) → keyAlignment (basicKind b) ≡ basicAlignment b
+pub key-alignment : (b : Basic) → keyAlignment (basicKind b) ≡ basicAlignment b
 key-alignment bool = refl
 key-alignment (number n) = refl
 key-alignment (text x) = refl
 
-key-fixed : (b : Basic) → keyFixed (basicKind b) ≡ basicFixed b
+pub key-fixed : (b : Basic) → keyFixed (basicKind b) ≡ basicFixed b
 key-fixed bool = refl
 key-fixed (number n) = refl
 key-fixed (text x) = refl

@@ -24,6 +24,7 @@ use Rattle.signature.proofs.Letter.{the-type}
 use Rattle.signature.proofs.Letters.{others, apart-from}
 use Rattle.signature.proofs.Dispatch.{is-array, is-dictionary}
 use Rattle.signature.proofs.TreeLaws.{tree-by, described-by, described-alignment, described-fixed}
+use Rattle.signature.proofs.Children.{key-fixed}
 
 -- ---- by a letter
 
@@ -119,11 +120,6 @@ module _ (l t : List ℕ) (s : Shape) where
         rw (le-leb (s .at) 255 n, o, hs, e)
 
 -- ---- what it is
-
-key-fixed : (b : Basic) → keyFixed (basicKind b) ≡ basicFixed b
-key-fixed bool = refl
-key-fixed (number c) = refl
-key-fixed (text c) = refl
 
 module _ (l t : List ℕ) (s : Shape) (d : Described l t s) (first : letterAt l (s .at) ≡ Array) where
   short : s .at ≤ 255

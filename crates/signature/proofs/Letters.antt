@@ -203,7 +203,7 @@ pub record Key (l : List ℕ) (at : ℕ) : Type 0 where
   pub kind : letterAt l at ≡ basicKind it
   pub goes : Cut l at (basicLetter it)
 
-key-zero : (b : Basic) → keyAlignment (basicKind b) ≡ 0 → ⊥
+pub key-zero : (b : Basic) → keyAlignment (basicKind b) ≡ 0 → ⊥
 key-zero bool h = omega arith
 key-zero (number n) h = let p = number-positive n in omega arith
 key-zero (text x) h = omega arith

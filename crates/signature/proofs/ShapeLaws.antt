@@ -23,7 +23,7 @@ use Rattle.signature.specs.declared.Letter.{Letter}
 use Rattle.signature.specs.declared.Letter.the-variants.{End, Bad, Boolean, Number, Text, Variant, Maybe, Array, OpenStructure, CloseStructure, OpenEntry, CloseEntry}
 use Rattle.signature.proofs.Letter.{the-type}
 use Rattle.signature.proofs.Letters.{letter-end, letter-some, mark, cut, key-at, alone, loneChild, child-lone}
-use Rattle.signature.proofs.Children.{heldBy, dictionaryBy, child-maybe, child-array, child-dictionary, child-found, Stands, entry-whole, Fielding, fields-begin, fields-missing, fields-next, fields-last}
+use Rattle.signature.proofs.Children.{heldBy, dictionaryBy, child-maybe, child-array, child-dictionary, child-found, Stands, entry-whole, Fielding, fields-begin, fields-missing, fields-next, fields-last, key-alignment}
 use Rattle.signature.proofs.Answers.{judge-missing, judge-found, judged-type, child-long}
 use Rattle.signature.specs.Shapes.{packed, shapeOf, shapeAt, Filled, Shaped, Answered, unpacked, shapeIn, shape, ShapedFrom}
 use Rattle.signature.specs.declared.shapes.Shape.{Shape}
@@ -131,11 +131,6 @@ pub shape-array : (l : List ℕ) (at s : ℕ) → length l ≤ 255 → letterAt 
 shape-array l at s n h o e = loose-shape l (at + 1) s Array e ∙ ap shapeOf (child-array l at n h o)
 
 -- ---- a dictionary
-
-key-alignment : (b : Basic) → keyAlignment (basicKind b) ≡ basicAlignment b
-key-alignment bool = refl
-key-alignment (number n) = refl
-key-alignment (text x) = refl
 
 pub key-most : (l : List ℕ) (at : ℕ) → (keyAlignment (letterAt l at) ≡ 0 → ⊥) → keyAlignment (letterAt l at) ≤ 8
 key-most l at h =

@@ -8,10 +8,6 @@ use Rattle.signature.proofs.letter_at.Reads as letter-at
 use Rattle.signature.proofs.Letters.{closes-once}
 use Rattle.signature.proofs.closes_at.Kinds as closes-at-kinds
 use Rattle.signature.proofs.closes_at.Reads as closes-at
-use Rattle.signature.proofs.key_alignment.Kinds as key-alignment-kinds
-use Rattle.signature.proofs.key_alignment.Reads as key-alignment
-use Rattle.signature.proofs.key_fixed.Kinds as key-fixed-kinds
-use Rattle.signature.proofs.key_fixed.Reads as key-fixed
 use Rattle.signature.proofs.ShapeLaws.{answered-table}
 use Rattle.signature.proofs.shapes.shapes_of.Kinds as shapes-of-kinds
 use Rattle.signature.proofs.shapes.shapes_of.Reads as shapes-of
@@ -34,12 +30,6 @@ letter-at-unique κs a z z′ w w′ p q = (p ∙ sym q, refl)
 
 pub closes-at-unique : OneAnswer closes-at-kinds.ps closes-at-kinds.r closes-at.Learnt
 closes-at-unique κs a z z′ w w′ p q = (closes-once _ _ _ _ p q, refl)
-
-pub key-alignment-unique : OneAnswer key-alignment-kinds.ps key-alignment-kinds.r key-alignment.Learnt
-key-alignment-unique κs a z z′ w w′ p q = (p ∙ sym q, refl)
-
-pub key-fixed-unique : OneAnswer key-fixed-kinds.ps key-fixed-kinds.r key-fixed.Learnt
-key-fixed-unique κs a z z′ w w′ p q = (p ∙ sym q, refl)
 
 -- text, shapes
 pub shapes-of-unique : OneAnswer shapes-of-kinds.ps shapes-of-kinds.r shapes-of.Learnt

@@ -5,6 +5,7 @@ use mathlib.Core.Bool.{Bool, true, false, _&&_}
 use Prim.Native.Nat.{ℕ, _+_}
 use lib.Dec.{leb}
 use Rattle.meaning.specs.Choice.{pick}
+use Rattle.meaning.specs.Letters.{arrayLetter, dictionaryLetter}
 use Rattle.meaning.specs.Limits.{longestType}
 use Rattle.meaning.specs.Types.{Basic, Tree, array, dictionary, basicFixed, fixed, alignment}
 use Rattle.signature.specs.Places.{basicKind, letterAt}
@@ -87,3 +88,7 @@ pub record ElementOf (text shapes : List ℕ) (at : ℕ) (i : Item) : Type 0 whe
   pub same-alignment : i .alignment ≡ alignment it
   pub same-fixed : i .fixed ≡ fixed it
   pub same-number : i .number ≡ heldNumber (letterAt text (i .child .at)) (letterAt text (i .child .at + 1))
+
+-- the kind of an array's first event, or of a dictionary's
+abbrev pub itemKind : Item → ℕ
+itemKind i = pick (i .entry) dictionaryLetter arrayLetter

@@ -37,6 +37,36 @@ keyFixed CloseStructure = false
 keyFixed OpenEntry = false
 keyFixed CloseEntry = false
 
+-- the width of a number, 0 for another letter
+abbrev pub widthBy : Letter → ℕ
+widthBy End = 0
+widthBy Bad = 0
+widthBy Boolean = 0
+widthBy (Number c w) = w
+widthBy (Text c) = 0
+widthBy Variant = 0
+widthBy Maybe = 0
+widthBy Array = 0
+widthBy OpenStructure = 0
+widthBy CloseStructure = 0
+widthBy OpenEntry = 0
+widthBy CloseEntry = 0
+
+-- whether it is a text's
+abbrev pub isText : Letter → Bool
+isText End = false
+isText Bad = false
+isText Boolean = false
+isText (Number c w) = false
+isText (Text c) = true
+isText Variant = false
+isText Maybe = false
+isText Array = false
+isText OpenStructure = false
+isText CloseStructure = false
+isText OpenEntry = false
+isText CloseEntry = false
+
 -- a structure of a place behind it, its alignment, whether it is fixed, and where its fields end
 abbrev pub structureBy : ℕ → ℕ → Bool → ℕ → Child
 structureBy next a f end = childOf OpenStructure true next a f (pick f (rounded end a) 0)

@@ -75,7 +75,7 @@ pub fn closes_at(text: &[u8], at: usize) -> bool
 }
 
 // The alignment of a key, 0 for what is none.
-pub fn key_alignment(key: Letter) -> usize
+pub(crate) fn key_alignment(key: Letter) -> usize
     ensures { λ r. ⌜ r ≡ keyAlignment key ⌝ }
 {
     match key {
@@ -86,7 +86,7 @@ pub fn key_alignment(key: Letter) -> usize
     }
 }
 
-pub fn key_fixed(key: Letter) -> bool
+pub(crate) fn key_fixed(key: Letter) -> bool
     ensures { λ r. ⌜ r ≡ keyFixed key ⌝ }
 {
     match key {

@@ -6,7 +6,7 @@ use mathlib.Core.Logic.{_⊎_, inl, inr}
 use mathlib.Core.List.{List, [], _∷_}
 use mathlib.Core.Option.{some}
 use mathlib.Core.Bool.{Bool, true, false, _&&_, false≢true}
-use Prim.Native.Nat.{ℕ, _+_, _-_, _≤_, _<_}
+use Prim.Native.Nat.{ℕ, _+_, _-_, _≤_}
 use native.Mathlib.Omega.{arith}
 use lib.Dec.{eqb}
 use lib.ListN.{length, take, drop, getD}
@@ -23,10 +23,10 @@ use Rattle.meaning.proofs.Tests.{both-true}
 use Rattle.meaning.proofs.PaddingLaws.{by1, padding-below}
 use Rattle.meaning.proofs.TypeLaws.{aligns-most, number-aligned, aligned}
 use Rattle.meaning_writing.proofs.StrictSteps.{test-basic, test-maybe, test-array, test-dictionary}
-use Rattle.signature.specs.Places.{Child, basicKind, letterAt, letterBy, letterOf, childAt, isType}
+use Rattle.signature.specs.Places.{Child, basicKind, letterAt, letterBy, letterOf, childAt}
 use Rattle.signature.specs.Items as its
 use Rattle.signature.specs.Items.{itemIn, EntryOf, ElementOf}
-use Rattle.signature.specs.Trees.{treeAt, Described}
+use Rattle.signature.specs.Trees.{treeAt}
 use Rattle.signature.specs.declared.Letter.{Letter}
 use Rattle.signature.specs.declared.Letter.the-variants.{End, Bad, Boolean, Number, Text, Variant, Maybe, Array, OpenStructure, CloseStructure, OpenEntry, CloseEntry}
 use Rattle.signature.specs.declared.items.Item as signature-item
@@ -38,9 +38,10 @@ use Rattle.signature.proofs.Answers.{judge-found}
 use Rattle.signature.proofs.Dispatch.{is-boolean, is-number, is-text, is-variant, is-maybe}
 use Rattle.signature.proofs.ItemLaws.{number-held, entry-of, element-of, opens}
 use Rattle.signature.proofs.TreeLaws.{Front, front, described-kind, described-alignment, described-fixed}
+use Rattle.signature.specs.Steps.{isText, widthBy}
 use Rattle.strict_basic.specs.Ends.{letterWritten, letterExtent, extent, letterTest, textTest, isBasic, readingTest, Laid, endOf, StartAt, LoneType, loneVariant}
 use Rattle.strict_basic.specs.Sizes.{Tabled, extentIn, anyIn}
-use Rattle.strict_basic.specs.Items.{Placed, treeTest, itemTest, isText, numberWidthOf, heldWidth, entryEnd, entrySize, entryItem, elementItem, Known, Reads, Repeated, ItemAt}
+use Rattle.strict_basic.specs.Items.{Placed, treeTest, itemTest, heldWidth, entryEnd, entrySize, entryItem, elementItem, Known, Reads, ItemAt}
 use Rattle.strict_basic.specs.declared.ends.Extent.{Extent}
 use Rattle.strict_basic.specs.declared.ends.Start.{Start}
 use Rattle.strict_basic.specs.declared.items.Item.{Item}
@@ -58,10 +59,10 @@ pub letter-accepts : (k : Letter) (d : Depths) (l : List ℕ) → letterWritten 
 unfolding letterTest
 letter-accepts k d l = refl
 
-key-laid : (b : Basic) → Laid (letterExtent (basicKind b))
-key-laid bool = record { aligned = by1; small = omega arith }
-key-laid (number c) = record { aligned = number-aligned c; small = omega (arith, aligns-most (number-aligned c)) }
-key-laid (text c) = record { aligned = by1; small = omega arith }
+pub letter-laid : (b : Basic) → Laid (letterExtent (basicKind b))
+letter-laid bool = record { aligned = by1; small = omega arith }
+letter-laid (number c) = record { aligned = number-aligned c; small = omega (arith, aligns-most (number-aligned c)) }
+letter-laid (text c) = record { aligned = by1; small = omega arith }
 
 key-small : (b : Basic) → letterExtent (basicKind b) .size ≤ 8
 key-small bool = omega arith
@@ -104,7 +105,7 @@ basic-not CloseEntry h = refl
 abbrev numberless : List ℕ
 numberless = 0 ∷ 1 ∷ 2 ∷ 4 ∷ 5 ∷ 6 ∷ 7 ∷ 8 ∷ 9 ∷ 10 ∷ 11 ∷ []
 
-pub number-not : (k : Letter) → OneOf numberless (tagOf the-type k) → 0 ≡ numberWidthOf k
+pub number-not : (k : Letter) → OneOf numberless (tagOf the-type k) → 0 ≡ widthBy k
 number-not End h = refl
 number-not Bad h = refl
 number-not Boolean h = refl
@@ -259,7 +260,7 @@ module _ {l t : List ℕ} {at : ℕ} (f : signature-item.Item) (w : Tabled l t) 
 
     pub entry-keyed : (x : Extent) → x ≡ extentIn t (f .child) → Keyed (f .key) x (f .alignment)
     entry-keyed x h = record {
-      key = laid-as (ap letterExtent (e .same-key)) (key-laid (e .key));
+      key = laid-as (ap letterExtent (e .same-key)) (letter-laid (e .key));
       key-most = rw (e .same-key) (key-small (e .key));
       value = laid-as h (placed-known child-placed .laid);
       value-most = rw h (size-most child-placed);
@@ -333,7 +334,7 @@ module _ {l t : List ℕ} {at : ℕ} (f : signature-item.Item) (w : Tabled l t) 
     reads-is : (h : ℕ) → h ≡ heldWidth (f .number) (f .fixed) → (h ≡ 0 → ⊥) → Reads h (λ m. treeTest m l (f .child .at))
     reads-is h q z = go (f .fixed) (f .number) refl refl q
       where
-        go : (b : Bool) (k : Letter) → f .fixed ≡ b → f .number ≡ k → h ≡ pick b 0 (numberWidthOf k) → Reads h (λ m. treeTest m l (f .child .at))
+        go : (b : Bool) (k : Letter) → f .fixed ≡ b → f .number ≡ k → h ≡ pick b 0 (widthBy k) → Reads h (λ m. treeTest m l (f .child .at))
         go true k p r y = absurd (z y)
         go false (Number c w) p r y = rw y (held-is c w p r)
         go false End p r y = absurd (z y)

@@ -3,31 +3,26 @@
 use mathlib.Core.Path.{_≡_, refl, sym, ap, _∙_}
 use mathlib.Core.List.{List, [], _∷_}
 use mathlib.Core.Bool.{Bool, true, false, _&&_, false≢true}
-use Prim.Native.Nat.{ℕ, zero, suc, _+_, _-_, _*_, _/_, _%_, _≤_, _<_}
+use Prim.Native.Nat.{ℕ, zero, suc, _+_, _-_, _*_, _%_}
 use native.Mathlib.Omega.{arith}
 use native.Mathlib.Nat.{suc-mul, zero-mod}
 use lib.Dec.{leb, eqb}
-use lib.ListN.{length, drop, getD, set, length-set, length-take, length-drop}
-use lib.Seq.{getD-set-same, getD-set-other}
-use borrow.Author.Tests.{le-leb, eq-eqb, ne-eqb, eqb-true}
-use Rattle.meaning.specs.Choice.{pick}
-use Rattle.meaning.specs.Padding.{padding, Aligns}
+use lib.ListN.{length, length-take, length-drop}
+use borrow.Author.Tests.{eqb-true}
+use Rattle.meaning.specs.Padding.{padding}
 use Rattle.meaning.specs.Depths as Depth
 use Rattle.meaning.specs.Depths.{Depths, depthRefusal, opened}
 use Rattle.meaning.specs.Offsets.{encodedWidth, writtenWidth}
 use Rattle.meaning.specs.Types.{Number as NumberType, byte, int16, uint16, int32, uint32, int64, uint64, double, numberWidth, bool, number, text, Tree, Fields, basic, variant, maybe, array, dictionary, structure, last, next}
 use Rattle.meaning.specs.Types.{alignment, largestAlignment, fixed, allFixed, fixedSize, fieldsEnd, rounded}
-use Rattle.meaning.specs.TypeText.{firstType, typeText}
-use Rattle.meaning.specs.Written.{deeper}
 use Rattle.meaning_writing.specs.Shapes.{part, oneMore, offsetCount, lastEnd, fieldEnd, offsetsLeft, fixedEnd}
 use Rattle.meaning_writing.specs.Strict.{Test, testShapes, allZero, basicWritten, basicTest, childWritten, fieldsFinished, fieldsWritten, offsetsWritten, structureWritten, structureTest, testOf}
 use Rattle.meaning.proofs.Tests.{both-true}
-use Rattle.meaning.proofs.PaddingLaws.{aligns-positive, padding-shift, padding-aligned, padding-none, padding-below}
-use Rattle.meaning.proofs.TypeLaws.{aligns-most, aligned, fields-aligned, number-aligned, fixedSize-positive, fieldsEnd-least}
-use Rattle.meaning.proofs.TypeTextLaws.{fixedSize-most}
+use Rattle.meaning.proofs.PaddingLaws.{padding-shift, padding-aligned, padding-none}
+use Rattle.meaning.proofs.TypeLaws.{aligned, fields-aligned}
 use Rattle.meaning_writing.proofs.Parts.{part-none}
 use Rattle.meaning_writing.proofs.StrictSteps.{testsOf, test-basic, test-structure, tests-last, tests-next, test-alignment, test-fixed, test-size}
-use Rattle.strict_basic.specs.Sizes.{anyBytes, anyFields, offsetsIn, offsetsFor, sizeAndAny, measureOf}
+use Rattle.strict_basic.specs.Sizes.{anyBytes, anyFields, offsetsIn}
 
 -- ---- any bytes will do
 
@@ -121,7 +116,7 @@ number-alike : (n : ℕ) (c : NumberType) → ByLength (testOf n (basic (number 
 unfolding basicTest basicWritten
 number-alike n c d l l′ h = ap (λ (x : Test). x .accepts d l) (test-basic n (number c)) ∙ ap (λ (m : ℕ). eqb m (numberWidth c)) h ∙ ap (λ (x : Test). x .accepts d l′) (sym (test-basic n (number c)))
 
-end-last : (k : ℕ) (t : Tree) → fieldsEnd k (last t) ≡ rounded k (alignment t) + fixedSize t
+pub end-last : (k : ℕ) (t : Tree) → fieldsEnd k (last t) ≡ rounded k (alignment t) + fixedSize t
 unfolding fieldsEnd
 end-last k t = refl
 

@@ -9,10 +9,10 @@ use native.Mathlib.Omega.{arith}
 use lib.Dec.{leb, eqb}
 use lib.ListN.{length, drop, getD, set, length-set, length-append}
 use lib.Seq.{getD-set-same, getD-set-other}
-use borrow.Author.Tests.{le-leb, eq-eqb, ne-eqb, eqb-true, eqb-false, leb-true}
+use borrow.Author.Tests.{le-leb, eq-eqb, ne-eqb, eqb-true, eqb-false}
 use Rattle.meaning.specs.Choice.{pick}
 use Rattle.meaning.specs.Padding.{padding, Aligns}
-use Rattle.meaning.specs.Types.{Number as NumberType, Basic, bool, number, text, Tree, Fields, basic, variant, maybe, array, dictionary, structure, last, next, numberWidth, alignment, largestAlignment, fixed, allFixed, fixedSize, fieldsEnd, rounded}
+use Rattle.meaning.specs.Types.{Number as NumberType, bool, number, text, Tree, Fields, basic, variant, maybe, array, dictionary, structure, last, next, numberWidth, alignment, largestAlignment, fixed, allFixed, fixedSize, fieldsEnd, rounded}
 use Rattle.meaning.specs.TypeText.{firstType, typeText, fieldsText}
 use Rattle.meaning_writing.specs.Shapes.{oneMore, offsetCount}
 use Rattle.meaning_writing.specs.Strict.{testShapes}
@@ -21,22 +21,22 @@ use Rattle.meaning.proofs.TypeLaws.{aligns-most, aligned, fields-aligned, fixed
 use Rattle.meaning.proofs.PaddingLaws.{padding-below}
 use Rattle.meaning.proofs.TypeTextLaws.{fixedSize-most}
 use Rattle.meaning_writing.proofs.StrictSteps.{testsOf, test-alignment, test-fixed, test-size}
-use Rattle.signature.specs.Places.{Child, Field, basicKind, letterAt, childAt, fieldAt, isType}
-use Rattle.signature.specs.Shapes.{shapeAt, Shaped, Answered, shapeIn}
+use Rattle.signature.specs.Places.{Child, basicKind, letterAt, childAt, fieldAt, isType}
+use Rattle.signature.specs.Shapes.{Shaped, Answered, shapeIn}
 use Rattle.signature.specs.Trees.{treeAt, behindBy, Typed, fieldsAt, Rowed, Described}
 use Rattle.signature.specs.declared.Letter.{Letter}
-use Rattle.signature.specs.declared.Letter.the-variants.{Boolean, Number, Text, Variant, Maybe, Array, OpenStructure}
+use Rattle.signature.specs.declared.Letter.the-variants.{Boolean, Number, OpenStructure}
 use Rattle.signature.specs.declared.shapes.Shape.{Shape}
 use Rattle.signature.proofs.Letter.{the-type}
-use Rattle.signature.proofs.Children.{child-is, child-found, Stands, type-inside}
+use Rattle.signature.proofs.Children.{child-is, child-found, type-inside}
 use Rattle.signature.proofs.Answers.{judged-type}
 use Rattle.signature.proofs.Dispatch.{Shown, shown, is-boolean, is-number, is-last, is-next}
 use Rattle.signature.proofs.ShapeLaws.{Known, known}
-use Rattle.signature.proofs.TreeLaws.{typed-by, tree-by, described-by, described-as, described-alignment, described-aligned, described-fixed, structure-tree, structure-rowed, structure-fixed, structure-alignment, LastField, NextField, last-field-of, next-field-of}
-use Rattle.strict_basic.specs.Sizes.{anyBytes, anyFields, offsetsIn, offsetsFor, sizeAndAny, measureOf, Behind, Tabled, Tabling, extentIn, anyIn, offsetsBy}
+use Rattle.signature.proofs.TreeLaws.{tree-by, described-by, described-as, described-alignment, described-aligned, described-fixed, structure-tree, structure-rowed, structure-fixed, structure-alignment, LastField, NextField, Front, front-described}
+use Rattle.strict_basic.specs.Sizes.{anyBytes, anyFields, offsetsIn, offsetsFor, sizeAndAny, measureOf, Behind, Tabled, extentIn, anyIn, offsetsBy}
 use Rattle.strict_basic.specs.Items as items
 use Rattle.strict_basic.specs.Items.{Placed, Alike, treeTest}
-use Rattle.strict_basic.proofs.SizeLaws.{any-fixed, any-alike, close-together, offsets-count, offsets-free}
+use Rattle.strict_basic.proofs.SizeLaws.{any-alike, close-together, offsets-count, offsets-free, end-last}
 
 -- ---- a number of the table
 
@@ -142,10 +142,6 @@ module _ {l t : List ℕ} {at i end : ℕ} {any : Bool} (w : Behind l at t) (q :
         ap (λ (x : ℕ). eqb x end) (hst ∙ ap (λ (x : ℕ). end + padding end x) (described-alignment d)) ∙ same-zero end (padding end (alignment (treeAt l (s .at)))) in
         rw (a, b)
 
-fields-end-last : (k : ℕ) (t : Tree) → fieldsEnd k (last t) ≡ rounded k (alignment t) + fixedSize t
-unfolding fieldsEnd
-fields-end-last k t = refl
-
 fields-end-next : (k : ℕ) (t : Tree) (ts : Fields) → fieldsEnd k (next t ts) ≡ fieldsEnd (rounded k (alignment t) + fixedSize t) ts
 unfolding fieldsEnd
 fields-end-next k t ts = refl
@@ -174,7 +170,7 @@ module _ {l t : List ℕ} {at i end : ℕ} {any : Bool} (w : Behind l at t) (q :
     fixed-last = all-last (treeAt l (s .at)) (ap allFixed (sym (g .fields)) ∙ q .fixes)
 
     last-end-is : fieldsEnd 0 (fieldsAt l at) ≡ start + m / 2
-    last-end-is = q .ends ∙ ap (fieldsEnd end) (g .fields) ∙ fields-end-last end (treeAt l (s .at)) ∙ sym (end-is w q s hs (g .shape) fixed-last m hm start hst)
+    last-end-is = q .ends ∙ ap (fieldsEnd end) (g .fields) ∙ end-last end (treeAt l (s .at)) ∙ sym (end-is w q s hs (g .shape) fixed-last m hm start hst)
 
     last-any-is : anyFields 0 (fieldsAt l at) ≡ any′
     last-any-is =
@@ -532,3 +528,7 @@ module _ {l t : List ℕ} {s : Shape} (p : Placed l t s) where
           let i = type-inside l (s .at) its _ (p .shape .typed .found) in
           let few = p .shape .typed .short in
           omega (arith, number-is, measure-other its (sym (described-fixed (p .shape)) ∙ f), offsets-for-few its)
+
+-- a type from the front of its text on, where the tables are its own
+pub front-placed : (sig tables : List ℕ) → Tabled sig tables → Front sig → (s : Shape) → s ≡ shapeIn sig tables 0 → Placed sig tables s
+front-placed sig tables w f s q = record { shape = described-as q (front-described sig tables (w .shapes) f); table = w }

@@ -2,16 +2,17 @@
 use mathlib.Core.Path.{_≡_}
 use mathlib.Core.List.{List, [], _∷_}
 use mathlib.Core.Bool.{Bool, true, false}
-use Prim.Native.Nat.{ℕ, _+_, _-_, _*_, _≤_, _<_}
+use Prim.Native.Nat.{ℕ, _+_, _-_, _*_, _<_}
 use lib.ListN.{length}
 use Rattle.meaning.specs.Choice.{pick}
 use Rattle.meaning.specs.Limits.{mostVariants}
 use Rattle.meaning.specs.Padding.{padding, Aligns}
 use Rattle.meaning.specs.Depths.{Depths}
 use Rattle.meaning_writing.specs.Strict.{Test, arrayTest, entryTest, testOf}
+use Rattle.signature.specs.Steps.{isText, widthBy}
 use Rattle.signature.specs.Trees.{treeAt, Described}
 use Rattle.signature.specs.declared.Letter.{Letter}
-use Rattle.signature.specs.declared.Letter.the-variants.{End, Bad, Boolean, Number, Text, Variant, Maybe, Array, OpenStructure, CloseStructure, OpenEntry, CloseEntry}
+use Rattle.signature.specs.declared.Letter.the-variants.{End}
 use Rattle.signature.specs.declared.shapes.Shape.{Shape}
 use Rattle.strict_basic.specs.Ends.{letterExtent, letterTest, textTest, readingTest, Laid, endOf}
 use Rattle.strict_basic.specs.Sizes.{Tabled}
@@ -34,37 +35,8 @@ itemTest nested text i =
     (entryTest (i .extent .alignment) (i .extent .fixed) (letterTest (i .key) ∷ treeTest nested text (i .child .at) ∷ []))
     (treeTest nested text (i .child .at))
 
-abbrev pub isText : Letter → Bool
-isText End = false
-isText Bad = false
-isText Boolean = false
-isText (Number c w) = false
-isText (Text c) = true
-isText Variant = false
-isText Maybe = false
-isText Array = false
-isText OpenStructure = false
-isText CloseStructure = false
-isText OpenEntry = false
-isText CloseEntry = false
-
--- the width of the number that an element holds in a maybe: one that is fixed holds none
-abbrev pub numberWidthOf : Letter → ℕ
-numberWidthOf End = 0
-numberWidthOf Bad = 0
-numberWidthOf Boolean = 0
-numberWidthOf (Number c w) = w
-numberWidthOf (Text c) = 0
-numberWidthOf Variant = 0
-numberWidthOf Maybe = 0
-numberWidthOf Array = 0
-numberWidthOf OpenStructure = 0
-numberWidthOf CloseStructure = 0
-numberWidthOf OpenEntry = 0
-numberWidthOf CloseEntry = 0
-
 abbrev pub heldWidth : Letter → Bool → ℕ
-heldWidth number fixed = pick fixed 0 (numberWidthOf number)
+heldWidth number fixed = pick fixed 0 (widthBy number)
 
 -- the size of an entry that is fixed
 abbrev pub entryEnd : Letter → Extent → ℕ

@@ -62,7 +62,7 @@ pub fn letter_written(kind: Letter, part: &[u8]) -> bool
     }
 }
 
-pub fn extent(alignment: usize, fixed: bool, size: usize) -> Extent
+pub(crate) fn extent(alignment: usize, fixed: bool, size: usize) -> Extent
     ensures { λ r. ⌜ r ≡ extentAs alignment fixed size ⌝ }
 {
     Extent {

@@ -58,7 +58,7 @@ fn rows_if(stands: bool, body: usize, count: usize, width: usize, from: usize) -
     }
 }
 
-pub fn all_zero(part: &[u8]) -> bool
+pub(crate) fn all_zero(part: &[u8]) -> bool
     ensures { λ r. ⌜ r ≡ allZero (now (part .entry)) ⌝ }
 {
     let mut i = 0;
@@ -97,7 +97,7 @@ pub fn start_of(part: &[u8], limit: usize, place: usize, e: usize, alignment: us
 }
 
 // Where a child that is fixed ends, laid out from a place on.
-pub fn fixed_end(x: Extent, place: usize) -> usize
+pub(crate) fn fixed_end(x: Extent, place: usize) -> usize
     requires { ⌜ (place ≤ 100000) × Laid x ⌝ }
     ensures { λ r. ⌜ r ≡ endOf x place ⌝ }
 {

@@ -14,11 +14,9 @@ use signature::shapes::shape_in;
 use signature::shapes::shapes_of;
 ghost use mathlib.Core.Path.{_≡_};
 ghost use mathlib.Core.Bool.{true, false, _&&_};
-ghost use Prim.Native.Nat.{ℕ, _+_, _*_, _/_, _%_, _≤_, _<_};
-ghost use lib.Dec.{eqb};
+ghost use Prim.Native.Nat.{_+_, _*_, _/_, _%_, _≤_, _<_};
 ghost use lib.ListN.{length, getD};
 ghost use Rattle.meaning.specs.Limits.{longestType};
-ghost use Rattle.meaning.specs.Choice.{pick};
 ghost use Rattle.meaning.specs.Types.{allFixed, largestAlignment, fixedSize, structure};
 ghost use Rattle.signature.specs.Places.{letterAt};
 ghost use Rattle.signature.specs.Trees.{treeAt, Typed, fieldsAt, Rowed};
@@ -160,7 +158,7 @@ pub fn extent_in(tables: &[u16], shape: Shape) -> Extent
 }
 
 // Whether any bytes of its size will do.
-pub fn any_in(tables: &[u16], shape: Shape) -> bool
+pub(crate) fn any_in(tables: &[u16], shape: Shape) -> bool
     requires { ⌜ (length (now tables) ≡ tableLength) × (shape .at < longestType) ⌝ }
     ensures { λ r. ⌜ r ≡ anyIn (now (tables .entry)) shape ⌝ }
 {

@@ -2,8 +2,8 @@
 use mathlib.Core.Path.{_≡_, refl, sym, ap, _∙_}
 use mathlib.Core.List.{List}
 use mathlib.Core.Option.{Option, none, some}
-use mathlib.Core.Bool.{Bool, true, false}
-use Prim.Native.Nat.{ℕ, suc, _-_, _≤_}
+use mathlib.Core.Bool.{Bool, false}
+use Prim.Native.Nat.{ℕ, suc, _-_}
 use native.Mathlib.Omega.{arith}
 use lib.Dec.{eqb}
 use lib.ListN.{length, take, drop}
@@ -13,32 +13,26 @@ use Rattle.meaning.specs.Depths as Depth
 use Rattle.meaning.specs.Depths.{Depths, opened}
 use Rattle.meaning.specs.Types.{Tree, basic, variant}
 use Rattle.meaning.specs.TypeText.{typeOf}
-use Rattle.meaning.specs.Written.{deeper}
 use Rattle.meaning.specs.Reading.{separator}
 use Rattle.meaning_writing.specs.Strict.{Test, typedWritten, variantWritten, variantTest, testOf}
 use Rattle.meaning_writing.proofs.StrictSteps.{test-basic, test-variant}
+use Rattle.meaning.proofs.Bounds.{total-most}
 use Rattle.container_depths.specs.Opening.{depthsOf, Raises}
 use Rattle.container_depths.specs.declared.ContainerDepths.{ContainerDepths}
 use Rattle.container_depths.specs.declared.Raised.{Raised}
 use Rattle.signature.specs.Places.{isType}
-use Rattle.signature.specs.Shapes.{shapeIn}
 use Rattle.signature.specs.Trees.{treeAt}
 use Rattle.signature.specs.declared.Letter.{Letter}
-use Rattle.signature.specs.declared.shapes.Shape.{Shape}
 use Rattle.signature.proofs.Answers.{judged-none}
-use Rattle.signature.proofs.TreeLaws.{Front, front, front-described, described-as}
-use Rattle.container_depths.proofs.Levels.{raised-to, total-most}
+use Rattle.signature.proofs.TreeLaws.{Front}
+use Rattle.container_depths.proofs.Levels.{raised-to}
 use Rattle.strict_basic.specs.Ends.{letterWritten, letterTest, LoneType}
-use Rattle.strict_basic.specs.Sizes.{Tabled}
-use Rattle.strict_basic.specs.Items.{Placed, treeTest}
+use Rattle.strict_basic.specs.Items.{treeTest}
 use Rattle.strict_basic.proofs.ItemLaws.{letter-test, letter-accepts}
 use Rattle.strict_cycle.specs.Walks.{Inside, variantAccepts}
 use Rattle.strict_cycle.proofs.Values.{deeper-not, deeper-on}
 
 -- a text that is one type, by its table
-pub front-placed : (sig tables : List ℕ) → Tabled sig tables → Front sig → (s : Shape) → s ≡ shapeIn sig tables 0 → Placed sig tables s
-front-placed sig tables w f s q = record { shape = described-as q (front-described sig tables (w .shapes) f); table = w }
-
 module _ (d : ContainerDepths) (l : List ℕ) (w : Inside (length l) d) (s : ℕ) (hs : s ≡ separator l) where
   abbrev inner : Tree → Test
   inner u = testOf (64 - d .variant) u

@@ -2,26 +2,24 @@
 use Prim.Native.Nat.{ℕ, zero, suc, _+_, _-_, _≤_, _<_, _^_, min}
 use mathlib.Core.Path.{_≡_, refl, sym, ap, _∙_}
 use mathlib.Core.List.{List, [], _∷_, _++_}
-use mathlib.Core.Option.{none, some}
-use mathlib.Core.Bool.{Bool, true, false, _&&_, not, false≢true}
+use mathlib.Core.Bool.{Bool, true, false, not, false≢true}
 use native.Mathlib.Omega.{arith}
-use lib.Dec.{leb, ltb, eqb}
-use lib.ListN.{length, take, drop, getD, set, length-append}
-use borrow.Author.Tests.{eq-eqb, ne-eqb, le-leb, lt-leb, lt-ltb}
-use Rattle.meaning.specs.Choice.{pick}
-use Rattle.meaning.specs.Limits.{largestFrame}
+use lib.Dec.{ltb, eqb}
+use lib.ListN.{length, take, drop, getD, length-append}
+use borrow.Author.Tests.{eq-eqb, ne-eqb, le-leb, lt-leb}
 use Rattle.meaning.specs.Depths.{Depths}
 use Rattle.meaning.specs.Numbers.{bytes, ordered}
 use Rattle.meaning.specs.Texts.{textRefusal}
-use Rattle.meaning.specs.Types.{Number as NumberType, Text as TextType, byte, int16, uint16, int32, uint32, int64, uint64, double, string, objectPath, signature, Basic, bool, number, text, numberWidth}
+use Rattle.meaning.specs.Types.{Number as NumberType, Text as TextType, byte, int16, uint16, int32, uint32, int64, uint64, double, Basic, bool, number, text, numberWidth}
 use Rattle.meaning.specs.Letters.{numberLetter, textLetter}
 use Rattle.meaning.specs.Written.{Piece, bit, basicPiece}
-use Rattle.meaning_writing.specs.Writing.{Built, built, fault, mapped, when, onEvent, onText, buildBasic}
+use Rattle.meaning_writing.specs.Writing.{Built, built, fault, when, onText, buildBasic}
 use Rattle.meaning_writing.specs.Emitting.{emitBasic}
 use Rattle.meaning.specs.Padding.{Aligns}
 use Rattle.meaning.proofs.PaddingLaws.{by-alignment}
 use Rattle.meaning.proofs.TypeLaws.{number-aligned}
-use Rattle.meaning_writing.proofs.WritingSteps.{PlainAt, NotPlain, TextAt, NotText, short, other, carrying, outside, viewed, at-end, at-event, onText-at, onText-not, unrefused-none, unrefused-fault, mapped-built, mapped-fault}
+use Rattle.meaning_writing.proofs.WritingSteps.{NotPlain, TextAt, short, other, carrying, outside, viewed, at-end, at-event, onText-at, onText-not, unrefused-none, unrefused-fault, mapped-built, mapped-fault}
+use Rattle.meaning.proofs.NumberLaws.{length-bytes}
 use Rattle.signature.specs.Places.{basicKind}
 use Rattle.signature.specs.declared.Letter.{Letter}
 use Rattle.signature.specs.declared.Letter.the-variants.{End, Bad, Boolean, Number, Text, Variant, Maybe, Array, OpenStructure, CloseStructure, OpenEntry, CloseEntry}
@@ -29,10 +27,9 @@ use Rattle.signature.proofs.Letter.{the-type}
 use types.Run.{OneOf, miss}
 use denote.Enum.Declared.{tagOf}
 use Rattle.writer_store.specs.Stores.{cap, sum, puts}
-use Rattle.writer_basic.specs.Wrote.{Opens, Taken, Untaken, unseen, unsound, Viewed, keyBasic, IsKey, Faulted, Made, Says, Done}
+use Rattle.writer_basic.specs.Wrote.{Opens, Taken, Untaken, unseen, unsound, Viewed, keyBasic, IsKey, Made, Says, Done}
 use Rattle.writer_basic.specs.declared.Answer.{Answer}
 use Rattle.writer_basic.specs.declared.basic.View.{View}
-use Rattle.writer_store.proofs.Puts.{puts-append, puts-none, puts-cons, length-bytes}
 use Rattle.writer_store.proofs.EndLaws.{puts-stored}
 
 abbrev pub answer : ℕ → ℕ → ℕ → Answer
@@ -286,9 +283,6 @@ pub aligns-small : {w : ℕ} → Aligns w → w ≤ 8
 aligns-small h = by-alignment (λ w. w ≤ 8) (omega arith) (omega arith) (omega arith) (omega arith) h
 
 -- every number of the machine's fits 8 bytes
-pub eight-fits : (x w : ℕ) → w ≡ 8 → x < 18446744073709551616 → true ≡ ltb x (256 ^ w)
-eight-fits x w e h = rw e (sym (lt-ltb x (256 ^ 8) h))
-
 pub key-as : (k k′ : Letter) → k ≡ k′ → IsKey k → IsKey k′
 key-as k k′ e h = rw e at h
 

@@ -3,24 +3,26 @@
 use mathlib.Core.Path.{_≡_, refl, sym, ap, _∙_}
 use mathlib.Core.List.{List, []}
 use mathlib.Core.Option.{Option, none, some}
-use mathlib.Core.Bool.{Bool, true, false}
+use mathlib.Core.Bool.{Bool, true}
 use native.Mathlib.Omega.{arith}
-use Prim.Native.Nat.{ℕ, _+_, _%_, _≤_, _<_, min}
+use Prim.Native.Nat.{ℕ, _+_, _%_, _≤_}
 use lib.ListN.{length, drop, getD}
 use Rattle.meaning.specs.Depths as Depth
 use Rattle.meaning.specs.Depths.{Depths, opened, noneOpen}
 use Rattle.meaning.specs.Padding.{Aligns, padding}
 use Rattle.meaning.specs.Letters.{numberLetter, textLetter}
 use Rattle.meaning.specs.Numbers.{bytes}
-use Rattle.meaning.specs.Types.{Number as NumberType, Text as TextType, Basic, bool, number, text, basic, maybe, numberWidth, basicAlignment, basicFixed, alignment, fixed}
+use Rattle.meaning.specs.Types.{Number as NumberType, Text as TextType, Basic, number, text, basic, maybe, numberWidth, basicAlignment, basicFixed, alignment, fixed}
 use Rattle.meaning.specs.Values.{BasicValue}
 use Rattle.meaning.specs.Written.{Piece, basicPiece, maybePiece}
 use Rattle.meaning.proofs.PaddingLaws.{by-alignment, padding-none}
 use Rattle.meaning.proofs.TypeLaws.{basic-aligned}
 use Rattle.meaning_writing.specs.Writing.{Built, built, fault, mapped, buildBasic, buildMaybe}
 use Rattle.meaning_writing.specs.Emitting.{itself, emitBasic, emitMaybe, emitOver, emit}
-use Rattle.meaning_writing.proofs.WritingSteps.{Shorter, PlainAt, NotPlain}
+use Rattle.meaning_writing.proofs.WritingSteps.{Shorter, PlainAt}
 use Rattle.meaning_writing.proofs.EmitLaws.{basic-shorter, emit-shorter}
+use Rattle.meaning_writing.proofs.PieceLaws.{basic-alignment as piece-alignment, basic-fixed as piece-fixed}
+use Rattle.meaning.proofs.NumberLaws.{length-bytes}
 use Rattle.container_depths.specs.Opening.{depthsOf, Raises}
 use Rattle.container_depths.specs.declared.ContainerDepths.{ContainerDepths}
 use Rattle.container_depths.specs.declared.Raised.{Raised}
@@ -28,26 +30,12 @@ use Rattle.signature.specs.declared.Letter.the-variants.{Number, Text}
 use Rattle.writer_store.specs.Stores.{cap, sum}
 use Rattle.writer_basic.specs.Wrote.{keyBasic, IsKey, Says, Done, marksOf, DoneAll, aroundChild}
 use Rattle.writer_basic.specs.declared.Answer.{Answer}
-use Rattle.writer_basic.specs.declared.Run.{Run}
-use Rattle.writer_store.proofs.Puts.{length-bytes}
 use Rattle.writer_store.proofs.EndLaws.{kept-not}
 use Rattle.writer_basic.proofs.Answers.{made-of, Bounds, bounds, length-ordered, key-number, key-text, key-aligned, aligns-small, basic-number, basic-text}
 use Rattle.writer_basic.proofs.Openings.{maybe-on}
-use Rattle.writer_basic.proofs.Rows.{run, manyAt, Left, left-all, left-short, left-shut, left-stop, left-next}
+use Rattle.writer_basic.proofs.Rows.{run, manyAt, Left, left-all, left-stop, left-next}
 
 -- ---- basic pieces
-
-basic-piece-alignment : (big : Bool) (b : Basic) (v : BasicValue b) → basicPiece big b v .alignment ≡ basicAlignment b
-unfolding basicPiece
-basic-piece-alignment big bool v = refl
-basic-piece-alignment big (number n) v = refl
-basic-piece-alignment big (text n) v = refl
-
-basic-piece-fixed : (big : Bool) (b : Basic) (v : BasicValue b) → basicPiece big b v .fixed ≡ basicFixed b
-unfolding basicPiece
-basic-piece-fixed big bool v = refl
-basic-piece-fixed big (number n) v = refl
-basic-piece-fixed big (text n) v = refl
 
 module _ (texts : List ℕ) (big : Bool) (b : Basic) (D : Depths) (l : List ℕ) (c : Piece) (r : List ℕ) (e : emitBasic texts big b D l ≡ built c r) where
   pub basic-has : (c .alignment ≡ basicAlignment b) × (c .fixed ≡ basicFixed b)
@@ -55,7 +43,7 @@ module _ (texts : List ℕ) (big : Bool) (b : Basic) (D : Depths) (l : List ℕ)
   basic-has = go (buildBasic texts b l) e
     where
       go : (x : Built (BasicValue b)) → mapped (basicPiece big b) x ≡ built c r → (c .alignment ≡ basicAlignment b) × (c .fixed ≡ basicFixed b)
-      go (built v q) f = unfold mapped in (let z : c ≡ basicPiece big b v = cc in rw z (basic-piece-alignment big b v, basic-piece-fixed big b v))
+      go (built v q) f = unfold mapped in (let z : c ≡ basicPiece big b v = cc in rw z (piece-alignment big b v, piece-fixed big b v))
       go (fault n) f = unfold mapped in absurd (let z : _≡_ {A = ℕ} 0 1 = cc in omega arith)
 
 pub basic-alignment : (texts : List ℕ) (big : Bool) (b : Basic) (D : Depths) (l : List ℕ) (a : ℕ) → a ≡ basicAlignment b → (c : Piece) (r : List ℕ) → emitBasic texts big b D l ≡ built c r → c .alignment ≡ a

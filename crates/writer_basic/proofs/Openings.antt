@@ -1,27 +1,26 @@
 -- A law for each way into a container and out of it before its child: the event, the depth, the type. Assumes nothing.
-use mathlib.Core.Path.{_≡_, refl, ap, sym, subst, subst⁻¹, _∙_}
-use mathlib.Core.List.{List, [], _∷_}
-use mathlib.Core.Option.{Option, none, some}
-use mathlib.Core.Bool.{Bool, true, false, _&&_, false≢true}
+use mathlib.Core.Path.{_≡_, refl, ap, sym, _∙_}
+use mathlib.Core.List.{List}
+use mathlib.Core.Option.{none, some}
+use mathlib.Core.Bool.{Bool, true, false}
 use native.Mathlib.Omega.{arith}
-use Prim.Native.Nat.{ℕ, zero, suc, _+_, _-_, _≤_, _<_, min}
-use lib.Dec.{ltb, eqb}
+use Prim.Native.Nat.{ℕ, _+_, _-_, _≤_}
+use lib.Dec.{eqb}
 use lib.ListN.{length, take, drop, getD, length-drop}
-use borrow.Author.Tests.{eq-eqb, ne-eqb, ltb-false, eqb-true, eqb-false}
-use Rattle.meaning.specs.Choice.{pick}
+use borrow.Author.Tests.{eqb-true, eqb-false}
 use Rattle.meaning.specs.Depths as Depth
 use Rattle.meaning.specs.Depths.{Depths, Opened, opened}
-use Rattle.meaning.specs.Types.{Tree, Fields, variant, maybe, structure, alignment, fixed, largestAlignment, allFixed}
-use Rattle.meaning.specs.TypeText.{typeText, typeOf}
+use Rattle.meaning.specs.Types.{Tree, variant, maybe, structure}
+use Rattle.meaning.specs.TypeText.{typeOf}
 use Rattle.meaning.specs.Written.{Piece, maybePiece, arrayPiece, structurePiece}
-use Rattle.meaning_writing.specs.Writing.{Built, built, fault, Builder, mapped, sealed, whenShallow, onPlain, buildMaybe, buildMany, buildArray, buildStructure, variantBy, buildVariant}
-use Rattle.meaning_writing.specs.Emitting.{itself, variantOf, emitMaybe, emitArray, emitStructure, emitVariant, emit}
+use Rattle.meaning_writing.specs.Writing.{Built, fault, Builder, mapped, sealed, whenShallow, buildMaybe, buildMany, buildArray, buildStructure, variantBy, buildVariant}
+use Rattle.meaning_writing.specs.Emitting.{itself, emitMaybe, emitArray, emitStructure, emitVariant}
 use Rattle.meaning_writing.proofs.WritingSteps.{Shorter, PlainAt, NotPlain, short, other, carrying, onPlain-at, onPlain-not, mapped-built, mapped-fault, shallow-open, shallow-fault, maybe-end, maybe-carries, maybe-nothing, maybe-other, maybe-present, many-enough}
+use Rattle.meaning.proofs.Bounds.{total-most}
 use Rattle.container_depths.specs.Opening.{depthsOf, Raises}
 use Rattle.container_depths.specs.declared.ContainerDepths.{ContainerDepths}
 use Rattle.container_depths.specs.declared.Raised.{Raised}
-use Rattle.container_depths.proofs.Levels.{total-most, raised-to, raised-shallow}
-use Rattle.writer_store.specs.Stores.{cap, puts}
+use Rattle.container_depths.proofs.Levels.{raised-to, raised-shallow}
 use Rattle.writer_basic.specs.Wrote.{Taken, Untaken, Done, aroundChild, aroundValue}
 use Rattle.writer_basic.specs.declared.Context.{Context}
 use Rattle.writer_basic.specs.Wrote.{Shallow}

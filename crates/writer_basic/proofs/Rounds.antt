@@ -1,15 +1,15 @@
 -- What stands round children: a law for each way out of the functions that end a maybe, a row, an array, a structure and a variant.
 -- Assumes nothing.
-use Prim.Native.Nat.{ℕ, zero, suc, _+_, _-_, _*_, _≤_, _<_, min}
-use mathlib.Core.Path.{_≡_, refl, sym, ap, subst, _∙_}
-use mathlib.Core.List.{List, [], _∷_, _++_, append-nil}
+use Prim.Native.Nat.{ℕ, suc, _+_, _-_, _*_, _≤_, _<_, min}
+use mathlib.Core.Path.{_≡_, refl, sym, ap, _∙_}
+use mathlib.Core.List.{List, [], _∷_, _++_}
 use mathlib.Core.Option.{some}
 use mathlib.Core.Bool.{Bool, true, false, false≢true}
 use native.Mathlib.Omega.{arith}
 use native.Mathlib.Nat.{mul-le-mul-left}
 use native.Mathlib.Decide.{decLt}
 use lib.Dec.{leb}
-use lib.ListN.{length, take, drop, set, getD, length-append, length-replicate, length-drop}
+use lib.ListN.{length, take, drop, set, length-append, length-replicate, length-drop}
 use lib.Seq.{length-take-le}
 use borrow.Author.Tests.{leb-true, leb-false}
 use Rattle.meaning.specs.Choice.{pick}
@@ -17,18 +17,18 @@ use Rattle.meaning.specs.Padding.{padding, zeros}
 use Rattle.meaning.specs.Offsets.{firstWidth, writtenWidth, table, backTable}
 use Rattle.meaning.specs.Types.{Tree}
 use Rattle.meaning.specs.TypeText.{typeText}
-use Rattle.meaning.specs.Written.{Piece, stop, layout, ends, fieldEnds, maybePiece, arrayBytes, arrayPiece, structureBytes, variantPiece}
-use Rattle.meaning_writing.specs.Writing.{Built, built, fault, mapped, sealed}
+use Rattle.meaning.specs.Written.{Piece, layout, ends, fieldEnds, maybePiece, arrayBytes, arrayPiece, structureBytes, variantPiece}
+use Rattle.meaning_writing.specs.Writing.{Built, built, mapped, sealed}
 use Rattle.meaning_writing.specs.Emitting.{itself, variantOf}
 use Rattle.meaning_writing.proofs.WritingSteps.{onPlain-at, onPlain-not, sealed-built, sealed-fault, mapped-built, mapped-fault}
+use Rattle.meaning.proofs.LayoutLaws.{length-backTable, length-table, length-ends}
 use Rattle.writer_store.specs.Stores.{cap, sum, puts}
-use Rattle.writer_store.specs.Ends.{endAt, Stored, Room, TableRoom, TableFrom}
-use Rattle.writer_basic.specs.Wrote.{Opens, Made, Done, marksOf, MadeAll, DoneAll, aroundChild, aroundValue, Structured}
+use Rattle.writer_store.specs.Ends.{Stored, Room, TableRoom, TableFrom}
+use Rattle.writer_basic.specs.Wrote.{Opens, Done, marksOf, DoneAll, aroundChild, aroundValue, Structured}
 use Rattle.writer_basic.specs.declared.Answer.{Answer}
 use Rattle.writer_basic.specs.declared.Run.{Run}
 use Rattle.writer_store.proofs.Puts.{puts-none, puts-cons}
 use Rattle.writer_store.proofs.EndLaws.{puts-stored, stored-then, stored-forget, room-in, room-front, room-most}
-use Rattle.writer_store.proofs.TableLaws.{length-back, length-table}
 use Rattle.writer_basic.proofs.Answers.{answer, made-of, fault-of, wrong}
 use Rattle.writer_basic.proofs.Rows.{run, row-of, stop-of, wrongs}
 
@@ -127,11 +127,6 @@ width-room b m start top =
 
 grows : (n w : ℕ) → 0 < w → n ≤ n * w
 grows n w h = let p : n * 1 ≤ n * w = mul-le-mul-left n h in omega arith
-
-pub length-ends : (k : ℕ) (cs : List Piece) → length (ends k cs) ≡ length cs
-unfolding ends
-length-ends k [] = refl
-length-ends k (c ∷ cs) = ap suc (length-ends (stop k c) cs)
 
 -- a body with the table of the ends that were kept of it
 module _ (T : ℕ → List ℕ → List ℕ) (hT : (w : ℕ) (es : List ℕ) → length (T w es) ≡ length es * w) (body ms : List ℕ) (start top size count w u : ℕ) (l l₁ l₂ s s₁ s₂ : List ℕ)
@@ -300,8 +295,8 @@ module _ (P : List Piece → Piece) (x : Built (List Piece)) (ns : List ℕ) (a 
             behind = f .behind;
             forward = h;
             within = f .within;
-            size = rw (p .bytes-are cs) (framed-size backTable length-back (layout 0 cs) (fieldEnds 0 cs) start top (r .size) (r .count) w u l l₁ l₂ s s₁ s₁ (f .size) (f .count) hw hu (f .stored) tb n k);
-            stored = rw (p .bytes-are cs) (framed-stored backTable length-back (layout 0 cs) (fieldEnds 0 cs) start top (r .size) (r .count) w u l l₁ l₂ s s₁ s₁ (f .size) (f .count) hw hu (f .stored) tb n k);
+            size = rw (p .bytes-are cs) (framed-size backTable length-backTable (layout 0 cs) (fieldEnds 0 cs) start top (r .size) (r .count) w u l l₁ l₂ s s₁ s₁ (f .size) (f .count) hw hu (f .stored) tb n k);
+            stored = rw (p .bytes-are cs) (framed-stored backTable length-backTable (layout 0 cs) (fieldEnds 0 cs) start top (r .size) (r .count) w u l l₁ l₂ s s₁ s₁ (f .size) (f .count) hw hu (f .stored) tb n k);
           };
         })
 

@@ -1,20 +1,19 @@
 -- Children in a row: one and then the others, and what the loop over elements keeps. Assumes nothing.
-use Prim.Native.Nat.{ℕ, zero, suc, _+_, _-_, _*_, _%_, _≤_, _<_, min}
+use Prim.Native.Nat.{ℕ, suc, _+_, _-_, _≤_, _<_, min}
 use mathlib.Core.Path.{_≡_, refl, sym, ap, _∙_}
 use mathlib.Core.List.{List, [], _∷_, _++_, append-nil, append-assoc}
 use mathlib.Core.Bool.{Bool, true, false}
 use native.Mathlib.Omega.{arith}
-use native.Mathlib.Nat.{add-zero}
 use native.Mathlib.Decide.{decLt}
-use lib.ListN.{length, take, drop, getD, set, length-append, length-replicate, length-drop}
-use lib.Seq.{take-suc-set}
+use lib.ListN.{length, drop, getD, length-append, length-replicate, length-drop}
 use Rattle.meaning.specs.Padding.{padding, zeros}
 use Rattle.meaning.specs.Written.{Piece, stop, layout, ends, unless, fieldEnds}
 use Rattle.meaning_writing.specs.Writing.{Built, built, fault, mapped, buildMany}
-use Rattle.meaning_writing.proofs.WritingSteps.{Shorter, numbers-at, many-end, many-closes, many-fault, many-more, many-enough, mapped-fault}
+use Rattle.meaning_writing.proofs.WritingSteps.{Shorter, numbers-at, many-end, many-closes, many-fault, many-more, many-enough}
+use Rattle.meaning.proofs.LayoutLaws.{layout-cons, length-layout, layout-none}
 use Rattle.writer_store.specs.Stores.{cap, sum, puts}
 use Rattle.writer_store.specs.Ends.{Stored, Room, Kept}
-use Rattle.writer_basic.specs.Wrote.{Faulted, Made, Says, Done, marksOf, MadeAll, SaysAll, DoneAll}
+use Rattle.writer_basic.specs.Wrote.{Made, Done, marksOf, MadeAll, SaysAll, DoneAll}
 use Rattle.writer_basic.specs.declared.Answer.{Answer}
 use Rattle.writer_basic.specs.declared.Run.{Run}
 use Rattle.writer_store.proofs.Puts.{length-puts, puts-none}
@@ -25,18 +24,6 @@ abbrev pub run : ℕ → ℕ → ℕ → ℕ → Run
 run k n u m = record { refusal = k; next = n; size = u; count = m }
 
 -- ---- layouts and ends
-
-pub layout-cons : (k : ℕ) (c : Piece) (cs : List Piece) → layout k (c ∷ cs) ≡ zeros (padding k (c .alignment)) ++ (c .bytes ++ layout (stop k c) cs)
-unfolding layout
-layout-cons k c cs = refl
-
-pub layout-nil : (k : ℕ) → layout k [] ≡ []
-unfolding layout
-layout-nil k = refl
-
-pub length-layout : (k : ℕ) (c : Piece) (cs : List Piece) → k + length (layout k (c ∷ cs)) ≡ stop k c + length (layout (stop k c) cs)
-unfolding layout stop
-length-layout k c cs = simp (length-append, length-replicate) (omega arith)
 
 -- how many ends are kept does not depend on where the row stands
 abbrev pub Steady : (ℕ → List Piece → List ℕ) → Type 0
@@ -117,9 +104,9 @@ none-more m ns e base top k j l s n h hk hj =
       behind = refl;
       forward = omega arith;
       within = h;
-      size = rw (layout-nil k) (omega arith);
+      size = rw (layout-none k) (omega arith);
       count = omega (arith, q);
-      stored = λ z. rw (layout-nil k, n) (stored-none l s (base + k) (top + j));
+      stored = λ z. rw (layout-none k, n) (stored-none l s (base + k) (top + j));
     }
 
 -- ---- one child, and then the others

@@ -5,9 +5,7 @@ use mathlib.Core.List.{List, []}
 use mathlib.Core.Option.{Option, none, some}
 use mathlib.Core.Bool.{Bool, true, false}
 use lib.ListN.{length, take, drop}
-use Rattle.meaning.specs.Choice.{pick}
 use Rattle.meaning.specs.Depths.{depthRefusal}
-use Rattle.meaning.specs.Letters.{arrayLetter, dictionaryLetter}
 use Rattle.meaning.specs.Refusals.{noValue}
 use Rattle.meaning.specs.Types.{Basic, bool, Tree}
 use Rattle.meaning.specs.Texts.{textRefusal}
@@ -20,7 +18,6 @@ use Rattle.container_depths.specs.Opening.{depthsOf}
 use Rattle.signature.specs.Places.{basicKind}
 use Rattle.signature.specs.declared.Letter.{Letter}
 use Rattle.signature.specs.declared.Letter.the-variants.{End, Bad, Boolean, Number, Text, Variant, Maybe, Array, OpenStructure, CloseStructure, OpenEntry, CloseEntry}
-use Rattle.signature.specs.declared.items.Item.{Item}
 use Rattle.writer_store.specs.Stores.{cap}
 use Rattle.writer_store.specs.Ends.{Stored, Room}
 use Rattle.writer_basic.specs.declared.Answer.{Answer}
@@ -73,10 +70,6 @@ keyBasic CloseEntry = bool
 
 pub record IsKey (k : Letter) : Type 0 where
   pub is : basicKind (keyBasic k) ≡ k
-
--- the kind of an array's first event, or of a dictionary's
-abbrev pub itemKind : Item → ℕ
-itemKind i = pick (i .entry) dictionaryLetter arrayLetter
 
 -- ---- answers
 

@@ -24,7 +24,8 @@ ghost use Rattle.meaning.specs.Letters.{numberLetter, textLetter};
 ghost use Rattle.meaning.specs.Padding.{Aligns};
 ghost use Rattle.meaning_writing.specs.Emitting.{emitBasic};
 ghost use Rattle.writer_store.specs.Stores.{cap};
-ghost use Rattle.writer_basic.specs.Wrote.{Opens, Viewed, keyBasic, IsKey, Done, itemKind};
+ghost use Rattle.writer_basic.specs.Wrote.{Opens, Viewed, keyBasic, IsKey, Done};
+ghost use Rattle.signature.specs.Items.{itemKind};
 
 // The text that an event views, or a refusal.
 pub struct View {

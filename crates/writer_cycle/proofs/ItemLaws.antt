@@ -2,17 +2,16 @@
 use mathlib.Core.Path.{_≡_, refl, ap, sym, subst⁻¹, _∙_}
 use mathlib.Core.Logic.{_⊎_, inl, inr}
 use mathlib.Core.List.{List}
-use mathlib.Core.Bool.{Bool, true, false, _&&_, false≢true}
+use mathlib.Core.Bool.{Bool, true, false, false≢true}
 use native.Mathlib.Omega.{arith}
 use Prim.Native.Nat.{ℕ, zero, suc, _+_, _-_, _≤_}
 use Rattle.meaning.specs.Letters.{numberLetter}
 use Rattle.meaning.specs.Types.{Number as NumberType, numberWidth, byte, int16, uint16, int32, uint32, int64, uint64, double, string, objectPath, signature, Basic, bool, number, text, basicFixed}
 use Rattle.meaning.specs.Types.{Tree, Fields, basic, variant, maybe, array, dictionary, structure, alignment, fixed, largestAlignment, allFixed, entryAlignment, entryFixed}
 use Rattle.meaning.specs.TypeText.{basicAmong}
-use Rattle.meaning.specs.Written.{Piece}
 use Rattle.meaning.proofs.TypeLaws.{aligned}
-use Rattle.meaning_writing.specs.Writing.{Builder}
-use Rattle.meaning_writing.specs.Emitting.{emitBasic, emitMaybe, emitArray, emitEntry, emitStructure, emitVariant, emitOver, emitFields, emit}
+use Rattle.meaning_writing.specs.Emitting.{emitBasic, emitMaybe, emitArray, emitEntry, emitStructure, emitVariant, emitOver, emit}
+use Rattle.meaning.proofs.Tests.{both-true}
 use Rattle.signature.specs.Places.{basicKind, letterAt}
 use Rattle.signature.specs.Items.{heldNumber, itemIn, EntryOf, ElementOf}
 use Rattle.signature.specs.Trees.{treeAt, Described}
@@ -22,8 +21,8 @@ use Rattle.signature.specs.declared.shapes.Shape.{Shape}
 use Rattle.signature.specs.declared.items.Item.{Item}
 use Rattle.signature.proofs.Dispatch.{is-number, is-maybe}
 use Rattle.signature.proofs.ItemLaws.{opens, number-held, entry-of, element-of}
-use Rattle.writer_basic.specs.Wrote.{keyBasic, IsKey, itemKind}
-use Rattle.writer_cycle.specs.Places.{valueOf, fieldsOf, itemOf, NumberItem, Repeated, ItemAt}
+use Rattle.writer_basic.specs.Wrote.{keyBasic, IsKey}
+use Rattle.writer_cycle.specs.Places.{valueOf, fieldsOf, itemOf, NumberItem, ItemAt}
 
 -- ---- what a type is written as, one step
 
@@ -81,10 +80,6 @@ key-of (text signature) = refl
 pub is-key : (b : Basic) → IsKey (basicKind b)
 is-key b = record { is = ap basicKind (key-of b) }
 
-both-first : (x y : Bool) → (x && y) ≡ true → x ≡ true
-both-first true y h = refl
-both-first false y h = h
-
 -- ---- items
 
 abbrev item : Bool → Shape → Letter → Bool → ℕ → Bool → Letter → Item
@@ -104,7 +99,7 @@ module _ (text shapes : List ℕ) (at : ℕ) (b : Basic) (t : Tree) (whole : tre
       aligned = (unfold alignment in aligned (dictionary b t));
       key = λ q. is-key b;
       keyed = λ q. ap basicFixed (sym (key-of b));
-      whole = λ q f. ap basicFixed (key-of b) ∙ both-first (basicFixed b) (fixed t) f;
+      whole = λ q f. ap basicFixed (key-of b) ∙ both-true (basicFixed b) (fixed t) f .0;
       alone = λ q. absurd (false≢true (sym q));
       loose = λ q. absurd (false≢true (sym q));
       number = λ q. absurd (false≢true (sym q));

@@ -16,7 +16,7 @@ use Rattle.meaning.specs.TypeText.{firstType, typeText}
 use Rattle.meaning.specs.Written.{Piece, arrayPiece, structurePiece}
 use Rattle.meaning.proofs.TypeLaws.{number-aligned}
 use Rattle.meaning.proofs.TypeTextLaws.{typeOf-sound}
-use Rattle.meaning_writing.specs.Writing.{Built, built, Builder, mapped, sealed, buildMany}
+use Rattle.meaning_writing.specs.Writing.{Builder, mapped, sealed, buildMany}
 use Rattle.meaning_writing.specs.Emitting.{emitBasic, emitMaybe, emitArray, emitStructure, emitVariant, emit}
 use Rattle.meaning_writing.proofs.WritingSteps.{Shorter, PlainAt, NotPlain}
 use Rattle.container_depths.specs.Opening.{depthsOf, Raises}
@@ -32,7 +32,8 @@ use Rattle.signature.proofs.Letter.{the-type}
 use Rattle.signature.proofs.Answers.{judged-none}
 use Rattle.signature.proofs.Dispatch.{Shown, shown, begins, is-boolean, is-number, is-text, is-variant}
 use Rattle.signature.proofs.TreeLaws.{front, maybe-tree, structure-tree, structure-alignment, structure-fixed}
-use Rattle.writer_basic.specs.Wrote.{itemKind, Taken, Untaken, Done, aroundChild, aroundValue, Structured}
+use Rattle.signature.specs.Items.{itemKind}
+use Rattle.writer_basic.specs.Wrote.{Taken, Untaken, Done, aroundChild, aroundValue, Structured}
 use Rattle.writer_basic.specs.declared.Answer.{Answer}
 use Rattle.writer_basic.proofs.Answers.{answer}
 use Rattle.writer_basic.proofs.Rounds.{part-length}

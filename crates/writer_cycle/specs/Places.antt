@@ -16,7 +16,8 @@ use Rattle.signature.specs.Trees.{treeAt, Described}
 use Rattle.signature.specs.declared.Letter.{Letter}
 use Rattle.signature.specs.declared.Letter.the-variants.{Number}
 use Rattle.signature.specs.declared.items.Item.{Item}
-use Rattle.writer_basic.specs.Wrote.{keyBasic, IsKey, itemKind, Done, DoneAll}
+use Rattle.signature.specs.Items.{itemKind}
+use Rattle.writer_basic.specs.Wrote.{keyBasic, IsKey, Done, DoneAll}
 use Rattle.writer_basic.specs.declared.Answer.{Answer}
 use Rattle.writer_basic.specs.declared.Run.{Run}
 use Rattle.writer_basic.specs.declared.Spot.{Spot}

@@ -1,19 +1,17 @@
 -- Laws of stores: one store and others, where there is room and where there is none; a store more, in a loop. Assumes nothing.
 use Prim.Native.Nat.{ℕ, zero, suc, _+_, _-_, _*_, _/_, _%_, _≤_, _<_, min}
 use mathlib.Core.Path.{_≡_, refl, sym, ap, _∙_}
-use mathlib.Core.List.{List, [], _∷_, _++_, reverse, reverse-cons, append-assoc, append-nil}
+use mathlib.Core.List.{List, [], _∷_, _++_, reverse, reverse-cons}
 use native.Mathlib.Omega.{arith}
 use native.Mathlib.Decide.{decLt}
 use native.Mathlib.Numerals.{add-one}
-use native.Mathlib.Nat.{add-zero, sub-zero}
-use lib.ListN.{length, drop, take, set, getD, length-set, length-append, length-replicate, length-reverse, length-drop, drop-of-length-le}
-use lib.Seq.{sets, sets-eq, set-comm, set-set, set-out, drop-cons, take-suc, take-add, take-length, length-take-le, getD-drop}
-use lib.Dec.{leb}
+use lib.ListN.{length, drop, take, set, getD, length-set, length-reverse, length-drop, drop-of-length-le}
+use lib.Seq.{sets, sets-eq, set-comm, set-set, set-out, drop-cons, take-add, take-length, length-take-le}
 use borrow.Author.Tests.{le-leb, lt-leb}
-use Rattle.meaning.specs.Padding.{Aligns, padding, zeros}
+use Rattle.meaning.specs.Padding.{padding, zeros}
 use Rattle.meaning.specs.Offsets.{firstWidth, writtenWidth}
-use Rattle.meaning.proofs.PaddingLaws.{by-alignment}
 use Rattle.meaning.specs.Numbers.{bytes}
+use Rattle.meaning.proofs.NumberLaws.{length-bytes}
 use Rattle.writer_store.specs.Stores.{cap, puts}
 
 pub puts-none : (l : List ℕ) (i : ℕ) → puts l i [] ≡ l
@@ -81,11 +79,6 @@ bytes-end l at i w y h = let e : w - i ≡ 0 = omega arith in rw e (puts-none l 
 pub bytes-two : (l : List ℕ) (at x : ℕ) → puts l at (bytes 2 x) ≡ set (set l at (x % 256)) (at + 1) (x / 256 % 256)
 unfolding puts bytes
 bytes-two l at x = let f : at + 1 ≡ suc at = omega arith in rw f
-
-pub length-bytes : (w n : ℕ) → length (bytes w n) ≡ w
-unfolding bytes
-length-bytes zero n = refl
-length-bytes (suc w) n = ap suc (length-bytes w _)
 
 pub part-step : (l part : List ℕ) (at i : ℕ) → i < length part → puts l (at + i) (drop i part) ≡ puts (set l (at + i) (getD part i 0)) (at + (i + 1)) (drop (i + 1) part)
 part-step l part at i h =
@@ -186,14 +179,6 @@ turned-step l at (suc i) y h =
 pub turned-end : (l : List ℕ) (at i y : ℕ) → i ≤ 0 → puts l at (reverse (bytes i y)) ≡ l
 unfolding bytes
 turned-end l at i y h = let e : i ≡ 0 = omega arith in rw e (puts-none l at)
-
-pub padding-small : {a : ℕ} → Aligns a → (k : ℕ) → padding k a < 8
-unfolding padding
-padding-small h k = by-alignment (λ a. padding k a < 8) (omega arith) (omega arith) (omega arith) (omega arith) h
-
--- the last alignment is 8
-pub eight-left : {w : ℕ} → Aligns w → (w ≡ 1 → ⊥) → (w ≡ 2 → ⊥) → (w ≡ 4 → ⊥) → w ≡ 8
-eight-left h = by-alignment (λ w. (w ≡ 1 → ⊥) → (w ≡ 2 → ⊥) → (w ≡ 4 → ⊥) → w ≡ 8) (λ a b c. absurd (a refl)) (λ a b c. absurd (b refl)) (λ a b c. absurd (c refl)) (λ a b c. refl) h
 
 -- padding by the alignment
 pub gap-1 : (p a : ℕ) → a ≡ 1 → (0 ≡ padding p a) × (0 < 8)

@@ -1,18 +1,20 @@
 -- Tables of offsets from the ends that are kept: what the loops that turn them round and store them keep. Assumes nothing.
-use Prim.Native.Nat.{ℕ, zero, suc, _+_, _-_, _*_, _/_, _%_, _≤_, _<_}
+use Prim.Native.Nat.{ℕ, suc, _+_, _-_, _*_, _/_, _%_, _≤_, _<_}
 use mathlib.Core.Path.{_≡_, refl, sym, ap, _∙_}
 use mathlib.Core.List.{List, [], _∷_, _++_, reverse, reverse-cons, append-assoc, append-nil}
 use native.Mathlib.Omega.{arith}
 use native.Mathlib.Nat.{mul-le-mul-left, mul-le-mul-right, add-mul}
 use native.Mathlib.Numerals.{add-one}
 use native.Mathlib.Decide.{decLt}
-use lib.ListN.{length, take, drop, getD, set, length-set, length-append, length-reverse, List·getD-append}
+use lib.ListN.{length, take, drop, getD, set, length-set, length-reverse, List·getD-append}
 use lib.Seq.{drop-cons, getD-at, drop-length, take-suc, take-length}
 use Rattle.meaning.specs.Numbers.{bytes}
 use Rattle.meaning.specs.Offsets.{table, backTable}
+use Rattle.meaning.proofs.NumberLaws.{length-bytes}
+use Rattle.meaning.proofs.LayoutLaws.{length-table, length-backTable, backTable-cons, table-append, backTable-reverse}
 use Rattle.writer_store.specs.Stores.{puts}
 use Rattle.writer_store.specs.Ends.{tail, endAt, Stored, EndAt, PutEnd, Swapped, Turned, TableRoom, TableFrom}
-use Rattle.writer_store.proofs.Puts.{length-bytes, length-puts}
+use Rattle.writer_store.proofs.Puts.{length-puts}
 use Rattle.writer_store.proofs.EndLaws.{end-near, puts-stored, look-far, put-far}
 
 -- ---- ends are turned round: i in front and from j on they are, those between are as they were
@@ -124,20 +126,6 @@ module _ {top count : ℕ} {l₀ s₀ : List ℕ} {i j : ℕ} {l s : List ℕ} (
 
 -- ---- a table is stored from the back: j ends are still to be stored
 
-pub length-back : (w : ℕ) (es : List ℕ) → length (backTable w es) ≡ length es * w
-unfolding backTable
-length-back w [] = omega arith
-length-back w (e ∷ es) = simp (length-append, length-bytes, length-back w es) (omega arith)
-
-pub length-table : (w : ℕ) (es : List ℕ) → length (table w es) ≡ length es * w
-unfolding table
-length-table w [] = omega arith
-length-table w (e ∷ es) = simp (length-append, length-bytes, length-table w es) (omega arith)
-
-back-cons : (w e : ℕ) (es : List ℕ) → backTable w (e ∷ es) ≡ backTable w es ++ bytes w e
-unfolding backTable
-back-cons w e es = refl
-
 -- what is stored already, and the ends that are still to come
 pub record BackStored (w at top : ℕ) (l₀ s : List ℕ) (j place : ℕ) (l es : List ℕ) : Type 0 where
   pub bytes-are : take place l ≡ take at l₀ ++ backTable w (drop j es)
@@ -191,7 +179,7 @@ module _ {w at top count : ℕ} {l₀ s : List ℕ} {j place : ℕ} {l : List �
           let d : drop j′ es ≡ getD es j′ 0 ∷ drop j es = rw z (drop-cons es j′ 0 (omega (arith, q .many, b .few))) in
           let y : take (place + w) l′ ≡ take place l ++ bytes w x = rw n at (one .bytes-are) in
           record {
-            bytes-are = y ∙ rw (u .bytes-are, d, ← next-is, back-cons w x (drop j es)) (append-assoc (take at l₀) (backTable w (drop j es)) (bytes w x));
+            bytes-are = y ∙ rw (u .bytes-are, d, ← next-is, backTable-cons w x (drop j es)) (append-assoc (take at l₀) (backTable w (drop j es)) (bytes w x));
             same = λ i g. one .same i g ∙ u .same i (omega arith);
           }
 
@@ -209,7 +197,7 @@ module _ {w at top count : ℕ} {l₀ s : List ℕ} {j place : ℕ} {l : List �
     stored = λ es q.
         let u = b .stored es q in
         let z : j ≡ 0 = omega arith in
-        let n : at + length (backTable w es) ≡ place = omega (arith, length-back w es, ap (λ (k : ℕ). k * w) (q .many), b .place-is, ap (λ (k : ℕ). k * w) z) in
+        let n : at + length (backTable w es) ≡ place = omega (arith, length-backTable w es, ap (λ (k : ℕ). k * w) (q .many), b .place-is, ap (λ (k : ℕ). k * w) z) in
         record {
           bytes-are = rw n (u .bytes-are ∙ rw z);
           same = λ i g. u .same i (omega arith);
@@ -221,11 +209,6 @@ pub table-past : (T : List ℕ → List ℕ) (at w top count : ℕ) (l s : List 
 table-past T at w top count l s h = record { stored = λ es q. absurd (omega (arith, q .before)) }
 
 -- ---- in order, where all stand in their slice: j ends are stored
-
-table-append : (w : ℕ) (xs ys : List ℕ) → table w (xs ++ ys) ≡ table w xs ++ table w ys
-unfolding table
-table-append w [] ys = refl
-table-append w (x ∷ xs) ys = rw (table-append w xs ys) (sym (append-assoc (bytes w x) (table w xs) (table w ys)))
 
 table-one : (w e : ℕ) → table w (e ∷ []) ≡ bytes w e
 unfolding table
@@ -281,16 +264,6 @@ module _ {w at top count : ℕ} {l₀ s : List ℕ} {j place : ℕ} {l : List �
 
 -- ---- in order: turned round, and from the back
 
-back-snoc : (w : ℕ) (xs : List ℕ) (x : ℕ) → backTable w (xs ++ (x ∷ [])) ≡ bytes w x ++ backTable w xs
-unfolding backTable
-back-snoc w [] x = sym (append-nil (bytes w x))
-back-snoc w (y ∷ xs) x = rw (back-snoc w xs x) (append-assoc (bytes w x) (backTable w xs) (bytes w y))
-
-back-reverse : (w : ℕ) (es : List ℕ) → backTable w (reverse es) ≡ table w es
-unfolding backTable table
-back-reverse w [] = refl
-back-reverse w (e ∷ es) = rw (reverse-cons e es) (back-snoc w (reverse es) e ∙ ap (λ (x : List ℕ). bytes w e ++ x) (back-reverse w es))
-
 reverse-at : (es : List ℕ) (i : ℕ) → i < length es → getD (reverse es) i 0 ≡ getD es (length es - 1 - i) 0
 reverse-at [] i h = absurd (omega arith)
 reverse-at (e ∷ es) i h = rw (reverse-cons e es) (go (decLt i (length es)) (λ g. reverse-at es i g))
@@ -321,7 +294,7 @@ table-turned {w} {at} {top} {count} {l} {l₁} {l₂} {s} {s₁} t n m f = recor
 
     by : (es : List ℕ) → TableRoom l s at w top count es → Stored l₁ s₁ l₂ s₁ at (backTable w (reverse es)) top [] → Stored l s l₂ s₁ at (table w es) top []
     by es q u = record {
-      bytes-are = rw (← back-reverse w es) (u .bytes-are ∙ rw (t .front (omega (arith, q .before)) (q .ready) at (q .before)));
+      bytes-are = rw (← backTable-reverse w es) (u .bytes-are ∙ rw (t .front (omega (arith, q .before)) (q .ready) at (q .before)));
       same = λ i g. u .same i g ∙ t .below (omega (arith, q .before)) (q .ready) i g;
       has = λ i g. absurd (omega arith);
     }

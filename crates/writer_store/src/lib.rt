@@ -3,7 +3,7 @@
 pub mod ends;
 
 ghost use mathlib.Core.Path.{_≡_};
-ghost use Prim.Native.Nat.{ℕ, _+_, _≤_, _<_, _^_, _%_, min};
+ghost use Prim.Native.Nat.{_+_, _≤_, _<_, _^_, _%_, min};
 ghost use mathlib.Core.Bool.{true, false};
 ghost use mathlib.Core.List.{[], _∷_, _++_};
 ghost use lib.ListN.{length, set, take, drop};
@@ -68,7 +68,7 @@ pub fn pad(out: &mut [u8], at: usize, place: usize, alignment: usize) -> usize
     count
 }
 
-pub fn low(x: u64) -> u8
+pub(crate) fn low(x: u64) -> u8
     ensures { λ r. ⌜ r ≡ x % 256 ⌝ }
 {
     (x % 256) as u8
@@ -87,7 +87,7 @@ fn takes_two(out: &[u8], at: usize, width: usize) -> bool
 }
 
 // A number as so many bytes, the lowest first. Two, as most offsets have, are stored at once.
-pub fn digits(out: &mut [u8], at: usize, width: usize, x: u64)
+pub(crate) fn digits(out: &mut [u8], at: usize, width: usize, x: u64)
     requires { ⌜ at + width < 2 ^ 32 ⌝ }
     ensures { λ r. ⌜ now (out .exit) ≡ puts (now (out .entry)) at (bytes width x) ⌝ }
 {

@@ -2,7 +2,6 @@
 use mathlib.Core.Path.{ap}
 use Rattle.signature.specs.declared.shapes.Shape.{Shape}
 use Rattle.signature.proofs.TreeLaws.{front}
-use Rattle.strict_cycle.proofs.Variants.{front-placed}
 use Rattle.editor.proofs.Wholes.{whole-ready, whole-walks}
 use borrow.Author.Needs.{needs}
 use Rattle.editor.proofs.whole.Statement.{statement}
@@ -12,6 +11,7 @@ use Rattle.editor.proofs.whole.Lts as lts
 use Rattle.container_depths.proofs.ContainerDepths.new.Reads as new-reads
 use Rattle.editor_cycle.proofs.value.Reads as value-reads
 use Rattle.signature.proofs.shapes.shape_in.Reads as shape-in-reads
+use Rattle.strict_basic.proofs.TableLaws.{front-placed}
 
 -- src/lib.rt:149:9
 new-requires : tie.Need-new-requires

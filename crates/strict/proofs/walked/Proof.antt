@@ -1,9 +1,8 @@
 -- `walked` meets its contract. Assumes nothing.
-use mathlib.Core.Path.{_≡_, refl, sym, ap, _∙_}
+use mathlib.Core.Path.{sym, ap, _∙_}
 use Rattle.reader_basic.proofs.Answers.{granted, denied}
 use Rattle.signature.specs.declared.shapes.Shape.{Shape}
 use Rattle.signature.proofs.TreeLaws.{front}
-use Rattle.strict_cycle.proofs.Variants.{front-placed}
 use Rattle.strict.proofs.Wholes.{inside-frame, walk-untyped, walk-long, walk-written, walk-not}
 use borrow.Author.Needs.{needs}
 use Rattle.strict.proofs.walked.Statement.{statement}
@@ -13,6 +12,7 @@ use Rattle.strict.proofs.walked.Lts as lts
 use Rattle.container_depths.proofs.ContainerDepths.new.Reads as new-reads
 use Rattle.signature.proofs.shapes.shape_in.Reads as shape-in-reads
 use Rattle.strict_basic.proofs.sizes.tables_of.Reads as tables-of-reads
+use Rattle.strict_basic.proofs.TableLaws.{front-placed}
 use Rattle.strict_cycle.proofs.value.Reads as value-reads
 
 -- src/lib.rt:39:30

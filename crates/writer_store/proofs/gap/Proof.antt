@@ -1,11 +1,12 @@
 -- `writer_store::gap` meets its contract. Assumes nothing.
-use Rattle.writer_store.proofs.Puts.{gap-1, gap-2, gap-4, gap-8, eight-left}
+use Rattle.writer_store.proofs.Puts.{gap-1, gap-2, gap-4, gap-8}
 use native.Mathlib.Omega.{arith}
 use borrow.Author.Needs.{needs}
 use Rattle.writer_store.proofs.gap.Statement.{statement}
 use Rattle.writer_store.proofs.gap.Tie as tie
 use Rattle.writer_store.proofs.gap.Reads as reads
 use Rattle.writer_store.proofs.gap.Lts as lts
+use Rattle.meaning.proofs.PaddingLaws.{eight-left}
 
 -- src/lib.rt:52:15
 sub-result : tie.Need-sub-result

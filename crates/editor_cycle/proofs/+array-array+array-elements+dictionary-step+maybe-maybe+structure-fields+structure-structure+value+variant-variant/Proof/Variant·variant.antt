@@ -1,7 +1,7 @@
 -- The needs of `variant·variant`, and what answers each.
 use Prim.Native.Nat.{ℕ}
 use Rattle.editor_steps.proofs.Values.{value-variant, variant-ready}
-use Rattle.editor_steps.proofs.Variants.{front-placed, separator-positive, signature-short, typed-ready, variant-closed, variant-deeper, variant-fits, variant-untyped}
+use Rattle.editor_steps.proofs.Variants.{separator-positive, signature-short, typed-ready, variant-closed, variant-deeper, variant-fits, variant-untyped}
 use Rattle.editor_steps.proofs.WalkLaws.{counts}
 use Rattle.reader_basic.proofs.Answers.{denied, granted}
 use Rattle.reader_basic.proofs.Loops.{tail}
@@ -23,6 +23,7 @@ use of.variant.variant.Reads as variant·variant
 use Rattle.reader_basic.proofs.basic.separator.Reads as separator-reads
 use Rattle.signature.proofs.shapes.shape_in.Reads as shape-in-reads
 use Rattle.strict_basic.proofs.sizes.tables_of.Reads as tables-of-reads
+use Rattle.strict_basic.proofs.TableLaws.{front-placed}
 
 abbrev variant·variant-callees : ℕ → variant·variant-lts.Claims
 variant·variant-callees t = (

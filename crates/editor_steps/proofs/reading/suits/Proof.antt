@@ -1,8 +1,9 @@
 -- `suits` meets its contract. Assumes nothing.
 use native.Mathlib.Omega.{arith}
-use Rattle.editor_steps.proofs.ReadingLaws.{eight-fits, eight-left}
 use Rattle.editor_steps.proofs.reading.suits.Statement.{statement}
 use Rattle.editor_steps.proofs.reading.suits.Tie as tie
+use Rattle.meaning.proofs.PaddingLaws.{eight-left}
+use Rattle.meaning.proofs.NumberLaws.{eight-fits}
 
 -- src/reading.rt:34:1
 returns : tie.Need-returns

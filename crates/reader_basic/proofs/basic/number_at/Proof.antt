@@ -2,9 +2,9 @@
 use mathlib.Core.Path.{_∙_}
 use borrow.Author.Needs.{needs}
 use Rattle.byte_order.proofs.Standings.{byte-number}
-use Rattle.reader_basic.proofs.Leaves.{eight-left}
 use Rattle.reader_basic.proofs.basic.number_at.Statement.{statement}
 use Rattle.reader_basic.proofs.basic.number_at.Tie as tie
+use Rattle.meaning.proofs.PaddingLaws.{eight-left}
 
 byte-at-requires : tie.Need-byte-at-requires
 byte-at-requires c κs = search needs

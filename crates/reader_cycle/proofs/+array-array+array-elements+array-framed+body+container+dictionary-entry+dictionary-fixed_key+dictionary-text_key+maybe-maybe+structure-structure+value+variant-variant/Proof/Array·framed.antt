@@ -2,7 +2,8 @@
 use Prim.Native.Nat.{_+_, _-_, ℕ}
 use Rattle.framing_offsets.specs.Tables.{tableIn}
 use Rattle.meaning.specs.Offsets.{endsOf}
-use Rattle.reader_basic.proofs.Loops.{FramedLeft, ends-below, framed-begin, framed-end, framed-next, framed-stop, kept, length-ends, next-end}
+use Rattle.meaning.proofs.Bounds.{length-ends}
+use Rattle.reader_basic.proofs.Loops.{FramedLeft, ends-below, framed-begin, framed-end, framed-next, framed-stop, kept, next-end}
 use Rattle.reader_basic.specs.Answers.{Between}
 use Rattle.reader_steps.proofs.Arrays.{offset-told}
 use Rattle.reader_steps.proofs.Deepening.{arrived, told}

@@ -1,11 +1,10 @@
 -- The needs of `dictionary·fixed_key`, and what answers each.
 use Prim.Native.Nat.{_+_, ℕ}
 use Rattle.container_depths.specs.Opening.{depthsOf}
-use Rattle.reader_basic.proofs.Leaves.{child-before}
+use Rattle.reader_basic.proofs.Leaves.{child-before, within-child}
 use Rattle.reader_steps.proofs.Characters.{key-read, part-fits}
 use Rattle.reader_steps.proofs.Deepening.{told}
 use Rattle.reader_steps.proofs.Entries.{fixed-key-padded, fixed-key-stop, fixed-key-value}
-use Rattle.reader_steps.proofs.Readers.{within-child}
 use Rattle.reader_steps.proofs.Repeats.{and-second, value-within}
 use Rattle.reader_steps.specs.Rides.{contextOf}
 use borrow.Author.Needs.{needs}

@@ -1,9 +1,8 @@
 -- The needs of `value`, and what answers each.
 use Prim.Native.Nat.{ℕ}
-use Rattle.reader_basic.proofs.Leaves.{child-before, child-past, child-there}
+use Rattle.reader_basic.proofs.Leaves.{child-before, child-past, child-there, within-child}
 use Rattle.reader_steps.proofs.Characters.{contains-code, typed-within, value-leaf}
 use Rattle.reader_steps.proofs.Deepening.{told}
-use Rattle.reader_steps.proofs.Readers.{within-child}
 use borrow.Author.Needs.{needs}
 use native.Mathlib.Omega.{arith}
 use Rattle.reader_cycle.proofs as of

@@ -1,4 +1,4 @@
--- `reader_basic::numbers::byte_run` meets its contract. Assumes nothing.
+-- `reader_runs::numbers::byte_run` meets its contract. Assumes nothing.
 use mathlib.Core.Path.{sym, _∙_}
 use mathlib.Core.Bool.{Bool, false}
 use Prim.Native.Nat.{_-_}

@@ -1,4 +1,4 @@
--- `reader_basic::numbers::child_reading` meets its contract. Assumes nothing.
+-- `reader_runs::numbers::child_reading` meets its contract. Assumes nothing.
 use Rattle.reader_basic.proofs.Leaves.{child-before, child-there, within-child}
 use borrow.Author.Needs.{needs}
 use Rattle.reader_runs.proofs.numbers.child_reading.Statement.{statement}

@@ -1,4 +1,4 @@
--- `reader_basic::numbers::counted` meets its contract. Assumes nothing.
+-- `reader_runs::numbers::counted` meets its contract. Assumes nothing.
 use mathlib.Core.Path.{_∙_}
 use native.Mathlib.Nat.{mod-le}
 use borrow.Author.Needs.{needs}

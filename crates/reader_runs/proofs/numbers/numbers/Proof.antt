@@ -1,4 +1,4 @@
--- `reader_basic::numbers::numbers` meets its contract. Assumes nothing.
+-- `reader_runs::numbers::numbers` meets its contract. Assumes nothing.
 use Rattle.reader_basic.proofs.Leaves.{within-child}
 use native.Mathlib.Omega.{arith}
 use lib.ListN.{length, length-take, length-drop}

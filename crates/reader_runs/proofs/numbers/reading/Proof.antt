@@ -1,4 +1,4 @@
--- `reader_basic::numbers::reading` meets its contract. Assumes nothing.
+-- `reader_runs::numbers::reading` meets its contract. Assumes nothing.
 use Rattle.meaning.specs.Reading.{pad}
 use lib.ListN.{length}
 use mathlib.Core.Path.{sym, _∙_}

@@ -1,4 +1,4 @@
--- `reader_basic::numbers::reading_number` meets its contract. Assumes nothing.
+-- `reader_runs::numbers::reading_number` meets its contract. Assumes nothing.
 use borrow.Author.Needs.{needs}
 use Rattle.reader_runs.proofs.numbers.reading_number.Statement.{statement}
 use Rattle.reader_runs.proofs.numbers.reading_number.Tie as tie

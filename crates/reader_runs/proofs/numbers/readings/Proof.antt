@@ -1,4 +1,4 @@
--- `reader_basic::numbers::readings` meets its contract. Assumes nothing.
+-- `reader_runs::numbers::readings` meets its contract. Assumes nothing.
 use native.Mathlib.Omega.{arith}
 use Prim.Native.Nat.{_+_, _-_}
 use mathlib.Core.Bool.{true}

@@ -1,4 +1,4 @@
--- `reader_basic::numbers::run` meets its contract. Assumes nothing.
+-- `reader_runs::numbers::run` meets its contract. Assumes nothing.
 use mathlib.Core.Path.{_∙_}
 use Prim.Native.Nat.{_-_}
 use native.Mathlib.Omega.{arith}

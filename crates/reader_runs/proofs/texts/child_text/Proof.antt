@@ -1,4 +1,4 @@
--- `reader_basic::texts_run::child_text` meets its contract. Assumes nothing.
+-- `reader_runs::texts::child_text` meets its contract. Assumes nothing.
 use Rattle.reader_basic.proofs.Leaves.{child-before, child-there}
 use borrow.Author.Needs.{needs}
 use Rattle.reader_runs.proofs.texts.child_text.Statement.{statement}

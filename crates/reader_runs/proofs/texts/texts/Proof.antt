@@ -1,4 +1,4 @@
--- `reader_basic::texts_run::texts` meets its contract. Assumes nothing.
+-- `reader_runs::texts::texts` meets its contract. Assumes nothing.
 use Prim.Native.Nat.{_+_, _-_}
 use native.Mathlib.Omega.{arith}
 use borrow.Author.Needs.{needs}

@@ -1,4 +1,4 @@
--- `reader_cycle::array::kind_by` meets its contract. Assumes nothing.
+-- `reader_steps::array::kind_by` meets its contract. Assumes nothing.
 use borrow.Author.Tests.{eq-eqb, ne-eqb}
 use Rattle.reader_steps.proofs.array.kind_by.Statement.{statement}
 use Rattle.reader_steps.proofs.array.kind_by.Tie as tie

@@ -1,6 +1,5 @@
--- `reader_cycle::array::repeats_fixed` meets its contract. Assumes nothing.
-use mathlib.Core.Path.{sym, ap, _∙_}
-use mathlib.Core.Bool.{Bool, _&&_}
+-- `reader_steps::array::repeats_fixed` meets its contract. Assumes nothing.
+use mathlib.Core.Path.{sym, _∙_}
 use native.Mathlib.Omega.{arith}
 use borrow.Author.Needs.{needs}
 use Rattle.reader_steps.proofs.Repeats.{item-within, entry-there, fixed-entry, fixed-text-entry, fixed-element}

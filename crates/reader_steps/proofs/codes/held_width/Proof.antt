@@ -1,4 +1,4 @@
--- `reader_cycle::codes::held_width` meets its contract. Assumes nothing.
+-- `reader_steps::codes::held_width` meets its contract. Assumes nothing.
 use mathlib.Core.Path.{refl, _∙_}
 use Prim.Native.Nat.{_+_}
 use native.Mathlib.Omega.{arith}

@@ -1,4 +1,4 @@
--- `reader_cycle::codes::is_fixed` meets its contract. Assumes nothing.
+-- `reader_steps::codes::is_fixed` meets its contract. Assumes nothing.
 use mathlib.Core.Path.{sym, ap, _∙_}
 use borrow.Author.Needs.{needs}
 use Rattle.meaning.specs.TypeText.{basicAmong}

@@ -1,7 +1,6 @@
--- `reader_cycle::codes::is_text` meets its contract. Assumes nothing.
+-- `reader_steps::codes::is_text` meets its contract. Assumes nothing.
 use mathlib.Core.Path.{_≡_}
 use mathlib.Core.Logic.{⊎-elim, inl, inr}
-use Prim.Native.Nat.{ℕ}
 use Rattle.meaning.specs.Letters.{textLetter}
 use Rattle.meaning.specs.TypeText.{basicAmong}
 use Rattle.meaning.specs.Types.{Text, string, objectPath, signature}

@@ -1,7 +1,6 @@
--- `reader_cycle::codes::leaf` meets its contract. Assumes nothing.
-use mathlib.Core.Path.{refl, sym, _∙_}
+-- `reader_steps::codes::leaf` meets its contract. Assumes nothing.
+use mathlib.Core.Path.{sym, _∙_}
 use borrow.Author.Needs.{needs}
-use Rattle.reader_steps.specs.Rides.{contextOf}
 use Rattle.reader_steps.proofs.Characters.{number-code, code-aligned, text-code, leaf-as, leaf-bool}
 use Rattle.reader_steps.proofs.Rides.{inside-as, number-as}
 use Rattle.reader_steps.proofs.codes.leaf.Statement.{statement}

@@ -1,4 +1,4 @@
--- `reader_cycle::codes::number_width` meets its contract. Assumes nothing.
+-- `reader_steps::codes::number_width` meets its contract. Assumes nothing.
 use mathlib.Core.Path.{_≡_}
 use mathlib.Core.Logic.{⊎-elim, inl, inr}
 use Rattle.meaning.specs.Letters.{numberLetter}

@@ -1,4 +1,4 @@
--- `reader_cycle::dictionary::key_ends` meets its contract. Assumes nothing.
+-- `reader_steps::dictionary::key_ends` meets its contract. Assumes nothing.
 use Rattle.reader_steps.proofs.Entries.{key-ends-before, key-ends-past, key-ends-there, key-end}
 use mathlib.Core.Path.{_∙_}
 use native.Mathlib.Omega.{arith}

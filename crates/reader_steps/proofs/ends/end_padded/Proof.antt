@@ -1,4 +1,4 @@
--- `reader_cycle::ends::end_padded` meets its contract. Assumes nothing.
+-- `reader_steps::ends::end_padded` meets its contract. Assumes nothing.
 use Prim.Native.Nat.{_+_, _%_}
 use native.Mathlib.Omega.{arith}
 use Rattle.reader_basic.proofs.Leaves.{pads-at, ending-missing, ending-there}

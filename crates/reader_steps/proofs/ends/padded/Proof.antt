@@ -1,4 +1,4 @@
--- `reader_cycle::ends::padded` meets its contract. Assumes nothing.
+-- `reader_steps::ends::padded` meets its contract. Assumes nothing.
 use mathlib.Core.Path.{_∙_}
 use native.Mathlib.Omega.{arith}
 use Rattle.reader_steps.proofs.Paddings.{aligns-some, none-there, too-short, zeros-there, other-there}

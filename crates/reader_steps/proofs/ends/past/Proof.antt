@@ -1,4 +1,4 @@
--- `reader_cycle::ends::past` meets its contract. Assumes nothing.
+-- `reader_steps::ends::past` meets its contract. Assumes nothing.
 use Rattle.reader_basic.proofs.Answers.{stopped, ended}
 use Rattle.reader_steps.proofs.Deepening.{told}
 use mathlib.Core.Path.{refl}

@@ -1,4 +1,4 @@
--- `reader_cycle::maybe::end_byte` meets its contract. Assumes nothing.
+-- `reader_steps::maybe::end_byte` meets its contract. Assumes nothing.
 use Rattle.reader_steps.proofs.Maybes.{end-byte-stop, end-byte-other, end-byte-zero}
 use Rattle.reader_steps.proofs.Deepening.{told}
 use native.Mathlib.Omega.{arith}

@@ -1,4 +1,4 @@
--- `reader_cycle::opening::is_full` meets its contract. Assumes nothing.
+-- `reader_steps::opening::is_full` meets its contract. Assumes nothing.
 use Rattle.reader_steps.proofs.Rides.{shallow, full-by}
 use mathlib.Core.Path.{ap}
 use native.Mathlib.Omega.{arith}

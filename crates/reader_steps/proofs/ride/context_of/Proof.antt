@@ -1,4 +1,4 @@
--- `reader_cycle::ride::context_of` meets its contract. Assumes nothing.
+-- `reader_steps::ride::context_of` meets its contract. Assumes nothing.
 use Rattle.reader_steps.specs.Rides.{contextOf}
 use borrow.Author.Needs.{needs}
 use Rattle.reader_steps.proofs.ride.context_of.Statement.{statement}

@@ -1,4 +1,4 @@
--- `reader_cycle::ride::ride_of` meets its contract. Assumes nothing.
+-- `reader_steps::ride::ride_of` meets its contract. Assumes nothing.
 use Rattle.reader_steps.proofs.Rides.{begins-big, begins-little}
 use borrow.Author.Needs.{needs}
 use Rattle.reader_steps.proofs.ride.ride_of.Statement.{statement}

@@ -1,4 +1,4 @@
--- `reader_cycle::structure::close_fields` meets its contract. Assumes nothing.
+-- `reader_steps::structure::close_fields` meets its contract. Assumes nothing.
 use Rattle.reader_steps.proofs.Structures.{closed-by-padding, closed-by-table}
 use mathlib.Core.Path.{_∙_, sym}
 use borrow.Author.Needs.{needs}

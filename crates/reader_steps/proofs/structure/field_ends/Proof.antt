@@ -1,4 +1,4 @@
--- `reader_cycle::structure::field_ends` meets its contract. Assumes nothing.
+-- `reader_steps::structure::field_ends` meets its contract. Assumes nothing.
 use Rattle.reader_steps.proofs.Structures.{ends-fixed, ends-missing, ends-there, offset-small, offset-there, width-small}
 use mathlib.Core.Path.{_∙_, sym}
 use native.Mathlib.Omega.{arith}

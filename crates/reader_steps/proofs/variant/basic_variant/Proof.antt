@@ -1,8 +1,7 @@
--- `reader_cycle::variant::basic_variant` meets its contract. Assumes nothing.
+-- `reader_steps::variant::basic_variant` meets its contract. Assumes nothing.
 use Rattle.reader_steps.proofs.Variants.{basic-deep, basic-closed}
 use Rattle.reader_steps.proofs.Deepening.{told, inside-deeper, few-variants}
 use Rattle.reader_steps.proofs.Characters.{leaf-child}
-use Rattle.reader_steps.proofs.Readers.{within-child}
 use Prim.Native.Nat.{_-_}
 use Rattle.container_depths.specs.Opening.{depthsOf}
 use Rattle.reader_steps.specs.Rides.{contextOf}
@@ -15,6 +14,7 @@ use Rattle.reader_steps.proofs.variant.basic_variant.Lts as lts
 use Rattle.events.proofs.emit.Reads as emit-reads
 use Rattle.reader_steps.proofs.codes.leaf.Reads as leaf-reads
 use Rattle.reader_basic.proofs.refused.Reads as refused-reads
+use Rattle.reader_basic.proofs.Leaves.{within-child}
 use Rattle.reader_steps.proofs.opening.in_variant.Reads as in-variant-reads
 use Rattle.reader_steps.proofs.variant.close_variant.Reads as close-variant-reads
 use Rattle.reader_steps.proofs.codes.leaf.Reads as leaf-reads

@@ -1,4 +1,4 @@
--- `reader_cycle::variant::close_variant` meets its contract. Assumes nothing.
+-- `reader_steps::variant::close_variant` meets its contract. Assumes nothing.
 use Rattle.reader_steps.proofs.Variants.{variant-stop, variant-end}
 use Rattle.reader_steps.proofs.Deepening.{told}
 use borrow.Author.Needs.{needs}

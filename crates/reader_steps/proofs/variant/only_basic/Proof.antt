@@ -1,4 +1,4 @@
--- `reader_cycle::variant::only_basic` meets its contract. Assumes nothing.
+-- `reader_steps::variant::only_basic` meets its contract. Assumes nothing.
 use mathlib.Core.Path.{refl, sym, _∙_}
 use native.Mathlib.Omega.{arith}
 use borrow.Author.Needs.{needs}

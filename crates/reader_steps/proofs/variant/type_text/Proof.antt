@@ -1,4 +1,4 @@
--- `reader_cycle::variant::type_text` meets its contract. Assumes nothing.
+-- `reader_steps::variant::type_text` meets its contract. Assumes nothing.
 use Rattle.reader_steps.proofs.Variants.{type-text-refused, type-text-there}
 use Rattle.reader_steps.proofs.Deepening.{told}
 use Rattle.meaning.specs.Texts.{textRefusal}

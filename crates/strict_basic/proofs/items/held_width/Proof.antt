@@ -1,9 +1,7 @@
 -- `held_width` meets its contract. Assumes nothing.
-use mathlib.Core.Path.{_≡_, refl, sym, ap, subst⁻¹, _∙_}
-use mathlib.Core.Bool.{Bool}
-use Rattle.signature.specs.declared.Letter.{Letter}
-use Rattle.meaning.specs.Choice.{pick}
-use Rattle.strict_basic.specs.Items.{numberWidthOf, heldWidth}
+use mathlib.Core.Path.{sym, ap, _∙_}
+use Rattle.signature.specs.Steps.{widthBy}
+use Rattle.strict_basic.specs.Items.{heldWidth}
 use Rattle.strict_basic.proofs.ItemLaws.{number-not}
 use borrow.Author.Needs.{needs}
 use Rattle.strict_basic.proofs.items.held_width.Statement.{statement}
@@ -23,7 +21,7 @@ enum-known-number c = search needs
 -- src/items.rt:42:1
 returns-2 : tie.Need-returns-2
 returns-2 c =
-    sym (ap (heldWidth (c .before .before .before .before .args .number)) (c .before .before .before .if1 .left) ∙ ap numberWidthOf (c .before .number .given .1))
+    sym (ap (heldWidth (c .before .before .before .before .args .number)) (c .before .before .before .if1 .left) ∙ ap widthBy (c .before .number .given .1))
 
 -- src/items.rt:42:1
 returns-3 : tie.Need-returns-3

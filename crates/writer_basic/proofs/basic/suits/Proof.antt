@@ -1,11 +1,11 @@
 -- `writer_basic::basic::suits` meets its contract. Assumes nothing.
-use Rattle.writer_basic.proofs.Answers.{eight-fits}
-use Rattle.writer_store.proofs.Puts.{eight-left}
 use native.Mathlib.Omega.{arith}
 use Rattle.writer_basic.proofs.basic.suits.Statement.{statement}
 use Rattle.writer_basic.proofs.basic.suits.Tie as tie
 use Rattle.writer_basic.proofs.basic.suits.Reads as reads
 use Rattle.writer_basic.proofs.basic.suits.Lts as lts
+use Rattle.meaning.proofs.PaddingLaws.{eight-left}
+use Rattle.meaning.proofs.NumberLaws.{eight-fits}
 
 -- src/basic.rt:126:1
 returns : tie.Need-returns

@@ -21,7 +21,7 @@ use Rattle.framing_offsets.specs.declared.EncodedArray.{EncodedArray}
 use Rattle.utils.specs.Checks.{passed, failed}
 use Rattle.byte_order.specs.Standing.{numberAt}
 use Rattle.byte_order.proofs.Standings.{numberAt-is, number-inside, number-outside, number-value}
-use Rattle.framing_offsets.specs.Tables.{tableIn, countFrom, Encoded, offsetIn}
+use Rattle.framing_offsets.specs.Tables.{tableIn, countFrom, encodedAs, Encoded, offsetIn}
 use Rattle.framing_offset_size.specs.Widths.{widthOf, lastOffsetIn}
 
 pub count-past : (w start : ℕ) (l : List ℕ) → length l < start → 0 ≡ countFrom w start l
@@ -58,12 +58,12 @@ module _ (l : List ℕ) (s : FramingOffsetSize) {last : Checked}
     judged : tableStands (tableOf l) l ≡ b
     judged = sym (h ∙ ap (λ (t : Table). tableStands t l) table-is)
 
-    pub encoded-stands : {n : ℕ} → n ≡ countFrom (widthOf s) (last .value) l → b ≡ true
-        → Encoded l (record { refusal = 0; offsets = record { start = last .value; count = n; size = s } })
-    encoded-stands c t = record { refusal = rw (judged ∙ t); table = held c ∙ table-is ∙ rw (judged ∙ t) }
-
-    pub encoded-falls : b ≡ false → Encoded l (record { refusal = outOfBounds; offsets = record { start = 0; count = 0; size = U8 } })
-    encoded-falls t = record { refusal = rw (judged ∙ t); table = rw (judged ∙ t) }
+    pub encoded-by : {n : ℕ} → n ≡ countFrom (widthOf s) (last .value) l → Encoded l (encodedAs b (last .value) n s)
+    encoded-by {n} c = go b refl
+      where
+        go : (x : Bool) → b ≡ x → Encoded l (encodedAs x (last .value) n s)
+        go true t = record { refusal = rw (judged ∙ t); table = held c ∙ table-is ∙ rw (judged ∙ t) }
+        go false t = record { refusal = rw (judged ∙ t); table = rw (judged ∙ t) }
 
 module _ (t : Table) (i : ℕ) (l : List ℕ) where
   pub offset-behind : t .count ≤ i → failed outOfBounds ≡ offsetIn t i l

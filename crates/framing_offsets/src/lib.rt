@@ -8,7 +8,7 @@ use utils::Checked;
 ghost use mathlib.Core.Path.{_≡_};
 ghost use Rattle.meaning.specs.Offsets.{tableFrom, tableStands};
 ghost use Rattle.framing_offset_size.specs.Widths.{widthOf};
-ghost use Rattle.framing_offsets.specs.Tables.{tableIn, countFrom, Encoded, offsetIn};
+ghost use Rattle.framing_offsets.specs.Tables.{tableIn, countFrom, encodedAs, Encoded, offsetIn};
 
 // Where the table begins, how many offsets it has, and how wide they are.
 pub struct OffsetTable {
@@ -55,18 +55,12 @@ fn stands(container: &[u8], start: usize, size: FramingOffsetSize) -> bool
     true
 }
 
-pub fn from_encoded_array(container: &[u8]) -> EncodedArray
-    ensures { λ r. ⌜ Encoded (now (container .entry)) r ⌝ }
+// What a table from a start on is answered with: itself where it stands, else a refusal.
+fn encoded(stands: bool, start: usize, count: usize, size: FramingOffsetSize) -> EncodedArray
+    ensures { λ r. ⌜ r ≡ encodedAs stands start count size ⌝ }
 {
-    let size = FramingOffsetSize::for_encoded_container(container.len());
-    let last = size.read_last_offset_from_buffer(container);
-    let start = last.value;
-    if stands(container, start, size) {
-        let offsets = OffsetTable {
-            start,
-            count: count(container, start, size),
-            size,
-        };
+    if stands {
+        let offsets = OffsetTable { start, count, size };
         return EncodedArray {
             refusal: 0,
             offsets,
@@ -81,6 +75,25 @@ pub fn from_encoded_array(container: &[u8]) -> EncodedArray
         refusal: OUT_OF_BOUNDS,
         offsets,
     }
+}
+
+// Nearly all containers have offsets of one byte: told so, the compiler makes steps for them that look at no width.
+pub fn from_encoded_array(container: &[u8]) -> EncodedArray
+    ensures { λ r. ⌜ Encoded (now (container .entry)) r ⌝ }
+{
+    if container.len() <= 255 {
+        let last = FramingOffsetSize::U8.read_last_offset_from_buffer(container);
+        let start = last.value;
+        let good = stands(container, start, FramingOffsetSize::U8);
+        let many = count(container, start, FramingOffsetSize::U8);
+        return encoded(good, start, many, FramingOffsetSize::U8);
+    }
+    let size = FramingOffsetSize::for_encoded_container(container.len());
+    let last = size.read_last_offset_from_buffer(container);
+    let start = last.value;
+    let good = stands(container, start, size);
+    let many = count(container, start, size);
+    encoded(good, start, many, size)
 }
 
 // The i-th offset of a table that stands in a container, from 0 on.

@@ -81,7 +81,7 @@ fn encoded(stands: bool, start: usize, count: usize, size: FramingOffsetSize) ->
 pub fn from_encoded_array(container: &[u8]) -> EncodedArray
     ensures { λ r. ⌜ Encoded (now (container .entry)) r ⌝ }
 {
-    if container.len() <= 255 {
+    if container.len() <= FramingOffsetSize::U8.max() {
         let last = FramingOffsetSize::U8.read_last_offset_from_buffer(container);
         let start = last.value;
         let good = stands(container, start, FramingOffsetSize::U8);

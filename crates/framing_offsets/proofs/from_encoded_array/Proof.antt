@@ -1,5 +1,6 @@
 -- `framing_offsets::from_encoded_array` finds the table of an array, or refuses it, as `Encoded` says. Assumes nothing.
 use mathlib.Core.Path.{sym}
+use native.Mathlib.Omega.{arith}
 use Rattle.meaning.proofs.OffsetLaws.{encodedWidth-1}
 use Rattle.framing_offset_size.specs.declared.FramingOffsetSize.the-variants.{U8}
 use Rattle.framing_offsets.proofs.TableLaws.{encoded-by}
@@ -9,10 +10,14 @@ use Rattle.framing_offsets.proofs.from_encoded_array.Tie as tie
 use Rattle.framing_offsets.proofs.from_encoded_array.Reads as reads
 use Rattle.framing_offsets.proofs.from_encoded_array.Lts as lts
 use Rattle.framing_offset_size.proofs.FramingOffsetSize.for_encoded_container.Reads as for-encoded-container-reads
+use Rattle.framing_offset_size.proofs.FramingOffsetSize.max.Reads as max-reads
 use Rattle.framing_offset_size.proofs.FramingOffsetSize.read_last_offset_from_buffer.Reads as read-last-offset-from-buffer-reads
 use Rattle.framing_offsets.proofs.count.Reads as count-reads
 use Rattle.framing_offsets.proofs.encoded.Reads as encoded-reads
 use Rattle.framing_offsets.proofs.stands.Reads as stands-reads
+
+max-requires : tie.Need-max-requires
+max-requires c κs = search needs
 
 read-last-offset-from-buffer-requires : tie.Need-read-last-offset-from-buffer-requires
 read-last-offset-from-buffer-requires c κs = search needs
@@ -28,7 +33,8 @@ encoded-requires c κs = search needs
 
 returns : tie.Need-returns
 returns c =
-    rw (c .encoded .ensures) (encoded-by _ U8 (sym (encodedWidth-1 _ (c .before .before .before .before .if1 .taken))) (c .before .before .before .read-last-offset-from-buffer .ensures) (c .before .before .stands .ensures) (c .before .count .ensures))
+    let short = c .before .before .before .before in
+    rw (c .encoded .ensures) (encoded-by _ U8 (sym (encodedWidth-1 _ (omega (arith, short .if1 .taken, short .before .max .ensures)))) (c .before .before .before .read-last-offset-from-buffer .ensures) (c .before .before .stands .ensures) (c .before .count .ensures))
 
 for-encoded-container-requires : tie.Need-for-encoded-container-requires
 for-encoded-container-requires c κs = search needs
@@ -53,6 +59,7 @@ pub from-encoded-array-spec : {M : Type 1} → statement M
 from-encoded-array-spec =
     tie.close
     (tie.spec
+    max-requires
     read-last-offset-from-buffer-requires
     stands-requires
     count-requires

@@ -47,10 +47,6 @@ unfolding piecesOf
 pieces-append [] ys = refl
 pieces-append (x ∷ xs) ys = ap (λ (z : List Piece). x .piece ∷ z) (pieces-append xs ys)
 
-pub pieces-cons : (c : Child) (ys : List Child) → piecesOf (c ∷ ys) ≡ c .piece ∷ piecesOf ys
-unfolding piecesOf
-pieces-cons c ys = refl
-
 -- those of one editor
 abbrev pub childOf : Editor → Piece → Child
 childOf e c = record { editor = e; piece = c }

@@ -11,7 +11,7 @@ use lib.Seq.{take-all, drop-drop, drop-length}
 use borrow.Author.Tests.{leb-true, leb-false, le-leb, eqb-true, eqb-false}
 use Rattle.meaning.specs.Choice.{pick}
 use Rattle.meaning.specs.Refusals.{outOfBounds}
-use Rattle.meaning.specs.Offsets.{Table, tableFrom, tableOf, entries, endsOf, noneAbove, tableStands}
+use Rattle.meaning.specs.Offsets.{Table, tableFrom, tableOf, endsOf, noneAbove, tableStands}
 use Rattle.framing_offsets.specs.declared.EncodedArray.{EncodedArray}
 use Rattle.meaning.specs.Numbers.{spelled, value}
 use Rattle.meaning.proofs.NumberSteps.{spelled-byte, first-low}
@@ -77,13 +77,6 @@ stands-inside t l h = go (leb (t .start) (length l)) refl h
 
 to-end : (l : List ℕ) (k : ℕ) → take (length l - k) (drop k l) ≡ drop k l
 to-end l k = take-all (length l - k) (drop k l) (simp length-drop (omega arith))
-
--- the ends that a table's own bytes give are those that the table gives where it stands
-pub ends-held : (w start : ℕ) (l : List ℕ) → endsOf (heldTable w (drop start l)) (drop start l) ≡ endsOf (tableFrom w start l) l
-unfolding endsOf tableFrom
-ends-held w start l =
-    let z : length (drop start l) - 0 ≡ length l - start = simp length-drop (omega arith) in
-    ap (λ (n : ℕ). entries (n / w) w (drop start l)) z
 
 -- the bytes of a table that is found in its container
 module _ (l : List ℕ) (r : EncodedArray) (t : Encoded l r) where

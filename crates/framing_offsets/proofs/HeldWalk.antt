@@ -66,9 +66,6 @@ module _ (κ : Lft) where
 
   module _ (d : FramingOffsets) where
     -- what is known of the fields of a struct that has its type
-    pub table-is : Is (B (κ, tt)) d (machOf d ∷ []) → Is (sliceAt κ) (d .table) (sliceOf (d .table) ∷ [])
-    table-is p = LL.owed D L d (machOf d ∷ []) p .0
-
     pub size-is : Is (B (κ, tt)) d (machOf d ∷ []) → Is S.the-row (d .size) (sizeOf (d .size) ∷ [])
     size-is p = LL.owed D L d (machOf d ∷ []) p .1 .0
 

@@ -3,3 +3,4 @@ pub mod Decimals
 pub mod Storing
 pub mod Lines
 pub mod Words
+pub mod Frames

@@ -16,7 +16,7 @@ use Rattle.lines.specs.Hexadecimal.{digit, hasByte, before, bytesOf, bytesBehin
 use Rattle.lines.specs.Lines.{more, stored, Keeps}
 use Rattle.lines.proofs.ByteLaws.{before-none, before-before}
 use Rattle.lines.proofs.GatherLaws.{keeps-none, keeps-more}
-use Rattle.listing.specs.Listing.{frameAnswer}
+use Rattle.lines.specs.Frames.{frameAnswer}
 use Rattle.listing.specs.States.{frameBy}
 
 abbrev pub nonempty : List ℕ → Bool

@@ -15,7 +15,8 @@ use Rattle.meaning.specs.Calls
 use Rattle.lines.specs.Hexadecimal.{digit, before, bytesOf, bytesBehind}
 use Rattle.lines.specs.Decimals.{digits, numeral}
 use Rattle.lines.specs.Lines.{linesFrom, lastLine, lines}
-use Rattle.listing.specs.Listing.{frameAnswer, answer, printed, nextNumber, listedFrom, listedLines, listing}
+use Rattle.lines.specs.Frames.{frameAnswer}
+use Rattle.listing.specs.Listing.{answer, printed, nextNumber, listedFrom, listedLines, listing}
 
 -- an input and what is printed
 pub data Row : Type 0 where

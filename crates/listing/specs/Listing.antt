@@ -1,27 +1,16 @@
 -- What the frame lister prints: a function of its input's bytes. Assumes nothing: these are definitions.
 use mathlib.Core.List.{List, [], _∷_, _++_}
-use mathlib.Core.Option.{Option, none, some}
-use mathlib.Core.Bool.{false}
 use Prim.Native.Nat.{ℕ, _+_}
-use lib.Dec.{leb, ltb}
-use lib.ListN.{length}
+use lib.Dec.{ltb}
 use Rattle.meaning.specs.Choice.{pick}
 use Rattle.meaning.specs.Limits.{largestNumber}
-use Rattle.meaning.specs.Refusals.{typeRefused, overLimit, notHexadecimal}
-use Rattle.meaning.specs.Calls.{Counts, counts, size}
+use Rattle.meaning.specs.Refusals.{typeRefused}
+use Rattle.meaning.specs.Calls.{Counts, counts}
 use Rattle.lines.specs.Hexadecimal.{bytesOf}
 use Rattle.lines.specs.Decimals.{numeral}
 use Rattle.lines.specs.Lines.{lines}
+use Rattle.lines.specs.Frames.{frameAnswer}
 use Rattle.signature.specs.Places.{isType}
-
--- a frame has at most 16,384 bytes
-abbrev pub mostBytes : ℕ
-mostBytes = 16384
-
--- 18 where the line is not pairs of digits, before the 2 of a long one; else the answer of `size` at position 0, little-endian
-unfoldable pub frameAnswer : List ℕ → Option (List ℕ) → Counts
-frameAnswer type none = counts notHexadecimal 0 0
-frameAnswer type (some frame) = pick (leb (length frame) mostBytes) (size type false 0 frame) (counts overLimit 0 0)
 
 -- a refused type gives 1 on each line
 unfoldable pub answer : List ℕ → List ℕ → Counts

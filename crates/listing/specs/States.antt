@@ -13,7 +13,8 @@ use Rattle.lines.specs.Storing.{over}
 use Rattle.lines.specs.Hexadecimal.{digit, hasByte}
 use Rattle.lines.specs.Lines.{more, stored}
 use Rattle.signature.specs.Places.{isType}
-use Rattle.listing.specs.Listing.{mostBytes, printed, nextNumber}
+use Rattle.lines.specs.Frames.{mostBytes}
+use Rattle.listing.specs.Listing.{printed, nextNumber}
 use Rattle.listing.specs.declared.State.{State}
 use Rattle.listing.specs.declared.Progress.{Progress}
 

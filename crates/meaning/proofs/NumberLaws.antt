@@ -8,7 +8,6 @@ use lib.Dec.{ltb}
 use lib.ListN.{length, length-reverse}
 use borrow.Author.Tests.{lt-ltb}
 use Rattle.meaning.specs.Numbers.{bytes, value, ordered}
-use Rattle.meaning.specs.Padding.{zeros}
 
 pub length-bytes : (w n : ℕ) → length (bytes w n) ≡ w
 unfolding bytes
@@ -41,11 +40,6 @@ value-below none zero h = omega arith
 value-below none (suc w) h = absurd (omega arith)
 value-below (more g r) zero h = absurd (omega arith)
 value-below (more {b = b} {l = l} g r) (suc w) h = omega (arith, value-below r w (omega arith))
-
-pub value-zeros : (n : ℕ) → value (zeros n) ≡ 0
-unfolding value
-value-zeros zero = refl
-value-zeros (suc n) = omega (arith, value-zeros n)
 
 pub ordered-twice : (big : Bool) (l : List ℕ) → ordered big (ordered big l) ≡ l
 ordered-twice true l = reverse-reverse l

@@ -63,14 +63,6 @@ fits-below (fits4 g h) p = omega arith
 fits-below (fits8 g h) p = omega arith
 fits-below (fitsNone g) p = absurd (omega arith)
 
--- a frame's body has a width
-pub fits-positive : {body count w : ℕ} → Fits body count w → body + count * 8 ≤ 18446744073709551615 → 0 < w
-fits-positive (fits1 h) p = omega arith
-fits-positive (fits2 g h) p = omega arith
-fits-positive (fits4 g h) p = omega arith
-fits-positive (fits8 g h) p = omega arith
-fits-positive (fitsNone g) p = absurd (omega arith)
-
 -- the width of a written table that stands in a frame was chosen so
 pub record Chosen (body count w : ℕ) : Type 0 where
   pub fits : Fits body count w

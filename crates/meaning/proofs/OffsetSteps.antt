@@ -10,9 +10,8 @@ use lib.Dec.{leb, eqb}
 use lib.ListN.{length, take, drop, set, getD, length-set, length-drop, take-append-drop}
 use lib.Seq.{take-suc-set, drop-set-lt, drop-drop, drop-cons}
 use borrow.Author.Tests.{le-leb, lt-leb, leb-true, leb-false, ne-eqb}
-use Rattle.meaning.specs.Choice.{pick}
 use Rattle.meaning.specs.Numbers.{bytes, value}
-use Rattle.meaning.specs.Offsets.{largest, firstWidth, encodedWidth, bareWidth, entries, noneAbove, Table, tableFrom, tableOf, endsOf, tableStands}
+use Rattle.meaning.specs.Offsets.{largest, firstWidth, encodedWidth, entries, noneAbove, Table, tableFrom, tableOf, endsOf, tableStands}
 use Rattle.meaning.proofs.OffsetLaws.{Fits, fits1, fits2, fits4, fits8, fitsNone, bareWidth-fits, encodedWidth-1, encodedWidth-2, encodedWidth-4, encodedWidth-8}
 
 -- a body that is too long by itself, and one that leaves room for so many offsets
@@ -37,17 +36,6 @@ pub first-not : (other w : ℕ) (ws : List ℕ) (body count : ℕ) → leb (body
     → firstWidth other (w ∷ ws) body count ≡ firstWidth other ws body count
 unfolding firstWidth
 first-not other w ws body count h = rw h
-
--- the width of a length is that of a body without offsets, and 8 where that has none
-pub encoded-bare : (len : ℕ) → encodedWidth len ≡ pick (eqb (bareWidth len 0) 0) 8 (bareWidth len 0)
-encoded-bare len = go (bareWidth-fits len 0)
-  where
-    go : {w : ℕ} → Fits len 0 w → encodedWidth len ≡ pick (eqb w 0) 8 w
-    go (fits1 h) = encodedWidth-1 len (omega arith)
-    go (fits2 g h) = encodedWidth-2 len (omega arith) (omega arith)
-    go (fits4 g h) = encodedWidth-4 len (omega arith) (omega arith)
-    go (fits8 g h) = encodedWidth-8 len (omega arith)
-    go (fitsNone g) = encodedWidth-8 len (omega arith)
 
 -- how far an offset is written: `i` bytes of `w` stand in the buffer, `rest` is left of the offset
 pub record Writing (w offset : ℕ) (before buffer : List ℕ) (rest i : ℕ) : Type 0 where

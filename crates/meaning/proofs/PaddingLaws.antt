@@ -1,13 +1,11 @@
 -- Laws of padding and alignments. Assumes nothing.
 use mathlib.Core.Path.{_≡_, refl, ap, _∙_}
-use mathlib.Core.List.{List, [], _∷_, _++_}
+use mathlib.Core.List.{List, [], _++_}
 use Prim.Native.Nat.{ℕ, zero, suc, _+_, _-_, _%_, _≤_, _<_, max}
 use native.Mathlib.Nat.{add-mod, mod-mod, zero-add}
 use native.Mathlib.Omega.{arith}
 use lib.Dec.{eqb}
-use lib.ListN.{length}
 use mathlib.Core.Bool.{Bool, true, false, _||_}
-use Rattle.meaning.specs.Choice.{pick}
 use borrow.Author.Tests.{eqb-true}
 use Rattle.meaning.specs.Padding.{isAlignment, Aligns, padding, zeros, leadingZeros}
 
@@ -109,12 +107,3 @@ pub leadingZeros-zeros : (n : ℕ) (l : List ℕ) → n ≤ leadingZeros (zeros 
 unfolding leadingZeros
 leadingZeros-zeros zero l = omega arith
 leadingZeros-zeros (suc n) l = omega (arith, leadingZeros-zeros n l)
-
-pub leadingZeros-most : (l : List ℕ) → leadingZeros l ≤ length l
-unfolding leadingZeros
-leadingZeros-most [] = omega arith
-leadingZeros-most (b ∷ l) = go (eqb b 0) (leadingZeros-most l)
-  where
-    go : (x : Bool) → leadingZeros l ≤ length l → pick x (suc (leadingZeros l)) 0 ≤ suc (length l)
-    go true h = omega arith
-    go false h = omega arith

@@ -1,6 +1,6 @@
 -- Laws of alignments and fixed sizes. Assumes nothing.
-use mathlib.Core.Path.{_≡_, refl}
-use mathlib.Core.Bool.{true, false}
+use mathlib.Core.Path.{_≡_}
+use mathlib.Core.Bool.{true}
 use Prim.Native.Nat.{ℕ, _+_, _≤_, _<_}
 use native.Mathlib.Omega.{arith}
 use Rattle.meaning.specs.Types.{Number, byte, int16, uint16, int32, uint32, int64, uint64, double, Basic, bool, number, text, Tree, Fields, basic, variant, maybe, array, dictionary, structure, last, next, numberWidth, basicAlignment, alignment, largestAlignment, fixed, allFixed, rounded, fixedSize, fieldsEnd}
@@ -69,13 +69,3 @@ mutual
   fieldsEnd-positive place (last t) h = omega (arith, fixedSize-positive t h)
   fieldsEnd-positive place (next t ts) h =
       omega (arith, fixedSize-positive t (both-true (fixed t) (allFixed ts) h .0), fieldsEnd-least (rounded place (alignment t) + fixedSize t) ts)
-
--- a type that is not fixed has size 0
-pub fixedSize-none : (t : Tree) → fixed t ≡ false → fixedSize t ≡ 0
-unfolding fixed fixedSize
-fixedSize-none (basic b) h = rw h
-fixedSize-none variant h = refl
-fixedSize-none (maybe t) h = refl
-fixedSize-none (array t) h = refl
-fixedSize-none (dictionary b t) h = refl
-fixedSize-none (structure ts) h = rw h

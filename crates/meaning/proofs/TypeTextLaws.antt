@@ -121,11 +121,6 @@ typeText-positive (array t) = omega arith
 typeText-positive (dictionary b t) = omega arith
 typeText-positive (structure ts) = omega arith
 
-pub fieldsText-positive : (ts : Fields) → 1 < length (fieldsText ts)
-unfolding typeText
-fieldsText-positive (last t) = omega (arith, typeText-positive t, length-append (typeText t) (41 ∷ []))
-fieldsText-positive (next t ts) = omega (arith, typeText-positive t, fieldsText-positive ts, length-append (typeText t) (fieldsText ts))
-
 mutual
   unfolding typeText typeWithin typeBegun arrayBegun
 
@@ -348,9 +343,6 @@ firstFields-fieldsText ts r = fieldsWithin-fieldsText ts (2 * length (fieldsText
 pub firstFields-sound : (l : List ℕ) (ts : Fields) (r : List ℕ) → firstFields l ≡ found ts r → l ≡ fieldsText ts ++ r
 unfolding firstFields
 firstFields-sound l ts r h = fieldsWithin-sound (2 * length l + 1) l ts r h
-
-pub firstFields-shorter : (l : List ℕ) (ts : Fields) (r : List ℕ) → firstFields l ≡ found ts r → length r < length l
-firstFields-shorter l ts r h = omega (arith, ap length (firstFields-sound l ts r h), length-append (fieldsText ts) r, fieldsText-positive ts)
 
 -- two readers of a type agree on texts up to a length
 abbrev Agree : (List ℕ → Found Tree) → (List ℕ → Found Tree) → ℕ → Type 0

@@ -14,7 +14,7 @@ use Rattle.meaning.specs.Calls
 use Rattle.lines.specs.Hexadecimal.{digit, before, bytesOf, bytesBehind}
 use Rattle.lines.specs.Decimals.{digits, numeral}
 use Rattle.lines.specs.Lines.{linesFrom, lastLine, lines}
-use Rattle.listing.specs.Listing.{frameAnswer}
+use Rattle.lines.specs.Frames.{frameAnswer}
 use Rattle.meaning_report.specs.Report
 
 -- a first and a last second, an input, and its report

@@ -3,12 +3,9 @@
 use mathlib.Core.Path.{_≡_, refl, sym, ap, _∙_}
 use mathlib.Core.List.{List, [], _∷_, _++_, append-assoc}
 use mathlib.Core.Bool.{Bool, true, false}
-use Prim.Native.Nat.{ℕ, zero, suc, _+_, _-_, _*_, _≤_, _<_}
-use native.Mathlib.Nat.{sub-zero}
+use Prim.Native.Nat.{ℕ, zero, suc, _+_, _*_, _<_}
 use native.Mathlib.Omega.{arith}
-use lib.Dec.{ltb}
 use lib.ListN.{length, length-append}
-use borrow.Author.Tests.{ltb-true, ltb-false, lt-ltb, le-ltb}
 use Rattle.meaning.specs.Padding.{padding, zeros}
 use Rattle.meaning.specs.Offsets.{writtenWidth, table, backTable}
 use Rattle.meaning.specs.Depths as Depth
@@ -16,8 +13,8 @@ use Rattle.meaning.specs.Depths.{Depths, opened}
 use Rattle.meaning.specs.Types.{Basic, Tree, Fields, basic, variant, maybe, array, dictionary, structure, last, next, alignment, largestAlignment, fixed, allFixed, entryAlignment, entryFixed}
 use Rattle.meaning.specs.Written.{Piece, stop, layout, ends, fieldEnds, unless, arrayBytes, structureBytes}
 use Rattle.meaning_writing.specs.Shapes.{shapeOf, basicShape}
-use Rattle.meaning_writing.specs.Readings.{MaybeNumber, slotOf}
-use Rattle.meaning_writing.specs.Edited.{Editor, still, maybeEditor, arrayEditor, structureEditor, variantEditor, Child, childCount, childSpot, childEdited, countIn, spotIn, piecesOf, editedIn, editorOver, editorsOver, editorOf}
+use Rattle.meaning_writing.specs.Readings.{slotOf}
+use Rattle.meaning_writing.specs.Edited.{Editor, still, maybeEditor, arrayEditor, structureEditor, variantEditor, editorOver, editorsOver, editorOf}
 use Rattle.meaning.proofs.LayoutLaws.{placed, layout-cons, stop-placed, length-table, length-backTable, length-ends, layout-first}
 use Rattle.meaning_writing.proofs.PieceLaws.{fieldEnds-more}
 
@@ -79,53 +76,6 @@ endOf-cons k c cs =
 pub endOf-none : (k : ℕ) → endOf k [] ≡ k
 unfolding layout
 endOf-none k = omega arith
-
--- the child that holds the i-th reading
-pub record Holding (cs : List Child) (i : ℕ) : Type 0 where
-  pub front : List Child
-  pub it : Child
-  pub behind : List Child
-  pub is : cs ≡ front ++ (it ∷ behind)
-  pub passed : countIn front ≤ i
-  pub here : i - countIn front < childCount it
-  pub edited-is : (x : MaybeNumber) → editedIn cs i x ≡ piecesOf front ++ (childEdited it (i - countIn front) x ∷ piecesOf behind)
-  pub spot-is : (d : Depths) (p k : ℕ) → spotIn d p k cs i ≡ childSpot d p (endOf k (piecesOf front)) it (i - countIn front)
-
-holding-here : (c : Child) (cs : List Child) (i : ℕ) → i < childCount c → Holding (c ∷ cs) i
-holding-here c cs i h = record {
-  front = [];
-  it = c;
-  behind = cs;
-  is = refl;
-  passed = unfold countIn in omega arith;
-  here = unfold countIn in omega arith;
-  edited-is = λ x. unfold editedIn piecesOf countIn in rw (lt-ltb i (childCount c) h, sub-zero i);
-  spot-is = λ d p k. unfold spotIn piecesOf countIn in rw (lt-ltb i (childCount c) h, endOf-none k, sub-zero i);
-}
-
-holding-later : (c : Child) (cs : List Child) (i : ℕ) → childCount c ≤ i → Holding cs (i - childCount c) → Holding (c ∷ cs) i
-unfolding editedIn spotIn piecesOf countIn
-holding-later c cs i h g =
-    let e : i - childCount c - countIn (g .front) ≡ i - (childCount c + countIn (g .front)) = omega arith in
-    record {
-      front = c ∷ g .front;
-      it = g .it;
-      behind = g .behind;
-      is = ap (λ (z : List Child). c ∷ z) (g .is);
-      passed = omega (arith, g .passed);
-      here = omega (arith, g .here);
-      edited-is = λ x. rw (le-ltb i (childCount c) h, g .edited-is x, e);
-      spot-is = λ d p k. rw (le-ltb i (childCount c) h, g .spot-is d p (stop k (c .piece)), endOf-cons k (c .piece) (piecesOf (g .front)), e);
-    }
-
-pub holding : (cs : List Child) (i : ℕ) → i < countIn cs → Holding cs i
-unfolding countIn
-holding [] i h = absurd (omega arith)
-holding (c ∷ cs) i h = go (ltb i (childCount c)) refl (λ le. holding cs (i - childCount c) (omega arith))
-  where
-    go : (b : Bool) → ltb i (childCount c) ≡ b → (childCount c ≤ i → Holding cs (i - childCount c)) → Holding (c ∷ cs) i
-    go true e ih = holding-here c cs i (ltb-true i (childCount c) e)
-    go false e ih = holding-later c cs i (ltb-false i (childCount c) e) (ih (ltb-false i (childCount c) e))
 
 -- ---- one child among others: what is written in front of it does not go by it; those behind it and their ends begin where it stops
 

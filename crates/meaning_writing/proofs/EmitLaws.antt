@@ -19,7 +19,7 @@ use Rattle.meaning_writing.specs.Emitting.{entryOf, emitEntry, emitBasic
 use Rattle.meaning.proofs.RoundTrip.{all-good}
 use Rattle.meaning_writing.proofs.ShownLaws.{Starts, shown-length}
 use Rattle.meaning_writing.proofs.BuildsBack.{basic-starts, all-build}
-use Rattle.meaning_writing.proofs.BuildsSound.{faulty-not-done, Answers, Right, basic-sound, all-sound}
+use Rattle.meaning_writing.proofs.BuildsSound.{Right, basic-sound, all-sound}
 use Rattle.meaning_writing.proofs.Emitted.{emitted}
 use Rattle.meaning_writing.proofs.WritingSteps.{Shorter}
 
@@ -62,14 +62,6 @@ module _ (texts : List ℕ) (big : Bool) (n : ℕ) (t : Tree) (d : Depths) (l : 
 
   pub emit-fixed : (c : Piece) (r : List ℕ) → emit texts big n t d l ≡ built c r → c .fixed ≡ fixed t
   emit-fixed c r h = let i = emit-built c r h in rw (i .piece-is) (all-good 0 big n t (i .value) .fixed-is)
-
-  -- a refusal is never 0
-  pub emit-fault : (m : ℕ) → emit texts big n t d l ≡ fault m → m ≡ 0 → ⊥
-  emit-fault m h = go (build texts n t d l) (all-sound texts big n t d l) (sym (emitted texts big n t d l) ∙ h)
-    where
-      go : (x : Built (Value n t)) → Answers (Right texts (piece big n t) d l) x → mapped (λ v. piece big n t v) x ≡ fault m → m ≡ 0 → ⊥
-      go (built v r) a e z = unfold mapped in (let q : _≡_ {A = ℕ} 0 1 = cc in omega arith)
-      go (fault k) a e z = unfold mapped in (let q : k ≡ m = cc in faulty-not-done k a (q ∙ z))
 
 -- ---- it takes events
 

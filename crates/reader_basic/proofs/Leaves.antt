@@ -2,14 +2,12 @@
 use Rattle.de.proofs.PaddingAnswers.{paddingAt-is}
 use Rattle.de.proofs.PartAnswers.{boolAt-is}
 use Rattle.framing_offset_size.proofs.WidthLaws.{lastOffsetIn-is}
-use mathlib.Core.Path.{_≡_, refl, ap, sym, subst, _∙_}
+use mathlib.Core.Path.{_≡_, refl, ap, sym, _∙_}
 use mathlib.Core.List.{List, [], _∷_}
 use mathlib.Core.Bool.{Bool, true, false, _||_}
 use Prim.Native.Nat.{ℕ, zero, suc, _+_, _-_, _≤_, _<_}
 use native.Mathlib.Omega.{arith}
 use native.Mathlib.Nat.{add-zero, add-assoc}
-use types.Run.{OneOf, miss}
-use denote.Enum.Declared.{tagOf}
 use lib.Dec.{leb, ltb, eqb}
 use lib.ListN.{length, take, drop, getD, length-take, length-drop}
 use lib.Seq.{take-nil, take-take, drop-drop}
@@ -32,11 +30,8 @@ use Rattle.utils.specs.declared.Checked as leafs
 use Rattle.byte_order.specs.Standing.{numberAt}
 use Rattle.de.specs.Parts.{boolAt}
 use Rattle.framing_offset_size.specs.Widths.{lastOffsetIn}
-use Rattle.signature.specs.declared.Letter.{Letter}
-use Rattle.signature.specs.declared.Letter.the-variants.{End, Bad, Boolean, Number, Text, Variant, Maybe, Array, OpenStructure, CloseStructure, OpenEntry, CloseEntry}
-use Rattle.signature.proofs.Letter.{the-type}
 use Rattle.container_depths.specs.declared.ContainerDepths.{ContainerDepths}
-use Rattle.reader_basic.specs.Parts.{Within, Inside, offsetAnswer, keyReader, KeyAligned}
+use Rattle.reader_basic.specs.Parts.{Within, Inside, offsetAnswer}
 use Rattle.events.specs.Slices.{nextEvent, put, putAll, advance}
 use Rattle.reader_basic.specs.Answers.{Done}
 use Rattle.reader_basic.specs.declared.Answer.{Answer}
@@ -328,23 +323,3 @@ pub within-child : {place position : ℕ} {d : ContainerDepths} (part : List ℕ
 within-child {place} part j e w g h =
     let a = w .in-frame in
     record { in-frame = simp (length-take, length-drop) (omega arith); near = w .near; shallow = w .shallow }
-
--- ---- a key by its letter
-
-pub number-aligns : (key : Letter) (c w : ℕ) → key ≡ Number c w → KeyAligned key → Aligns w
-number-aligns key c w e h = subst KeyAligned e h
-
--- a letter that is neither a number's nor a text's is read as a bool
-pub bool-key : (position : ℕ) (big : Bool) (key : Letter) → OneOf (0 ∷ 1 ∷ 2 ∷ 5 ∷ 6 ∷ 7 ∷ 8 ∷ 9 ∷ 10 ∷ 11 ∷ []) (tagOf the-type key) → keyReader position big key ≡ readBool
-bool-key position big End w = refl
-bool-key position big Bad w = refl
-bool-key position big Boolean w = refl
-bool-key position big (Number c n) w = absurd (miss (0 ∷ 1 ∷ 2 ∷ 5 ∷ 6 ∷ 7 ∷ 8 ∷ 9 ∷ 10 ∷ 11 ∷ []) 3 tt w)
-bool-key position big (Text c) w = absurd (miss (0 ∷ 1 ∷ 2 ∷ 5 ∷ 6 ∷ 7 ∷ 8 ∷ 9 ∷ 10 ∷ 11 ∷ []) 4 tt w)
-bool-key position big Variant w = refl
-bool-key position big Maybe w = refl
-bool-key position big Array w = refl
-bool-key position big OpenStructure w = refl
-bool-key position big CloseStructure w = refl
-bool-key position big OpenEntry w = refl
-bool-key position big CloseEntry w = refl

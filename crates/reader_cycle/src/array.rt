@@ -13,6 +13,7 @@ use reader_basic::refused;
 use reader_runs::numbers::numbers;
 use reader_runs::numbers::readings;
 use reader_runs::texts::texts;
+use reader_steps::array::empty;
 use reader_steps::array::kind_by;
 use reader_steps::array::repeats_fixed;
 use reader_steps::codes::held_width;
@@ -55,6 +56,9 @@ pub(crate) fn array(
     }
     let deeper = inner.ride;
     let kind = kind_by(text[at + 1]);
+    if lead == part.len() {
+        return empty(kind, place + lead, out, n);
+    }
     if repeats_fixed(text, shapes, at) {
         let m = emit(out, n, kind, place + lead, 0);
         let r = elements(text, shapes, at, part, lead, place, deeper, out, m);

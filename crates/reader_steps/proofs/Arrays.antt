@@ -1,15 +1,17 @@
 -- A law for each way out of the readers of arrays and dictionaries. Assumes nothing.
 use mathlib.Core.Path.{subst⁻¹, _≡_, refl, ap, sym, _∙_}
-use mathlib.Core.List.{List}
+use mathlib.Core.List.{List, []}
 use mathlib.Core.Bool.{Bool, true, false}
 use Prim.Native.Nat.{ℕ, _+_, _-_, _≤_, _<_}
 use native.Mathlib.Omega.{arith}
-use lib.ListN.{length, take, drop, length-drop}
+use lib.ListN.{length, take, drop, length-drop, drop-of-length-le}
 use lib.Seq.{drop-drop}
 use Rattle.meaning.specs.Choice.{pick}
 use Rattle.meaning.specs.Depths as Depth
 use Rattle.meaning.specs.Depths.{Depths}
-use Rattle.meaning.specs.Offsets.{Table, tableOf, endsOf, tableStands}
+use Rattle.meaning.specs.Numbers.{value}
+use Rattle.meaning.specs.Letters.{containerEnd}
+use Rattle.meaning.specs.Offsets.{Table, firstWidth, encodedWidth, entries, noneAbove, tableFrom, tableOf, endsOf, tableStands}
 use Rattle.meaning.specs.Events.{event, opening}
 use Rattle.meaning.specs.Outcome.{Outcome, done, refused, chain, passing, closingAt, enclosed}
 use Rattle.meaning.specs.Reading.{Step, elements, elementsTo, tabled, arrayBody, arrayIn}
@@ -32,7 +34,9 @@ use Rattle.reader_basic.specs.declared.Answer.{Answer}
 use Rattle.reader_basic.specs.declared.Context.{Context}
 use Rattle.signature.specs.declared.items.Item.{Item}
 use Rattle.signature.specs.Items.{itemKind}
-use Rattle.reader_basic.proofs.Answers.{answer, refusing, after-event}
+use Rattle.reader_basic.proofs.Answers.{answer, refusing, plain, after-event}
+use Rattle.reader_basic.proofs.Leaves.{closed}
+use Rattle.reader_basic.proofs.Loops.{elements-none}
 use Rattle.reader_steps.proofs.Deepening.{too-deep, within-open, same-inside}
 
 pub enclosed-on : (kind p end len n m : ℕ) (l l₁ l′ : List ℕ) (o : Outcome) (s : Answer) → m ≡ nextEvent n → l₁ ≡ put l n (event kind p 0) → Done (chain o (closingAt p)) end len m l₁ l′ s → Done (enclosed kind p o) end len n l l′ s
@@ -53,6 +57,34 @@ module _ (kind : ℕ) (fx : Bool) (step : Step) (k : ℕ) (l : List ℕ) (n : �
       → arrayBody kind fx step k l n d ≡ enclosed kind (k + n) (chain (elementsTo (step d k l (n + t .start)) n (endsOf t (drop n l)) n) (passing (length l - (n + t .start))))
   unfolding arrayBody tabled
   body-tabled f b t e = rw f (rw (b, e))
+
+-- and where no byte is left for it
+no-table-stands : tableStands (tableOf []) [] ≡ true
+unfolding tableStands tableOf tableFrom endsOf entries encodedWidth firstWidth value noneAbove
+no-table-stands = refl
+
+no-table-is : tableOf [] ≡ emptyTable
+unfolding tableOf tableFrom encodedWidth firstWidth value
+no-table-is = refl
+
+module _ (kind : ℕ) (step : Step) (k : ℕ) (l : List ℕ) (n : ℕ) (d : Depths) (h : length l ≤ n) where
+  no-ends : chain (elementsTo (step d k l (n + 0)) n (endsOf emptyTable (drop n l)) n) (passing (length l - (n + 0))) ≡ done 0 []
+  unfolding chain elementsTo endsOf entries
+  no-ends = let z : 0 + (length l - (n + 0)) ≡ 0 = omega arith in ap (λ (u : ℕ). done u []) z
+
+  body-empty : (fx : Bool) → arrayBody kind fx step k l n d ≡ enclosed kind (k + n) (done 0 [])
+  unfolding arrayBody
+  body-empty true = ap (λ (o : Outcome). enclosed kind (k + n) o) (elements-none (step d k l (length l)) l n 0 [] (length l) n h)
+  body-empty false =
+      let e : drop n l ≡ [] = drop-of-length-le l h in
+      body-tabled kind false step k l n d refl (rw e no-table-stands) emptyTable (rw e no-table-is) ∙ ap (λ (o : Outcome). enclosed kind (k + n) o) no-ends
+
+pub empty-done : (kind p end len n m count : ℕ) (l l₁ l′ : List ℕ) → m ≡ nextEvent n → l₁ ≡ put l n (event kind p 0) → count ≡ nextEvent m → l′ ≡ put l₁ m (event containerEnd p 0)
+    → Done (enclosed kind p (done 0 [])) end len n l l′ (answer 0 0 count)
+empty-done kind p end len n m count l l₁ l′ a b c e =
+    let z : p + 0 ≡ p = omega arith in
+    enclosed-on kind p end len n m l l₁ l′ (done 0 []) (answer 0 0 count) a b
+    (closed end len m count p l₁ l₁ l′ (done 0 []) (answer 0 0 m) refl c (rw z e) (plain 0 end len m l₁ (omega arith) (omega arith)))
 
 -- ---- the ways out of array
 module _ {text shapes : List ℕ} {at : ℕ} {i : Item} (a : ItemAt text shapes at i) (part : List ℕ) (lead place : ℕ) (c : Context) (n : ℕ) (l : List ℕ) where
@@ -77,6 +109,11 @@ module _ {text shapes : List ℕ} {at : ℕ} {i : Item} (a : ItemAt text shapes 
     array-fixed m l₁ l′ s f p q g =
         rw (opened-body ∙ body-fixed (itemKind i) (i .fixed) (itemStep (c′ .position) (c′ .big) (c′ .depths .variant) text i) place part lead (depthsOf (c′ .depths)) f)
         (enclosed-on (itemKind i) (place + lead) _ _ n m l l₁ l′ _ s p q g)
+
+    pub array-empty : (kind : ℕ) (l′ : List ℕ) (s : Answer) → length part ≤ lead → kind ≡ itemKind i → ((end len : ℕ) → Done (enclosed kind (place + lead) (done 0 [])) end len n l l′ s) → From body part lead n l l′ s
+    array-empty kind l′ s h e g =
+        rw (opened-body ∙ body-empty (itemKind i) (itemStep (c′ .position) (c′ .big) (c′ .depths .variant) text i) place part lead (depthsOf (c′ .depths)) h (i .fixed), ← e)
+        (g (length part - lead) (length part - lead))
 
     module _ (f : i .fixed ≡ false) (e : EncodedArray) (t : Encoded (drop lead part) e) where
       table-is : (b : Bool) → e .refusal ≡ pick b 0 3 → e .refusal ≡ 0 → b ≡ true

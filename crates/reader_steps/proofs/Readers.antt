@@ -5,11 +5,11 @@ use mathlib.Core.Bool.{Bool}
 use Prim.Native.Nat.{ℕ, zero, suc, _+_, _-_, _≤_}
 use native.Mathlib.Omega.{arith}
 use lib.ListN.{length}
-use Rattle.meaning.specs.Types.{Number as NumberType, Text as TextType, numberWidth, Basic, bool, number, text, Tree, basic, variant, maybe, array, dictionary, structure, alignment}
+use Rattle.meaning.specs.Types.{Number as NumberType, Text as TextType, numberWidth, Basic, number, text, Tree, basic, variant, maybe, array, dictionary, structure, alignment}
 use Rattle.meaning.specs.Letters.{numberLetter, textLetter}
 use Rattle.meaning.specs.Events.{nothing}
 use Rattle.meaning.specs.Outcome.{chain}
-use Rattle.meaning.specs.Reading.{readBool, readNumber, readText, readBasic, pad, readMaybe, readTree, readVariant, readArray, readStructure, reading}
+use Rattle.meaning.specs.Reading.{readNumber, readText, readBasic, pad, readMaybe, readTree, readVariant, readArray, readStructure, reading}
 use Rattle.meaning.specs.Padding.{Aligns}
 use Rattle.meaning.proofs.TypeLaws.{number-aligned as aligned-number}
 use Rattle.container_depths.specs.Opening.{depthsOf}
@@ -17,11 +17,11 @@ use Rattle.de.specs.Parts.{paddingAt}
 use Rattle.utils.specs.declared.Checked as leafs
 use Rattle.container_depths.specs.declared.ContainerDepths.{ContainerDepths}
 use Rattle.signature.specs.Places.{letterAt}
-use Rattle.signature.specs.declared.Letter.the-variants.{Boolean, Number, Text, Variant}
+use Rattle.signature.specs.declared.Letter.the-variants.{Text, Variant}
 use Rattle.signature.specs.declared.shapes.Shape.{Shape}
 use Rattle.signature.specs.Trees.{treeAt, Typed, Described}
 use Rattle.signature.proofs.TreeLaws.{described-alignment, described-aligned}
-use Rattle.signature.proofs.Dispatch.{is-boolean, is-number, is-text, is-variant}
+use Rattle.signature.proofs.Dispatch.{is-text, is-variant}
 use Rattle.reader_basic.specs.Answers.{Done}
 use Rattle.reader_steps.specs.Places.{Contains, readerOf, bodyIn}
 use Rattle.reader_basic.specs.Parts.{Within}
@@ -45,26 +45,13 @@ text-by : (position : ℕ) (big : Bool) (n c : ℕ) (t : Tree) (it : TextType) �
 unfolding readBasic
 text-by position big n c t it e f = rw (e, f) (reading-basic position big n (text it))
 
-bool-by : (position : ℕ) (big : Bool) (n : ℕ) (t : Tree) → t ≡ basic bool → reading position big n t ≡ readBool
-unfolding readBasic
-bool-by position big n t e = rw e (reading-basic position big n bool)
-
 pub width-by : (w : ℕ) (it : NumberType) → w ≡ numberWidth it → Aligns w
 width-by w it e = rw e (aligned-number it)
 
 -- by the letter that stands there
 module _ (text : List ℕ) (at : ℕ) (t : Typed text at) (position : ℕ) (big : Bool) (nested : ℕ) where
-  pub reads-bool : letterAt text at ≡ Boolean → readerOf position big nested (treeAt text at) ≡ readBool
-  reads-bool e = bool-by position big (65 - nested) (treeAt text at) (is-boolean text at _ _ (t .found) e .0)
-
-  pub reads-number : (c w : ℕ) → letterAt text at ≡ Number c w → readerOf position big nested (treeAt text at) ≡ readNumber position big c w
-  reads-number c w e = let n = is-number text at _ _ c w (t .found) e in number-by position big (65 - nested) c w (treeAt text at) (n .it) (n .type) (n .code-is) (n .width-is)
-
   pub reads-text : (c : ℕ) → letterAt text at ≡ Text c → readerOf position big nested (treeAt text at) ≡ readText c
   reads-text c e = let n = is-text text at _ _ c (t .found) e in text-by position big (65 - nested) c (treeAt text at) (n .it) (n .type) (n .code-is)
-
-  pub number-aligned : (c w : ℕ) → letterAt text at ≡ Number c w → Aligns w
-  number-aligned c w e = let n = is-number text at _ _ c w (t .found) e in width-by w (n .it) (n .width-is)
 
 -- a container: padding, and what stands in it
 body-at : (position : ℕ) (big : Bool) (v m n : ℕ) (d : ContainerDepths) (t : Tree) (k : ℕ) (l : List ℕ) → Contains t → m ≡ suc n → m ≡ 65 - v → n ≡ 64 - v

@@ -12,7 +12,7 @@ use Rattle.meaning.specs.Types.{Basic, bool, number, text, Tree, Fields, basic,
 use Rattle.meaning.specs.Letters.{numberLetter, textLetter, basicLetter}
 use Rattle.meaning.specs.TypeText.{typeText, fieldsText, basicAmong, found, firstType, firstFields}
 use Rattle.meaning.proofs.TypeTextLaws.{basic-letter, typeText-positive, head, firstType-typeText, firstType-sound, firstFields-fieldsText, firstFields-sound, fields-head}
-use Rattle.signature.specs.Places.{basicKind, letterOf, letterBy, letterIn, letterAt, childOf, childAt, closedBy, fieldAt}
+use Rattle.signature.specs.Places.{basicKind, letterOf, letterBy, letterIn, letterAt, childOf, closedBy, fieldAt}
 use Rattle.signature.specs.declared.Letter.{Letter}
 use Rattle.signature.specs.declared.Letter.the-variants.{End, Bad, Boolean, Number, Text, Variant, Maybe, Array, OpenStructure, CloseStructure, OpenEntry, CloseEntry}
 use Rattle.signature.proofs.Letters.{cut}
@@ -253,10 +253,6 @@ is-structure l at t r h k = go t (shown l at t r h)
     go (structure us) s = record { it = us; type = refl; fields = s .fields }
 
 -- ---- a structure's fields, one after another
-
-pub field-child : (l : List ℕ) (at : ℕ) → fieldAt l at .child ≡ childAt l at
-unfolding fieldAt
-field-child l at = refl
 
 -- the place behind the field at a place
 abbrev pub afterField : List ℕ → ℕ → ℕ

@@ -9,8 +9,8 @@ use native.Mathlib.Omega.{arith}
 use mir.Val.{hasKey}
 use types.Run.{OneOf, miss}
 use denote.Enum.Declared.{tagOf}
-use lib.Dec.{T, leb, eqb}
-use borrow.Author.Tests.{eqb-true, eqb-false, le-leb, leb-true, leb-false}
+use lib.Dec.{T, eqb}
+use borrow.Author.Tests.{eqb-true, eqb-false, le-leb}
 use lib.ListN.{length, getD, drop, drop-of-length-le, length-drop}
 use lib.Seq.{drop-cons, drop-drop}
 use Rattle.meaning.specs.Choice.{pick}
@@ -272,20 +272,6 @@ loneChild next CloseStructure = noChild CloseStructure
 loneChild next OpenEntry = noChild OpenEntry
 loneChild next CloseEntry = noChild CloseEntry
 
-pub no-start : (n : ℕ) (k : Letter) → OneOf (0 ∷ 1 ∷ 9 ∷ 10 ∷ 11 ∷ []) (tagOf the-type k) → (loneChild n k ≡ noChild k) × (alone k ≡ true)
-no-start n End w = (refl, refl)
-no-start n Bad w = (refl, refl)
-no-start n Boolean w = absurd (miss (0 ∷ 1 ∷ 9 ∷ 10 ∷ 11 ∷ []) 2 tt w)
-no-start n (Number c m) w = absurd (miss (0 ∷ 1 ∷ 9 ∷ 10 ∷ 11 ∷ []) 3 tt w)
-no-start n (Text c) w = absurd (miss (0 ∷ 1 ∷ 9 ∷ 10 ∷ 11 ∷ []) 4 tt w)
-no-start n Variant w = absurd (miss (0 ∷ 1 ∷ 9 ∷ 10 ∷ 11 ∷ []) 5 tt w)
-no-start n Maybe w = absurd (miss (0 ∷ 1 ∷ 9 ∷ 10 ∷ 11 ∷ []) 6 tt w)
-no-start n Array w = absurd (miss (0 ∷ 1 ∷ 9 ∷ 10 ∷ 11 ∷ []) 7 tt w)
-no-start n OpenStructure w = absurd (miss (0 ∷ 1 ∷ 9 ∷ 10 ∷ 11 ∷ []) 8 tt w)
-no-start n CloseStructure w = (refl, refl)
-no-start n OpenEntry w = (refl, refl)
-no-start n CloseEntry w = (refl, refl)
-
 -- a character that begins no type
 pub no-letter : (n c : ℕ) → eqb c 98 ≡ false → eqb c 121 ≡ false → eqb c 110 ≡ false → eqb c 113 ≡ false → eqb c 105 ≡ false → eqb c 117 ≡ false → eqb c 120 ≡ false → eqb c 116 ≡ false → eqb c 100 ≡ false → eqb c 115 ≡ false
     → eqb c 111 ≡ false → eqb c 103 ≡ false → eqb c 118 ≡ false → eqb c 109 ≡ false → eqb c 97 ≡ false → eqb c 40 ≡ false → (loneChild n (letterOf c) ≡ noChild (letterOf c)) × (alone (letterOf c) ≡ true)
@@ -353,14 +339,6 @@ unfolding childAt typeAt
 child-lone l at k n h a =
     let m = length-drop at l in
     rw (le-leb (length l) 255 n) (lone-by (drop at l) (letterAt l at) (length l) (at + 1) (seen (drop at l)) (ap alone h ∙ a) (λ p. omega arith) ∙ ap (loneChild (at + 1)) h)
-
--- where a letter stands, the place is inside the text
-pub inside : (l : List ℕ) (at : ℕ) (k : Letter) → letterAt l at ≡ k → (k ≡ End → ⊥) → at < length l
-inside l at k h g = go (leb (length l) at) refl
-  where
-    go : (q : Bool) → leb (length l) at ≡ q → at < length l
-    go true p = absurd (g (sym h ∙ letter-end l at (leb-true (length l) at p)))
-    go false p = leb-false (length l) at p
 
 -- where a structure's type ends
 module _ (l : List ℕ) (at : ℕ) where

@@ -114,9 +114,6 @@ module _ (l : List ℕ) (w s m j : ℕ) where
     pub texts-room : i < m → from + w + (m - (i + 1)) * w ≤ length l
     texts-room h = elements-room false textTest (q .one) l w s m j (q .left (q .one)) h
 
-    pub texts-place : k ≤ s
-    texts-place = q .left (q .one) .place
-
     module _ (h : i < m) (e : ℕ) (he : e ≡ elementEnd false l w from (endOf x k)) (b : Bool) (hb : (d : Depths) → b ≡ childWritten textTest d l s k e) where
       pub texts-stop : b ≡ false → (d : Depths) → false ≡ elementsWritten false textTest d l w s m j 0
       unfolding textTest

@@ -206,17 +206,9 @@ pub last-other : (fx : Bool) (x b : ℕ) → fx ≡ false → b ≡ lastEnd fx x
 last-other true x b h = no h
 last-other false x b h = refl
 
-pub left-fixed : (fx : Bool) (w e : ℕ) → fx ≡ true → e ≡ offsetsLeft fx w e
-left-fixed true w e h = refl
-left-fixed false w e h = absurd (false≢true h)
-
 pub left-other : (fx : Bool) (w e : ℕ) → fx ≡ false → e - w ≡ offsetsLeft fx w e
 left-other true w e h = no h
 left-other false w e h = refl
-
-pub more-fixed : (fx : Bool) (n : ℕ) → fx ≡ true → n ≡ oneMore fx n
-more-fixed true n h = refl
-more-fixed false n h = absurd (false≢true h)
 
 pub more-other : (fx : Bool) (n : ℕ) → fx ≡ false → n + 1 ≡ oneMore fx n
 more-other true n h = no h

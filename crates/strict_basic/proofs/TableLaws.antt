@@ -285,10 +285,6 @@ module _ {l t : List ℕ} {at i n : ℕ} (q : CountLeft l at i n) (s : Shape) wh
 
 -- ---- what stands at a place
 
-pub record Measures (l : List ℕ) (at r : ℕ) : Type 0 where
-  pub is : Typed l at → r ≡ measureOf (treeAt l at)
-  pub most : r ≤ 10000
-
 sized-bool : sizeAndAny 1 false ≡ measureOf (basic bool)
 unfolding measureOf fixed fixedSize anyBytes
 sized-bool = refl

@@ -9,14 +9,13 @@ use Prim.Native.Nat.{ℕ, _+_, _%_, _≤_}
 use lib.ListN.{length, drop, getD}
 use Rattle.meaning.specs.Depths as Depth
 use Rattle.meaning.specs.Depths.{Depths, opened, noneOpen}
-use Rattle.meaning.specs.Padding.{Aligns, padding}
+use Rattle.meaning.specs.Padding.{padding}
 use Rattle.meaning.specs.Letters.{numberLetter, textLetter}
 use Rattle.meaning.specs.Numbers.{bytes}
 use Rattle.meaning.specs.Types.{Number as NumberType, Text as TextType, Basic, number, text, basic, maybe, numberWidth, basicAlignment, basicFixed, alignment, fixed}
 use Rattle.meaning.specs.Values.{BasicValue}
 use Rattle.meaning.specs.Written.{Piece, basicPiece, maybePiece}
 use Rattle.meaning.proofs.PaddingLaws.{by-alignment, padding-none}
-use Rattle.meaning.proofs.TypeLaws.{basic-aligned}
 use Rattle.meaning_writing.specs.Writing.{Built, built, fault, mapped, buildBasic, buildMaybe}
 use Rattle.meaning_writing.specs.Emitting.{itself, emitBasic, emitMaybe, emitOver, emit}
 use Rattle.meaning_writing.proofs.WritingSteps.{Shorter, PlainAt}
@@ -48,9 +47,6 @@ module _ (texts : List ℕ) (big : Bool) (b : Basic) (D : Depths) (l : List ℕ)
 
 pub basic-alignment : (texts : List ℕ) (big : Bool) (b : Basic) (D : Depths) (l : List ℕ) (a : ℕ) → a ≡ basicAlignment b → (c : Piece) (r : List ℕ) → emitBasic texts big b D l ≡ built c r → c .alignment ≡ a
 basic-alignment texts big b D l a h c r e = basic-has texts big b D l c r e .0 ∙ sym h
-
-pub aligned-as : (b : Basic) (a : ℕ) → a ≡ basicAlignment b → Aligns a
-aligned-as b a h = rw h (basic-aligned b)
 
 -- ---- readings
 

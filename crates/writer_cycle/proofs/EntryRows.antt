@@ -37,9 +37,6 @@ use Rattle.writer_store.proofs.EndLaws.{kept-not}
 use Rattle.writer_basic.proofs.Answers.{answer, made-of, fault-of, wrong}
 use Rattle.writer_basic.proofs.Rows.{run, none-more, says-on, fields-steady}
 
-value-of : {A : Type 0} (P : A → Type 0) (x y : A) (r q : List ℕ) → built x r ≡ built y q → P x → P y
-value-of P x y r q e p = let z : x ≡ y = cc in rw (← z) p
-
 -- ---- items
 
 pub item-alone : (texts : List ℕ) (big : Bool) (n : ℕ) (signature : List ℕ) (i : Item) → i .entry ≡ false → itemOf texts big n signature i ≡ valueOf texts big n (treeAt signature (i .child .at))

@@ -119,13 +119,6 @@ module _ (i end : ℕ) (l s : List ℕ) where
     front = λ t place g. refl;
   }
 
-  -- there is no room in it
-  pub put-short : i < 128 → length s ≤ i → PutEnd i end l l s s
-  put-short h g = record { is = λ t r w. absurd (omega arith); others = λ t k y w. refl; front = λ t place y. refl }
-
-  pub put-past : length l < tail i → PutEnd i end l l s s
-  put-past h = record { is = λ t r w. absurd (omega arith); others = λ t k y w. refl; front = λ t place y. refl }
-
   -- in the tail
   module _ (at x y : ℕ) (h : 128 ≤ i) (t : tail i ≤ length l) (a : at ≡ length l - tail i) (hx : x ≡ end % 256) (hy : y ≡ end / 256 % 256) where
     abbrev both : List ℕ
@@ -157,12 +150,6 @@ module _ (i end : ℕ) (l s : List ℕ) where
 
 pub look-near : (i : ℕ) (l s : List ℕ) (x : ℕ) → i < 128 → x ≡ getD s i 0 → x < 65536 → EndAt i l s x
 look-near i l s x h e g = record { is = λ t r. e ∙ sym (end-near l s i h); small = g }
-
-pub look-short : (i : ℕ) (l s : List ℕ) → i < 128 → length s ≤ i → EndAt i l s 0
-look-short i l s h g = record { is = λ t r. absurd (omega arith); small = omega arith }
-
-pub look-past : (i : ℕ) (l s : List ℕ) → length l < tail i → EndAt i l s 0
-look-past i l s h = record { is = λ t r. absurd (omega arith); small = omega arith }
 
 pub look-far : (i : ℕ) (l s : List ℕ) (at x y : ℕ) → 128 ≤ i → at ≡ length l - tail i → x ≡ getD l at 0 → y ≡ getD l (at + 1) 0 → x < 256 → y < 256 → EndAt i l s (x + 256 * y)
 look-far i l s at x y h a hx hy gx gy = record { is = λ t r. rw (hx, hy, a) (sym (end-far l s i h)); small = omega arith }

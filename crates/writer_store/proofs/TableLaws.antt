@@ -57,10 +57,6 @@ swapped {i} {j} {x} {y} {l} {l₁} {l₂} {s} {s₁} {s₂} h a b p q n m = reco
   front = λ t place g. q .front (omega arith) place (omega arith) ∙ p .front (omega arith) place (omega arith);
 }
 
--- there is no room for the last
-pub swapped-past : (i j : ℕ) (l s : List ℕ) → length l < tail j → Swapped i j l l s s
-swapped-past i j l s h = record { first = λ t r. absurd (omega arith); last = λ t r. absurd (omega arith); others = λ t k u v w. refl; front = λ t place g. refl }
-
 -- both in the tail
 pub swapped-far : (i j at to a b c d x y p q u v : ℕ) (l l′ s : List ℕ) → 128 ≤ i → i < j → tail j ≤ length l → at ≡ length l - tail i → to ≡ length l - tail j → a ≡ getD l at 0 → b ≡ getD l (at + 1) 0 → c ≡ getD l to 0 → d ≡ getD l (to + 1) 0
     → a < 256 → b < 256 → c < 256 → d < 256 → x ≡ a + 256 * b → y ≡ c + 256 * d → p ≡ y % 256 → q ≡ y / 256 % 256 → u ≡ x % 256 → v ≡ x / 256 % 256 → l′ ≡ set (set (set (set l at p) (at + 1) q) to u) (to + 1) v → Swapped i j l l′ s s

@@ -6,7 +6,7 @@ use Rattle.reader_basic.proofs.Answers.{granted, denied}
 use Prim.Native.Nat.{_-_}
 use Rattle.meaning.specs.Depths.{noneOpen}
 use Rattle.strict_basic.proofs.EndLaws.{element-other}
-use Rattle.strict_basic.proofs.ElementLaws.{TextsLeft, texts-begin, texts-room, texts-place, texts-stop, texts-next, texts-end, text-below, text-past, text-here}
+use Rattle.strict_basic.proofs.ElementLaws.{TextsLeft, texts-begin, texts-room, texts-stop, texts-next, texts-end, text-below, text-past, text-here}
 use Rattle.strict_basic.proofs.basic.texts_written.Statement.{statement}
 use Rattle.strict_basic.proofs.basic.texts_written.Tie as tie
 use Rattle.strict_basic.proofs.basic.texts_written.Reads as reads

@@ -1,5 +1,5 @@
 -- `offsets_left` meets its contract. Assumes nothing.
-use Rattle.strict_basic.proofs.EndLaws.{left-fixed, left-other}
+use Rattle.strict_basic.proofs.EndLaws.{left-other}
 use borrow.Author.Needs.{needs}
 use Rattle.strict_basic.proofs.ends.offsets_left.Statement.{statement}
 use Rattle.strict_basic.proofs.ends.offsets_left.Tie as tie

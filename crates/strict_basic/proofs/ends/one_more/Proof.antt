@@ -1,5 +1,5 @@
 -- `one_more` meets its contract. Assumes nothing.
-use Rattle.strict_basic.proofs.EndLaws.{more-fixed, more-other}
+use Rattle.strict_basic.proofs.EndLaws.{more-other}
 use borrow.Author.Needs.{needs}
 use Rattle.strict_basic.proofs.ends.one_more.Statement.{statement}
 use Rattle.strict_basic.proofs.ends.one_more.Tie as tie

@@ -22,6 +22,7 @@ use Rattle.meaning.specs.Events.{event, textEvent}
 use Rattle.meaning.specs.Outcome.{Outcome, done, refused, chain, unused, closingAt}
 use Rattle.meaning.specs.Reading.{child, paddingOf, pad, readBool, numberIn, readNumber, textAs, readText, padded, endPadding, offsetStands, fieldOffset, lastNul}
 use Rattle.meaning.proofs.TextSteps.{getD-any}
+use Rattle.meaning.proofs.OutcomeLaws.{unpadded}
 use Rattle.utils.specs.Checks as leaf
 use Rattle.utils.specs.Checks.{paddingFor}
 use Rattle.de.proofs.PaddingAnswers.{paddingIn}
@@ -199,6 +200,13 @@ module _ (position : ℕ) (big : Bool) (kind w : ℕ) (d : Depths) (k n : ℕ) (
             let x : f .value ≡ value (ordered big (take w (drop (r .value) l))) = ap (λ x. x .value) e ∙ rw h in
             rw (p .there z) (rw h (single (r .value + w) (length l) (length l) n m out out′ _ s s i (q ∙ ap (λ x. put out n (event kind (k + r .value) x)) x)))
         go false h = let x : f .refusal ≡ 3 = ap (λ x. x .refusal) e ∙ rw h in absurd (omega arith)
+
+-- a byte has no padding
+pub byte-pads : (position k : ℕ) (l : List ℕ) → Pads (pad position 1 k l) (length l) (leaf.passed 0)
+unfolding pad
+byte-pads position k l =
+    let z : padding (position + k) 1 ≡ 0 = unfold padding in omega arith in
+    rw (z, unpadded k l) (record { place = 0; there = λ q. refl; missing = λ q. absurd (q refl); none-used = λ q. refl; fits = omega arith })
 
 -- ---- texts
 

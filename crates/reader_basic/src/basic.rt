@@ -21,10 +21,11 @@ use utils::Checked;
 ghost use mathlib.Core.Path.{_≡_};
 ghost use Prim.Native.Nat.{ℕ, _+_, _-_, _≤_, _<_};
 ghost use mathlib.Core.List.{List};
+ghost use mathlib.Core.Bool.{Bool};
 ghost use lib.ListN.{length};
 ghost use Rattle.meaning.specs.Depths.{Depths};
 ghost use Rattle.meaning.specs.Outcome.{Outcome, chain, closingAt};
-ghost use Rattle.meaning.specs.Reading.{readBool, readText, separator as separatorOf};
+ghost use Rattle.meaning.specs.Reading.{readBool, readNumber, readText, separator as separatorOf};
 ghost use Rattle.meaning.specs.Padding.{Aligns};
 ghost use Rattle.meaning.specs.Limits.{largestFrame};
 ghost use Rattle.byte_order.specs.Standing.{numberAt};
@@ -74,6 +75,19 @@ pub fn number_at(part: &[u8], place: usize, width: usize, big: bool) -> Checked
         4 => four_at(part, place, big),
         _ => eight_at(part, place, big),
     }
+}
+
+// A byte has no alignment and no order.
+pub fn byte(part: &[u8], place: usize, code: u8, out: &mut [u64], n: usize) -> Answer
+    ensures { λ r. ⌜ ((position : ℕ) (big : Bool) (d : Depths) → Whole (readNumber position big code 1 d place (now (part .entry))) (now (part .entry)) n (now (out .entry)) (now (out .exit)) r) ⌝ }
+{
+    let found = byte_at(part, 0);
+    let refusal = found.refusal;
+    if refusal != 0 {
+        return refused(refusal, 0, n);
+    }
+    let count = emit(out, n, wide(code), place, found.value as u64);
+    done(1, count)
 }
 
 pub fn number(

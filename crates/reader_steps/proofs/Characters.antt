@@ -98,6 +98,10 @@ module _ (c : ℕ) where
       go (number n) e r = rw (e, r)
       go (text x) e r = absurd (h r)
 
+  pub byte-code : c ≡ 121 → letterOf c ≡ Number c 1
+  unfolding letterBy basicAmong
+  byte-code e = rw e
+
   pub code-aligned : (w : ℕ) → w ≡ widthBy (letterOf c) → (w ≡ 0 → ⊥) → Aligns w
   code-aligned w q h = by-code (λ (k : Letter). w ≡ widthBy k → Aligns w) c go (λ k p e. absurd (h (e ∙ p .width))) q
     where

@@ -2,6 +2,7 @@
 use crate::ride::context_of;
 use reader_basic::Answer;
 use reader_basic::basic::boolean;
+use reader_basic::basic::byte;
 use reader_basic::basic::number;
 use reader_basic::basic::text_value;
 ghost use mathlib.Core.Path.{_≡_};
@@ -70,6 +71,9 @@ pub fn leaf(code: u8, part: &[u8], place: usize, ride: usize, out: &mut [u64], n
     requires { ⌜ Inside (length (now part)) place (contextOf ride) ⌝ }
     ensures { λ r. ⌜ ((d : Depths) → Whole (keyReader (contextOf ride .position) (contextOf ride .big) (letterOf code) d place (now (part .entry))) (now (part .entry)) n (now (out .entry)) (now (out .exit)) r) ⌝ }
 {
+    if code == b'y' {
+        return byte(part, place, code, out, n);
+    }
     let width = number_width(code);
     if width != 0 {
         let context = context_of(ride);

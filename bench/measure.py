@@ -1,15 +1,15 @@
 #!/usr/bin/env python3
 """Measures the programs of the benchmark on its frames and prints the tables. Called by bench/run, which builds them.
 
-Usage: bench/measure.py --frames FOLDER --ours PROGRAM --glib PROGRAM --build PROGRAM --costs FILE [--rust PROGRAM]
-                        [--before FILE] [--emulator PROGRAM --plugin FILE]
+Usage: bench/measure.py --frames FOLDER --ours PROGRAM --glib PROGRAM --build PROGRAM --costs FILE --emulator PROGRAM --plugin FILE
+                        [--rust PROGRAM] [--before FILE]
 
 First every program must answer every frame alike: the refusal, the bytes used, and events, leaves and sum as bench/frames.py has
 computed them from the value, as far as the program can know them. Otherwise nothing is measured.
 
 Instructions are those of one call: a run of 2n calls less a run of n calls, by n, so that start and end of the program cancel.
-They are counted by valgrind's callgrind; or, with --emulator, of all programs, by a plugin of the emulator.
-Time is the best of seven runs, without valgrind; there is none on an emulator.
+They are counted by a plugin of the emulator, on every machine.
+Time is the best of seven runs without the emulator; there is none where the machine can't run the programs itself.
 
 Without --rust only writing and the strict test are measured.
 
@@ -97,12 +97,12 @@ def answer(words):
     return done.stdout.split()
 
 
-def check(side, frame, emulator):
+def check(runner, side, frame):
     """Holds a program to what the frame's maker computed; - is what the program can't know. Of a refused frame only the
     refusal and no bytes are looked at, since the Rust's list keeps what came before."""
     expected = [frame.refusal, 0] if frame.refusal else [0, frame.length, frame.events, frame.leaves, frame.sum]
     expected = [str(number) for number in expected]
-    given = answer(emulator + command(side, frame, 1))[:len(expected)]
+    given = answer(runner + command(side, frame, 1))[:len(expected)]
     if any(word not in ("-", wanted) for word, wanted in zip(given, expected, strict=True)):
         fail("%s does not see %s as it is: %s, not %s" % (side.title, frame.name, given, expected))
 
@@ -124,17 +124,24 @@ def nanoseconds(sides, frame):
     return [min(times[place] for times in rounds) if place in timed else None for place in range(len(TITLES))]
 
 
+def native():
+    """Whether the machine runs the programs itself."""
+    return platform.machine() == "x86_64"
+
+
+def runner_of(arguments):
+    """The words that run a program without counting."""
+    return [] if native() else [arguments.emulator]
+
+
 def counter_of(arguments):
-    """The words that run and count a program, and how the count is found in what they say."""
-    if arguments.emulator:
-        return [arguments.emulator, "-plugin", arguments.plugin], r"^instructions (\d+)$"
-    return ["valgrind", "--tool=callgrind", "--callgrind-out-file=/dev/null"], r"Collected : (\d+)"
+    """The words that run and count a program."""
+    return [arguments.emulator, "-plugin", arguments.plugin]
 
 
 def counted(counter, words):
-    runs, count = counter
-    done = subprocess.run(runs + words, capture_output=True, text=True)
-    found = re.search(count, done.stderr, re.MULTILINE)
+    done = subprocess.run(counter + words, capture_output=True, text=True)
+    found = re.search(r"^instructions (\d+)$", done.stderr, re.MULTILINE)
     if done.returncode != 0 or not found:
         fail("no count of %s: %s" % (" ".join(words), done.stderr[-500:]))
     return int(found.group(1))
@@ -161,10 +168,11 @@ def title(name):
     return name if " " in text else "`%s`, %s" % (text, rest)
 
 
-def print_table(name, heads, rows):
+def print_table(name, heads, rows, words=1):
+    """A table whose first columns are words, and all others numbers."""
     print("## %s\n" % name)
     print("| " + " | ".join(heads) + " |")
-    print("|---|" + "---:|" * (len(heads) - 1))
+    print("|" + "---|" * words + "---:|" * (len(heads) - words))
     for row in rows:
         print("| " + " | ".join(row) + " |")
     print()
@@ -261,19 +269,17 @@ def processor():
 def print_machine(arguments):
     print("%s, %s; GLib %s; %s; %s." % (platform.machine(), processor(), first_line(["pkg-config", "--modversion", "glib-2.0"]),
                                       first_line(["rustc", "--version"]), first_line(["cc", "--version"])))
-    if arguments.emulator:
-        print("All programs are x86-64's; their instructions were counted by the plugin of `bench/count.c` in %s.\n"
-              "There is no time: it would be the emulator's." % first_line([arguments.emulator, "--version"]))
-    else:
-        print("The instructions were counted by the callgrind of %s." % first_line(["valgrind", "--version"]))
+    print("All programs are x86-64's; their instructions were counted by the plugin of `bench/count.c` in %s." % first_line([arguments.emulator, "--version"]))
+    if not native():
+        print("There is no time: it would be the emulator's.")
     print()
 
 
 def arguments_of():
     parser = argparse.ArgumentParser(usage=__doc__.split("\n\n")[1].replace("Usage: ", ""))
-    for option in ("--frames", "--ours", "--glib", "--build", "--costs"):
+    for option in ("--frames", "--ours", "--glib", "--build", "--costs", "--emulator", "--plugin"):
         parser.add_argument(option, required=True)
-    for option in ("--rust", "--before", "--emulator", "--plugin"):
+    for option in ("--rust", "--before"):
         parser.add_argument(option)
     return parser.parse_args()
 
@@ -287,7 +293,7 @@ def print_tables(arguments, frames, costs, times):
         with open(arguments.before, encoding="utf-8") as file:
             print_before(frames, costs, json.load(file), (SIZE, READ, STRICT, WRITE) if arguments.rust else (STRICT, WRITE))
     print_growth(costs, range(len(TITLES)) if arguments.rust else WRITING)
-    if not arguments.emulator:
+    if native():
         if arguments.rust:
             print_costs("Nanoseconds for a frame", frames, times)
         print_writing("Nanoseconds of the strict test and of writing", frames, times, barred=False)
@@ -296,17 +302,16 @@ def print_tables(arguments, frames, costs, times):
 def main():
     arguments = arguments_of()
     frames, sides, counter = list(frames_of(arguments.frames)), sides_of(arguments), counter_of(arguments)
-    emulator = [arguments.emulator] if arguments.emulator else []
     for frame in frames:
         for place, side in sides.items():
             if sees(place, frame):
-                check(side, frame, emulator)
+                check(runner_of(arguments), side, frame)
     costs, times = {}, {}
     for frame in frames:
         say("measuring " + frame.name)
         costs[frame.name] = [instructions(counter, sides[place], frame) if place in sides and sees(place, frame) else None
                              for place in range(len(TITLES))]
-        times[frame.name] = None if emulator else nanoseconds(sides, frame)
+        times[frame.name] = nanoseconds(sides, frame) if native() else None
     with open(arguments.costs, "w", encoding="utf-8") as file:
         json.dump(costs, file, indent=1)
     print_machine(arguments)

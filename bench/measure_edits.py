@@ -1,7 +1,7 @@
 #!/usr/bin/env python3
 """Measures edits, ours and GLib's, and prints their table. Called by bench/run, which builds the programs.
 
-Usage: bench/measure_edits.py --edits FOLDER --ours PROGRAM --glib PROGRAM --costs FILE [--emulator PROGRAM --plugin FILE]
+Usage: bench/measure_edits.py --edits FOLDER --ours PROGRAM --glib PROGRAM --costs FILE --emulator PROGRAM --plugin FILE
 
 First every program must make of every frame the new frame that bench/edits.py has computed from the value. Otherwise nothing is measured.
 Instructions are counted as bench/measure.py counts them; those of an edit are less what the copying of the frame costs, which is done before
@@ -37,9 +37,9 @@ def words_of(arguments, side, edit, calls):
     return [program, side, edit.type, edit.file, str(calls), edit.number, edit.new]
 
 
-def check(arguments, edit, emulator):
+def check(arguments, edit):
     for side in ("edit", "anew", "sharing"):
-        given = measure.answer(emulator + words_of(arguments, side, edit, 2))[:3]
+        given = measure.answer(measure.runner_of(arguments) + words_of(arguments, side, edit, 2))[:3]
         if given != ["0", str(edit.new_length), str(edit.sum)]:
             measure.fail("%s, %s: %s" % (edit.name, side, given))
 
@@ -73,10 +73,8 @@ def print_edits(edits, costs):
 
 def arguments_of():
     parser = argparse.ArgumentParser(usage=__doc__.split("\n\n")[1].replace("Usage: ", ""))
-    for option in ("--edits", "--ours", "--glib", "--costs"):
+    for option in ("--edits", "--ours", "--glib", "--costs", "--emulator", "--plugin"):
         parser.add_argument(option, required=True)
-    for option in ("--emulator", "--plugin"):
-        parser.add_argument(option)
     return parser.parse_args()
 
 
@@ -84,7 +82,7 @@ def main():
     arguments = arguments_of()
     edits, counter, costs = list(edits_of(arguments.edits)), measure.counter_of(arguments), {}
     for edit in edits:
-        check(arguments, edit, [arguments.emulator] if arguments.emulator else [])
+        check(arguments, edit)
     for edit in edits:
         measure.say("measuring " + edit.name)
         costs[edit.name] = costs_of(arguments, counter, edit)

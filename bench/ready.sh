@@ -2,14 +2,15 @@
 #
 # `archive_ready` proves and builds the archive and sets `archive` to it.
 # `counting_ready` builds the plugin of count.c and sets `counting` to the words that run a program for x86-64 and count it.
-# `amd64_ready` installs, on Arm, Debian's packages of x86-64 by which the Rust and GLib are built and run.
+# `peers_ready` installs what the Rust and GLib are built with for x86-64; on Arm it also sets the environment by which they are.
+# `rust_ready FOLDER` builds the Rust of that folder and sets `rust` to the program.
 # Each fails where it can't.
 # shellcheck shell=bash disable=SC2034,SC2154
 
+mkdir -p "$room"
 c_flags=(-std=c11 -O2 -Wall -Wextra -Wpedantic -Werror)
 
 archive_ready() {
-    mkdir -p "$room"
     (cd "$top" && RT_JOBS=${RT_JOBS:-1} rt staticlib bogtassel) >&2 </dev/null && archive=$top/target/staticlib/libbogtassel.a
 }
 
@@ -25,11 +26,21 @@ counting_ready() {
     counting=(qemu-x86_64 -plugin "$room/count.so")
 }
 
-amd64_ready() {
+peers_ready() {
     local be=() packages=(libglib2.0-dev:amd64 rustc-web cargo-web libstd-rust-web-dev:amd64 librust-serde-dev)
-    if dpkg -s "${packages[@]}" >/dev/null 2>&1; then
-        return 0
+    if [ "$(uname -m)" = x86_64 ]; then
+        command -v pkg-config >/dev/null || debian_install pkg-config || return 1
+        pkg-config --exists glib-2.0 || debian_install libglib2.0-dev
+        return
     fi
-    [ "$(id -u)" = 0 ] || be=(sudo -n)
-    "${be[@]}" dpkg --add-architecture amd64 && debian_install "${packages[@]}"
+    if ! dpkg -s "${packages[@]}" >/dev/null 2>&1; then
+        [ "$(id -u)" = 0 ] || be=(sudo -n)
+        "${be[@]}" dpkg --add-architecture amd64 && debian_install "${packages[@]}" || return 1
+    fi
+    export PATH=/usr/bin:$PATH PKG_CONFIG_LIBDIR=/usr/lib/x86_64-linux-gnu/pkgconfig:/usr/share/pkgconfig
+    export CARGO_BUILD_TARGET=x86_64-unknown-linux-gnu CARGO_TARGET_X86_64_UNKNOWN_LINUX_GNU_LINKER=${x86_64_cc[0]}
+}
+
+rust_ready() { # FOLDER
+    "$top/oracle/build.sh" --fast "$1" >&2 </dev/null && rust=$top/target/oracle/fast
 }

@@ -1,18 +1,19 @@
 #!/usr/bin/env python3
 """Hunts for the frames that cost the most instructions for each byte and event, and prints the worst. Called by bench/search.
 
-Usage: bench/search.py reading|writing SEED ROUNDS BYTES WORD..
+Usage: bench/search.py reading|writing RUST|- SEED ROUNDS BYTES WORD..
 
-The words run the program of bench/search.c and count it. Frames are sought for what size and read cost, or for what the strict test and
-writing do; of a refused frame there is nothing to write. All is random and follows from the seed. There are two hunts:
+The words run the program of bench/search.c and count it; RUST is the oracle's program, built for the benchmark. Frames are sought for what size
+and read cost, or for what the strict test and writing do; of a refused frame there is nothing to write. All is random and follows from the
+seed. There are two hunts:
 
 - Frames of the oracle's generator, of all its modes. They are short, so their type's characters are added to bytes and events,
   since a call judges the type too; and those with fewer than LEAST of all three are left out, since a call as such costs something.
 - Types and ways to fill a frame, which breed for so many rounds: the costliest are kept, and changed. They are counted on frames of
   TRIED bytes; the worst of them again on frames of BYTES, unless such a frame is refused where the short one is read.
 
-Frames that are read and frames that are refused are kept and shown apart: a refused one has no events to count, though there were
-some before its refusal, up to 65 for a byte.
+Frames that are read and frames that are refused are kept and shown apart: a refusal answers no events, though some were met before it, up to 65
+for a byte. With the Rust they are counted by its recorder, and each frame that is shown has what recording it costs; what is above a bar is bold.
 """
 import itertools
 import os
@@ -20,12 +21,15 @@ import random
 import struct
 import subprocess
 import sys
+import tempfile
 from collections import namedtuple
 
 sys.path.insert(0, os.path.join(os.path.dirname(os.path.abspath(__file__)), "..", "oracle"))
 sys.dont_write_bytecode = True
 import gen  # noqa: E402
+import measure  # noqa: E402
 
+Programs = namedtuple("Programs", "sought rust counter ours")     # what is sought; no Rust, or its program; the words that count; ours
 Cost = namedtuple("Cost", "type frame refusal events calls")
 CALLS = {"reading": ("size", "read"), "writing": ("is_written", "write")}
 Way = namedtuple("Way", "tree fill seed inside")    # how a frame of any length is made; inside nothing, a variant or many
@@ -39,17 +43,37 @@ FILLS = ("zeros", "bytes", "written", "damaged", "table")
 INSIDE = ("", "", "v", "av")
 
 
-def costs_of(words, questions):
+def costs_of(programs, questions):
     """What the two calls cost on each type and frame."""
     asked = b"".join(struct.pack("<II", len(text), len(frame)) + text + frame for text, frame in questions)
-    sought, *program = words
-    first = 4 * list(CALLS).index(sought)
-    done = subprocess.run(program, input=asked, capture_output=True, check=True)
+    first = 4 * list(CALLS).index(programs.sought)
+    done = subprocess.run(programs.counter + [programs.ours], input=asked, capture_output=True, check=True)
     answers = [line.split() for line in done.stdout.decode().splitlines()]
     marks = [int(line.split()[1]) for line in done.stderr.decode().splitlines() if line.startswith("mark ")]
     assert len(answers) == len(questions) and len(marks) == 8 * len(questions)
-    return [Cost(text, frame, int(refusal), int(events), calls) for (text, frame), (refusal, events), calls
-            in zip(questions, answers, zip(marks[first + 1::8], marks[first + 3::8], strict=True), strict=True)]
+    costs = [Cost(text, frame, int(refusal), int(events), calls) for (text, frame), (refusal, events), calls
+             in zip(questions, answers, zip(marks[first + 1::8], marks[first + 3::8], strict=True), strict=True)]
+    return with_met(programs, costs) if programs.rust else costs
+
+
+def with_met(programs, costs):
+    """The costs with the events that the Rust's recorder met before each frame was refused; where the type itself is, or a limit, there are none."""
+    refused = [cost for cost in costs if cost.refusal > 2]
+    asked = b"".join(b"%s l 0 %s\n" % (cost.type, cost.frame.hex().encode() or b"-") for cost in refused)
+    done = subprocess.run(programs.counter[:1] + [programs.rust, "--met"], input=asked, capture_output=True, check=True)
+    met = (int(line.split()[1]) for line in done.stdout.splitlines())
+    counted = [cost._replace(events=next(met)) if cost.refusal > 2 else cost for cost in costs]
+    assert next(met, None) is None
+    return counted
+
+
+def recording(programs, cost):
+    """The instructions of the Rust's recorder for the frame, the type parsed before."""
+    with tempfile.NamedTemporaryFile() as file:
+        file.write(cost.frame)
+        file.flush()
+        once, twice = (measure.counted(programs.counter, [programs.rust, "--bench", "record", cost.type.decode(), file.name, calls]) for calls in "12")
+    return twice - once
 
 
 def each(cost, characters=True):
@@ -172,7 +196,7 @@ def costliest(pairs):
     return [[pair for pair in best.values() if (pair[0].refusal != 0) == refused][:KEPT] for refused in (False, True)]
 
 
-def breed(rng, words, rounds):
+def breed(rng, programs, rounds):
     """Costs and ways that were kept last, the costliest first: those whose frames are read, and those whose are refused."""
     read, refused = [], []
     for turn in range(rounds):
@@ -181,7 +205,7 @@ def breed(rng, words, rounds):
             way = changed_way(rng, rng.choice(kept)[1]) if kept and rng.random() < 0.7 else new_way(rng)
             if fits(way):
                 ways.append(way)
-        costs = costs_of(words, [frame_of(way, TRIED) for way in ways])
+        costs = costs_of(programs, [frame_of(way, TRIED) for way in ways])
         read, refused = costliest(kept + list(zip(costs, ways, strict=True)))
         print("bench/search.py: round %d, %s" % (turn + 1, [round(each(some[0][0])) for some in (read, refused) if some]), file=sys.stderr)
     return read[:SHOWN], refused[:SHOWN]
@@ -200,42 +224,53 @@ def short(text):
     return " ".join(letter if count == 1 else "%d%s" % (count, letter) for letter, count in runs) or "-"
 
 
-def print_worst(sought, title, rows, characters):
-    print("## %s\n" % title)
-    print("| Type | frame | bytes | events | refusal | %s | %s | each |" % CALLS[sought])
-    print("|---|---|---:|---:|---:|---:|---:|---:|")
+def marked(value, bar, form):
+    """A figure, bold where it is above its bar."""
+    shown = form % value
+    return shown if float(shown) <= bar else "**%s**" % shown
+
+
+def print_worst(programs, title, rows, characters):
+    """The type's characters count in no bar."""
+    heads = ["Type", "frame", "bytes", "events", "refusal", *CALLS[programs.sought], "each"] + ["Rust recording", "read / Rust"] * bool(programs.rust)
+    table = []
     for cost, what in rows:
-        numbers = " | ".join(format(number, ",") for number in (len(cost.frame), cost.events, cost.refusal, *cost.calls))
-        print("| `%s` | %s | %s | %.0f |" % (short(cost.type)[:100], what, numbers, each(cost, characters)))
-    print()
+        row = ["`%s`" % short(cost.type)[:100], what] + [format(number, ",") for number in (len(cost.frame), cost.events, cost.refusal, *cost.calls)]
+        row.append(marked(each(cost, characters), float("inf") if characters else measure.EACH_BAR, "%.0f"))
+        if programs.rust:
+            theirs = recording(programs, cost)
+            row += [format(theirs, ","), marked(cost.calls[1] / theirs, measure.READ_BAR, "%.2f")]
+        table.append(row)
+    measure.print_table(title, heads, table, words=2)
 
 
 def described(way):
     return way.fill if not way.inside else "%s, and a variant's type `%s`" % (way.fill, short(gen.type_text(way.tree).encode())[:100])
 
 
-def print_generated(words, rng):
-    costs = [cost for cost in costs_of(words, generated(rng)) if len(cost.frame) + cost.events + len(cost.type) >= LEAST]
+def print_generated(programs, rng):
+    costs = [cost for cost in costs_of(programs, generated(rng)) if len(cost.frame) + cost.events + len(cost.type) >= LEAST]
     for refused, kind in ((False, "read"), (True, "refused")):
         worst = sorted((cost for cost in costs if (cost.refusal != 0) == refused), key=each, reverse=True)[:SHOWN]
-        print_worst(words[0], "The worst of %s generated frames that are %s, for each byte, event and character" % (format(GENERATED, ","), kind),
+        print_worst(programs, "The worst of %s generated frames that are %s, for each byte, event and character" % (format(GENERATED, ","), kind),
                     [(cost, "`%s`" % (cost.frame[:16].hex(" ") or "-")) for cost in worst], True)
 
 
-def lengthened(words, kept, length):
+def lengthened(programs, kept, length):
     """The costs of the ways on long frames, or on those that they were tried on."""
-    long = costs_of(words, [frame_of(way, length) for _, way in kept])
+    long = costs_of(programs, [frame_of(way, length) for _, way in kept])
     chosen = [new if (new.refusal != 0) == (old.refusal != 0) else old for new, (old, _) in zip(long, kept, strict=True)]
     return sorted(zip(chosen, (described(way) for _, way in kept), strict=True), key=lambda row: -each(row[0], False))
 
 
 def main():
-    seed, rounds, length = (int(word) for word in sys.argv[2:5])
-    words, rng = [sys.argv[1]] + sys.argv[5:], random.Random(seed)
-    print_generated(words, rng)
-    for kept, kind in zip(breed(rng, words, rounds), ("read", "refused"), strict=True):
-        print_worst(words[0], "The worst of %s bred frames that are %s, for each byte and event" % (format(rounds * BRED, ","), kind),
-                    lengthened(words, kept, length), False)
+    sought, rust, *numbers = sys.argv[1:6]
+    seed, rounds, length = (int(word) for word in numbers)
+    programs, rng = Programs(sought, None if rust == "-" else rust, sys.argv[6:-1], sys.argv[-1]), random.Random(seed)
+    print_generated(programs, rng)
+    for kept, kind in zip(breed(rng, programs, rounds), ("read", "refused"), strict=True):
+        print_worst(programs, "The worst of %s bred frames that are %s, for each byte and event" % (format(rounds * BRED, ","), kind),
+                    lengthened(programs, kept, length), False)
     return 0
 
 

@@ -23,7 +23,6 @@ fi
 . "$top/bench/ready.sh"
 
 x86_64_ready || fail "$x86_64_lack"
-mkdir -p "$room"
 archive_ready || fail "the archive is not built"
 program=editing words=()
 [ $# -eq 0 ] || { program=other_way words=(-DOTHER_WAY_ALONE); }

@@ -25,7 +25,6 @@ fi
 command -v cc >/dev/null || debian_install gcc libc6-dev || fail "no C compiler"
 command -v pkg-config >/dev/null || debian_install pkg-config || fail "no pkg-config"
 pkg-config --exists glib-2.0 || debian_install libglib2.0-dev || fail "no GLib"
-mkdir -p "$room"
 read -ra glib < <(pkg-config --cflags --libs glib-2.0)
 shared=("$top/oracle/glib/lines.c" "$top/oracle/glib/value.c")
 
@@ -33,10 +32,8 @@ cc "${c_flags[@]}" "$top/oracle/glib/main.c" "${shared[@]}" "${glib[@]}" -o "$ro
 [ $# -eq 0 ] || exit 0
 x86_64_ready || fail "$x86_64_lack"
 archive_ready || fail "the archive is not built"
-if [ "$(uname -m)" != x86_64 ]; then
-    amd64_ready || fail "no GLib for x86-64"
-    read -ra glib < <(PKG_CONFIG_LIBDIR=/usr/lib/x86_64-linux-gnu/pkgconfig:/usr/share/pkgconfig pkg-config --cflags --libs glib-2.0)
-fi
+peers_ready || fail "no GLib for x86-64"
+read -ra glib < <(pkg-config --cflags --libs glib-2.0)
 # Debian's GLib is shared, so only the compiler's name is taken, not the words for linking statically
 "${x86_64_cc[0]}" "${c_flags[@]}" -I"$top/include" "$top/oracle/glib/compare.c" "${shared[@]}" "$archive" "${glib[@]}" -o "$room/writing"
 printf '%s\n' "${x86_64_run[@]}" >"$room/emulator"

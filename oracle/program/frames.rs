@@ -1,5 +1,5 @@
 //! Whole frames: a line `TYPE l|b POSITION HEX` is read by the given reader and answered by
-//! `REFUSAL USED NEVENTS kind:place:payload ...`.
+//! `REFUSAL USED NEVENTS kind:place:payload ...`, or by `REFUSAL MET`: how many events were met, also before a refusal.
 
 use crate::{
     lines::{self, push_number, Understood},
@@ -18,13 +18,8 @@ enum Outcome {
 }
 
 pub(crate) fn answer(words: &[&[u8]], text: &mut Vec<u8>) -> Understood<()> {
-    let &[signature, order, position, bytes] = words else {
-        return Err("a frame is TYPE l|b POSITION HEX".to_string());
-    };
-    let (order, position) = (lines::byte_order(order)?, lines::number(position)?);
-    let frame = lines::bytes(bytes)?;
     let mut events = Vec::new();
-    match outcome(signature, order, position, &frame, &mut events)? {
+    match outcome_of(words, &mut events)? {
         Outcome::Read(used) => print_reading(text, used, &events),
         Outcome::Refused(refusal) => {
             push_number(text, refusal);
@@ -33,6 +28,25 @@ pub(crate) fn answer(words: &[&[u8]], text: &mut Vec<u8>) -> Understood<()> {
         Outcome::Panicked => text.extend_from_slice(b"PANIC"),
     }
     Ok(())
+}
+
+pub(crate) fn met(words: &[&[u8]], text: &mut Vec<u8>) -> Understood<()> {
+    let mut events = Vec::new();
+    match outcome_of(words, &mut events)? {
+        Outcome::Read(_) => push_number(text, 0),
+        Outcome::Refused(refusal) => push_number(text, refusal),
+        Outcome::Panicked => text.extend_from_slice(b"PANIC"),
+    }
+    text.push(b' ');
+    push_number(text, events.len() as u64);
+    Ok(())
+}
+
+fn outcome_of(words: &[&[u8]], events: &mut Vec<Event>) -> Understood<Outcome> {
+    let &[signature, order, position, bytes] = words else {
+        return Err("a frame is TYPE l|b POSITION HEX".to_string());
+    };
+    outcome(signature, lines::byte_order(order)?, lines::number(position)?, &lines::bytes(bytes)?, events)
 }
 
 /// Document 01's order: the type, the limits, then the reading.

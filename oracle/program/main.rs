@@ -96,11 +96,12 @@ fn main() {
     let arguments: Vec<String> = std::env::args().skip(1).collect();
     let outcome = match arguments.iter().map(String::as_str).collect::<Vec<_>>()[..] {
         [] => lines::answer_all(frames::answer),
+        ["--met"] => lines::answer_all(frames::met),
         ["--leaf"] => lines::answer_all(leaves::answer),
         ["--bench", mode, signature, file, calls] => {
             bench::answer(mode, signature, file, calls).map(|answer| println!("{answer}"))
         }
-        _ => Err("usage: oracle [--leaf], lines on standard input; oracle --bench record|ignore TYPE FRAME_FILE CALLS".to_string()),
+        _ => Err("usage: oracle [--met|--leaf], lines on standard input; oracle --bench record|ignore TYPE FRAME_FILE CALLS".to_string()),
     };
     if let Err(message) = outcome {
         eprintln!("{message}");

@@ -117,7 +117,7 @@ pub(crate) fn elements(
     done(u, m)
 }
 
-// Elements that are not fixed, each up to the end that the table gives; then the table.
+// Elements that are not fixed, each from where the one before stopped, up to the end that the table gives; then the table.
 pub(crate) fn framed(
     text: &[u8],
     shapes: &[u16; 255],
@@ -149,10 +149,10 @@ pub(crate) fn framed(
     let b = lead + offsets.start;
     let table = &part[b..];
     let mut i = 0;
-    let mut u = 0;
+    let mut stopped = 0;
     let mut m = n;
     while i < many {
-        let j = lead + u;
+        let j = lead + stopped;
         let size = offsets.size;
         let offset = next_in(table, size, i);
         let e = lead + offset.value;
@@ -163,11 +163,11 @@ pub(crate) fn framed(
         };
         let refusal = r.refusal;
         if refusal != 0 {
-            return behind(u, r);
+            return behind(stopped, r);
         }
-        u = u + r.used;
+        stopped = stopped + r.used;
         m = r.count;
         i = i + 1;
     }
-    done(u + (part.len() - b), m)
+    done(stopped + (part.len() - b), m)
 }

@@ -129,19 +129,15 @@ array·elements-value-requires t c κs =
     (omega (arith, start .pre .0), (repeated-as (start .args .text .now) (start .args .shapes .now) (start .args .at) (at-if1 .if2 .left) (start .pre .1 .0) .child, start .pre .1 .2, at-loop .loop .inv .bound))
 
 -- what one turn reads: an element, or an entry
-array·elements-turn : (t : ℕ) (c : array·elements-lts.Joined2 (array·elements-callees t) (array·elements-at t) array·elements.Post array·elements-Inv-loop array·elements-μ-loop)
-    → Between (stepIn (contextOf (c .before .before .before .before .before .before .before .before .before .args .ride))
-    (c .before .before .before .before .before .before .before .before .before .args .text .now)
-    (itemOf (c .before .before .before .before .before .before .before .before .before .args .text .now) (c .before .before .before .before .before .before .before .before .before .args .shapes .now) (c .before .before .before .before .before .before .before .before .before .args .at))
-    (c .before .before .before .before .before .before .before .before .before .args .place)
-    (c .before .before .before .before .before .before .before .before .before .args .part .now)
-    (length (c .before .before .before .before .before .before .before .before .before .args .part .now))
-    (c .before .before .before .before .before .before .before .before .before .args .lead + c .before .before .loop .u)
-    (length (c .before .before .before .before .before .before .before .before .before .args .part .now)))
-    (c .before .before .before .before .before .before .before .before .before .args .part .now)
-    (c .before .before .before .before .before .before .before .before .before .args .lead + c .before .before .loop .u)
-    (length (c .before .before .before .before .before .before .before .before .before .args .part .now)) (c .before .before .loop .m)
-    (c .before .before .loop .out) (c .if2 .out) (c .if2 .r)
+array·elements-turn : (t : ℕ) (c : array·elements-lts.Joined2 (array·elements-callees t) (array·elements-at t) array·elements.Post array·elements-Inv-loop array·elements-μ-loop) →
+    let at-loop = c .before .before in
+    let start = at-loop .before .before .before .before .before .before .before in
+    let from = start .args .lead + at-loop .loop .u in
+    let to = length (start .args .part .now) in
+    Between
+    (stepIn (contextOf (start .args .ride)) (start .args .text .now) (itemOf (start .args .text .now) (start .args .shapes .now) (start .args .at)) (start .args .place)
+    (start .args .part .now) to from to)
+    (start .args .part .now) from to (at-loop .loop .m) (at-loop .loop .out) (c .if2 .out) (c .if2 .r)
 array·elements-turn t c =
     let at-loop = c .before .before in
     let start = at-loop .before .before .before .before .before .before .before in

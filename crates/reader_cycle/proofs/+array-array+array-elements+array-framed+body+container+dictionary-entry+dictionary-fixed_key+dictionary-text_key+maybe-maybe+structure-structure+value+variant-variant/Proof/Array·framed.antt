@@ -59,11 +59,11 @@ array·framed-callees t = (
 )
 
 abbrev array·framed-Inv-loop : array·framed-lts.InvT-loop
-array·framed-Inv-loop text shapes at offsets part lead place ride out₀ n child′ width code is-entry many′ b′ table i₀ u₀ m₀ out i u m =
-    FramedLeft (stepIn (contextOf ride) text (itemOf text shapes at) place part (lead + offsets .start)) part lead (lead + offsets .start) n out₀ (endsOf (tableIn offsets) (drop lead part)) i u m out
+array·framed-Inv-loop text shapes at offsets part lead place ride out₀ n child′ width code is-entry many′ b′ table i₀ stopped₀ m₀ out i stopped m =
+    FramedLeft (stepIn (contextOf ride) text (itemOf text shapes at) place part (lead + offsets .start)) part lead (lead + offsets .start) n out₀ (endsOf (tableIn offsets) (drop lead part)) i stopped m out
 
 abbrev array·framed-μ-loop : array·framed-lts.MeasureT-loop
-array·framed-μ-loop text shapes at offsets part lead place ride out₀ n child′ width code is-entry many′ b′ table i₀ u₀ m₀ out i u m =
+array·framed-μ-loop text shapes at offsets part lead place ride out₀ n child′ width code is-entry many′ b′ table i₀ stopped₀ m₀ out i stopped m =
     offsets .count - i
 
 array·framed-add-child : (t : ℕ) → array·framed-lts.Need-add-child (array·framed-callees t) (array·framed-at t) array·framed.Post array·framed-Inv-loop array·framed-μ-loop
@@ -233,31 +233,25 @@ array·framed-value-requires t c κs =
     )
 
 -- what one turn reads: an element, or an entry
-array·framed-turn : (t : ℕ) (c : array·framed-lts.Joined3 (array·framed-callees t) (array·framed-at t) array·framed.Post array·framed-Inv-loop array·framed-μ-loop)
-    → Between (stepIn (contextOf (c .before .before .before .before .before .before .before .before .before .before .before .before .before .before .before .args .ride))
-    (c .before .before .before .before .before .before .before .before .before .before .before .before .before .before .before .args .text .now)
-    (itemOf (c .before .before .before .before .before .before .before .before .before .before .before .before .before .before .before .args .text .now)
-    (c .before .before .before .before .before .before .before .before .before .before .before .before .before .before .before .args .shapes .now)
-    (c .before .before .before .before .before .before .before .before .before .before .before .before .before .before .before .args .at))
-    (c .before .before .before .before .before .before .before .before .before .before .before .before .before .before .before .args .place)
-    (c .before .before .before .before .before .before .before .before .before .before .before .before .before .before .before .args .part .now)
-    (c .before .before .before .before .before .before .before .before .before .before .before .before .before .before .before .args .lead + c .before .before .before .before .before .before .before .before .before .before .before .before .before .before .before .args .offsets .start)
-    (c .before .before .before .before .before .before .before .before .before .before .before .before .before .before .before .args .lead + c .before .before .before .before .loop .u)
-    (c .before .before .before .before .before .before .before .before .before .before .before .before .before .before .before .args .lead + c .before .before .next-in .result .value))
-    (c .before .before .before .before .before .before .before .before .before .before .before .before .before .before .before .args .part .now)
-    (c .before .before .before .before .before .before .before .before .before .before .before .before .before .before .before .args .lead + c .before .before .before .before .loop .u)
-    (c .before .before .before .before .before .before .before .before .before .before .before .before .before .before .before .args .lead + c .before .before .next-in .result .value)
-    (c .before .before .before .before .loop .m) (c .before .before .before .before .loop .out) (c .if3 .out)
-    (c .if3 .r)
+array·framed-turn : (t : ℕ) (c : array·framed-lts.Joined3 (array·framed-callees t) (array·framed-at t) array·framed.Post array·framed-Inv-loop array·framed-μ-loop) →
+    let at-next = c .before .before in
+    let at-loop = at-next .before .before in
+    let start = at-loop .before .before .before .before .before .before .before .before .before .before .before in
+    let from = start .args .lead + at-loop .loop .stopped in
+    let to = start .args .lead + at-next .next-in .result .value in
+    Between
+    (stepIn (contextOf (start .args .ride)) (start .args .text .now) (itemOf (start .args .text .now) (start .args .shapes .now) (start .args .at)) (start .args .place)
+    (start .args .part .now) (start .args .lead + start .args .offsets .start) from to)
+    (start .args .part .now) from to (at-loop .loop .m) (at-loop .loop .out) (c .if3 .out) (c .if3 .r)
 array·framed-turn t c =
     let at-next = c .before .before in
     let at-loop = at-next .before .before in
     let start = at-loop .before .before .before .before .before .before .before .before .before .before .before in
     ⊎-elim (λ x. arrived (x .5) (x .6) (step-entry (contextOf (start .args .ride)) (start .args .text .now) (start .args .shapes .now) (start .args .at) _ (start .args .place)
-    (start .args .part .now) (start .args .lead + start .args .offsets .start) (start .args .lead + at-loop .loop .u)
+    (start .args .part .now) (start .args .lead + start .args .offsets .start) (start .args .lead + at-loop .loop .stopped)
     (start .args .lead + at-next .next-in .result .value) _ _ _ _ (x .0 .taken) (x .2 .ensures)))
     (λ x. arrived (x .5) (x .6) (step-element (contextOf (start .args .ride)) (start .args .text .now) (start .args .shapes .now) (start .args .at) _ (start .args .place)
-    (start .args .part .now) (start .args .lead + start .args .offsets .start) (start .args .lead + at-loop .loop .u)
+    (start .args .part .now) (start .args .lead + start .args .offsets .start) (start .args .lead + at-loop .loop .stopped)
     (start .args .lead + at-next .next-in .result .value) _ _ _ _ (x .0 .left) (x .2 .ensures)))
     (c .if3 .came)
 
@@ -289,8 +283,8 @@ array·framed-returns-3 t c =
     (rw (next-end (start .pre .1 .4) (at-loop .loop .i) (at-next .next-in .result) (at-loop-test .loop-test .taken)
     (offset-told (start .args .offsets) (at-loop .loop .i) (start .args .lead) (start .args .part .now) (at-loop-test .loop-test .taken) (at-next .next-in .ensures))) at (array·framed-turn t (at-2))) (at-if2 .if4 .taken))
 
-array·framed-add-u : (t : ℕ) → array·framed-lts.Need-add-u (array·framed-callees t) (array·framed-at t) array·framed.Post array·framed-Inv-loop array·framed-μ-loop
-array·framed-add-u t c =
+array·framed-add-stopped : (t : ℕ) → array·framed-lts.Need-add-stopped (array·framed-callees t) (array·framed-at t) array·framed.Post array·framed-Inv-loop array·framed-μ-loop
+array·framed-add-stopped t c =
     let at-2 = c .before .before in
     let at-loop = at-2 .before .before .before .before in
     let start = at-loop .before .before .before .before .before .before .before .before .before .before .before in
@@ -376,7 +370,7 @@ array·framed-spec t =
     (array·framed-behind-requires t)
     (array·framed-same-length-3 t)
     (array·framed-returns-3 t)
-    (array·framed-add-u t)
+    (array·framed-add-stopped t)
     (array·framed-add-i t)
     (array·framed-loop-less t)
     (array·framed-loop-again t)

@@ -9,16 +9,11 @@ use borrow.Author.Tests.{eq-eqb}
 use borrow.Fn.Kind.{PK}
 use borrow.Fn.Kinds.{In}
 use borrow.Fn.PlainCycle.{Measures, and, falls, is}
-use Rattle.meaning.specs.Depths as Depth
 use Rattle.meaning.specs.Depths.{Opened, total, depthRefusal, opened}
 use Rattle.meaning.proofs.Bounds.{total-most, total-opened}
-use Rattle.container_depths.specs.Opening.{depthsOf, Raises}
+use Rattle.container_depths.specs.Opening.{depthsOf, Raises, level}
 use Rattle.container_depths.specs.declared.ContainerDepths.{ContainerDepths}
 use Rattle.container_depths.specs.declared.Raised.{Raised}
-
--- what is left of the depth
-abbrev pub level : ContainerDepths → ℕ
-level d = 64 - total (depthsOf d)
 
 -- of a function in a cycle of calls: what it is given at a measure, and what a call of it asks below one
 abbrev pub given : (n : ℕ) (ps : List (PK n)) → Measures n ps ℕ → In n ps → ℕ → In n ps

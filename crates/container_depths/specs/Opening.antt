@@ -2,12 +2,18 @@
 use mathlib.Core.Path.{_≡_}
 use lib.Dec.{eqb}
 use Rattle.meaning.specs.Choice.{pick}
-use Rattle.meaning.specs.Depths.{Depths, depths, depthRefusal}
+use Prim.Native.Nat.{ℕ, _-_}
+use Rattle.meaning.specs.Limits.{mostContainers}
+use Rattle.meaning.specs.Depths.{Depths, depths, total, depthRefusal}
 use Rattle.container_depths.specs.declared.ContainerDepths.{ContainerDepths}
 use Rattle.container_depths.specs.declared.Raised.{Raised}
 
 abbrev pub depthsOf : ContainerDepths → Depths
 depthsOf d = depths (d .structure) (d .array) (d .variant) (d .maybe)
+
+-- how many containers may still be opened
+abbrev pub level : ContainerDepths → ℕ
+level d = mostContainers - total (depthsOf d)
 
 -- a raise from one record to another: its refusal, and the record as it then is, raised or as it was
 pub record Raises (before after : Depths) (r : Raised) : Type 0 where

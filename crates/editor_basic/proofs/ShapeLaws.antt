@@ -16,9 +16,9 @@ use Rattle.meaning.proofs.Tests.{impossible, both-true}
 use Rattle.meaning_writing.specs.Shapes.{Shape, shapeOf, basicShape, part, behindPadding, fixedEnd, lastEnd, fieldEnd, offsetsLeft, sizesFrom, structureShape}
 use Rattle.meaning_writing.specs.Strict.{testOf}
 use Rattle.meaning_writing.specs.Readings.{Slot, slotOf}
-use Rattle.meaning_writing.specs.Edited.{Editor, editorShapes, maybeEditor, arrayEditor, structureEditor, containerEditor, variantEditor, editorOver, editorOf, foundPiece, fieldsFrom}
+use Rattle.meaning_writing.specs.Edited.{Editor, editorShapes, maybeEditor, arrayEditor, structureEditor, containerEditor, variantEditor, editorOver, editorOf, foundPiece, fieldsFrom, variantsEditor, editorsOf}
 use Rattle.meaning_writing.proofs.StrictSteps.{test-alignment, test-fixed, test-size}
-use Rattle.meaning_writing.proofs.EditedSteps.{variantsEditor, editorsOf, editor-over, editor-basic, editor-maybe, editor-array, editor-dictionary, editor-structure, editors-last, editors-next}
+use Rattle.meaning_writing.proofs.EditedSteps.{editor-over, editor-basic, editor-maybe, editor-array, editor-dictionary, editor-structure, editors-last, editors-next}
 use Rattle.editor_basic.specs.Rows.{typeShape, fieldPiece, lastStop, nextStop, rowPieces}
 
 -- ---- what is known of both before bytes are looked at

@@ -14,9 +14,9 @@ use Rattle.meaning.specs.Padding.{Aligns}
 use Rattle.meaning.specs.Types.{Tree, Fields, last, next, fixed}
 use Rattle.meaning.proofs.Tests.{both-true}
 use Rattle.meaning_writing.specs.Shapes.{part, behindPadding, fixedEnd, lastEnd, fieldEnd, offsetsLeft}
-use Rattle.meaning_writing.specs.Strict.{Test, allZero, childWritten, elementEnd, elementsWritten, fieldsWritten, testOf}
+use Rattle.meaning_writing.specs.Strict.{Test, allZero, childWritten, elementEnd, elementsWritten, fieldsWritten, testOf, testsOf}
 use Rattle.meaning_writing.proofs.StrictLaws.{ChildAt, child-sound}
-use Rattle.meaning_writing.proofs.StrictSteps.{testsOf, tests-last, tests-next}
+use Rattle.meaning_writing.proofs.StrictSteps.{tests-last, tests-next}
 use Rattle.signature.specs.Trees.{fieldsAt, Rowed}
 use Rattle.strict_basic.specs.Sizes.{offsetsIn, Tabled}
 use Rattle.strict_basic.proofs.SizeLaws.{Some, some-tests}

@@ -7,3 +7,10 @@ use lib.ListN.{set}
 unfoldable pub over : List ℕ → ℕ → List ℕ → List ℕ
 over out at [] = out
 over out at (b ∷ bs) = over (set out at b) (at + 1) bs
+
+-- more than what stands behind a changed child can be, and more than the offsets behind a changed last field: crude, so that sums stay small
+abbrev pub restMost : ℕ
+restMost = 3000000
+
+abbrev pub lastMost : ℕ
+lastMost = 600000

@@ -14,7 +14,7 @@ ghost use Rattle.meaning.specs.Offsets.{table, entries};
 ghost use Rattle.meaning.specs.Padding.{Aligns};
 ghost use Rattle.signature.specs.Trees.{fieldsAt};
 ghost use Rattle.strict_basic.specs.Sizes.{offsetsIn};
-ghost use Rattle.editor_basic.specs.Puts.{over};
+ghost use Rattle.editor_basic.specs.Puts.{over, restMost, lastMost};
 ghost use Rattle.editor_basic.specs.Rows.{StandingRow, lastNow, lastLengthNow, rowNow, rowLengthNow};
 
 // So many offsets from a place on, as a table of another width: the ends of the fields in front of the changed one, which stay.
@@ -58,7 +58,7 @@ pub fn finish_last(
     requires { ⌜ (end ≤ length (now old)) × (length (now old) ≤ largestFrame) × Aligns narrow × (at + to < 2 ^ 29) ⌝ }
     ensures bytes { λ r. ⌜ now (out .exit) ≡ over (now (out .entry)) at (lastNow end narrow (now (old .entry)) to) ⌝ }
     ensures length { λ r. ⌜ r ≡ lastLengthNow end narrow (now (old .entry)) to ⌝ }
-    ensures near { λ r. ⌜ r < to + 600000 ⌝ }
+    ensures near { λ r. ⌜ r < to + lastMost ⌝ }
 {
     let count = (old.len() - end) / narrow;
     let size = width_for(to, count);
@@ -80,7 +80,7 @@ pub fn finish_structure(
     requires { ⌜ StandingRow (now text) (now tables) rest (now old) × (rest .end + rest .width ≤ length (now old)) × (rest .body + offsetsIn (fieldsAt (now text) (rest .at)) * rest .width ≡ rest .end) × (at + to < 2 ^ 29) ⌝ }
     ensures bytes { λ r. ⌜ now (out .exit) ≡ over (now (out .entry)) at (rowNow (now (text .entry)) rest (now (old .entry)) to) ⌝ }
     ensures length { λ r. ⌜ r ≡ rowLengthNow (now (text .entry)) rest (now (old .entry)) to ⌝ }
-    ensures near { λ r. ⌜ r < to + 3000000 ⌝ }
+    ensures near { λ r. ⌜ r < to + restMost ⌝ }
 {
     let end = move_fields(text, tables, old, rest, out, at, to);
     let narrow = rest.width;

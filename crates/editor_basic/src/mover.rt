@@ -3,7 +3,6 @@
 ghost use mathlib.Core.Path.{_≡_};
 ghost use mathlib.Core.List.{_++_, reverse};
 ghost use Prim.Native.Nat.{_+_, _-_, _<_, _^_, min};
-ghost use lib.ListN.{length};
 ghost use Rattle.meaning.specs.Numbers.{bytes, ordered};
 ghost use Rattle.meaning.specs.Padding.{zeros};
 ghost use Rattle.editor_basic.specs.Puts.{over};

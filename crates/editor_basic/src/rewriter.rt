@@ -12,11 +12,11 @@ use crate::mover::move_part;
 use crate::mover::put_low_first;
 ghost use mathlib.Core.Path.{_≡_};
 ghost use mathlib.Core.List.{[]};
-ghost use Prim.Native.Nat.{_+_, _-_, _*_, _<_, _≤_, _^_};
+ghost use Prim.Native.Nat.{_+_, _*_, _<_, _≤_, _^_};
 ghost use lib.ListN.{length};
 ghost use Rattle.meaning.specs.Offsets.{table, backTable};
 ghost use Rattle.meaning.specs.Written.{layout, ends, unless, fieldEnds};
-ghost use Rattle.editor_basic.specs.Puts.{over};
+ghost use Rattle.editor_basic.specs.Puts.{over, restMost};
 ghost use Rattle.editor_basic.specs.Elements.{elementsIn, Standing, restNow, lengthNow};
 ghost use Rattle.editor_basic.specs.Rows.{fieldsIn, StandingRow};
 
@@ -91,7 +91,7 @@ pub fn finish_array(
     requires { ⌜ Standing front (now old) × Standing rest (now old) × (at + to < 2 ^ 29) ⌝ }
     ensures bytes { λ r. ⌜ now (out .exit) ≡ over (now (out .entry)) at (restNow front rest (now (old .entry)) to) ⌝ }
     ensures length { λ r. ⌜ r ≡ lengthNow front rest (now (old .entry)) to ⌝ }
-    ensures near { λ r. ⌜ r < to + 3000000 ⌝ }
+    ensures near { λ r. ⌜ r < to + restMost ⌝ }
 {
     let end = move_elements(old, rest, out, at, to);
     let before = front.count;

@@ -1,4 +1,4 @@
-// Arrays and dictionaries.
+// Arrays and dictionaries: the child that holds the reading, and those behind it with the table.
 use crate::dictionary::step;
 use container_depths::ContainerDepths;
 use editor_basic::elements::behind;

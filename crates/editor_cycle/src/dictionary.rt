@@ -1,4 +1,4 @@
-// What an array or a dictionary repeats.
+// What an array or a dictionary repeats: an element, or an entry with the reading in its value.
 use crate::value;
 use container_depths::ContainerDepths;
 use editor_steps::answers::Aim;

@@ -1,4 +1,4 @@
-// Maybes: readings, and others.
+// Maybes: a reading itself, or a maybe round what holds one.
 use crate::value;
 use container_depths::ContainerDepths;
 use editor_steps::answers::Aim;

@@ -1,4 +1,4 @@
-// Structures.
+// Structures: the field that holds the reading, and those behind it with the offsets.
 use crate::value;
 use container_depths::ContainerDepths;
 use editor_basic::fields::Row;

@@ -1,4 +1,4 @@
-// Variants.
+// Variants: the value that holds the reading, and its type behind it.
 use crate::value;
 use container_depths::ContainerDepths;
 use editor_steps::answers::Aim;

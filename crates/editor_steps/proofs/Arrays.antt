@@ -32,6 +32,7 @@ use Rattle.editor_basic.proofs.ElementLaws.{elements-none, firstPiece, elements
 use Rattle.editor_basic.proofs.WrittenLaws.{elements-stand}
 use Rattle.editor_basic.proofs.PassedLaws.{end-of-more}
 use Rattle.editor_basic.proofs.FoundLaws.{array-now}
+use Rattle.editor_basic.specs.Puts.{restMost}
 use Rattle.editor_steps.specs.declared.answers.Walked.{Walked}
 use Rattle.editor_steps.specs.Walks.{Walks, Ready, elementsEditor}
 use Rattle.editor_steps.specs.Starts.{bodyOf, AllOf}
@@ -271,13 +272,13 @@ module _ {t : Test} {e : Editor} {d : Depths} {l : List ℕ} {a : ℕ} {all rest
     elements-turn z r hr = (elements-next q h f (w .length) r (k .past z .count-is) (k .past z .beyond) hr, k .past z .kept)
 
     pub elements-found : w .found ≡ true → (out₂ : List ℕ) (r : Walked)
-        → Closes p (c .start) (restNow (frontOf all (all .count - rest .count)) (behindOf rest (c .end)) l (endNow (c .start) w)) 3000000 w out₁ out₂ r → c .start + m′ + 3000000 ≤ m
+        → Closes p (c .start) (restNow (frontOf all (all .count - rest .count)) (behindOf rest (c .end)) l (endNow (c .start) w)) restMost w out₁ out₂ r → c .start + m′ + restMost ≤ m
         → Walks (elementsEditor e) d p l i x m before out₂ r
     unfolding containerEditor
     elements-found z out₂ r y small =
         let v = k .here z .within in
         found-closed (elementsEditor e) d p l i e d (c .start) (part (c .start) (c .end) l) left x m m′ before out₁ out₂ w r (ahead q h f v x)
-        (restNow (frontOf all (all .count - rest .count)) (behindOf rest (c .end)) l (endNow (c .start) w)) 3000000 y k z
+        (restNow (frontOf all (all .count - rest .count)) (behindOf rest (c .end)) l (endNow (c .start) w)) restMost y k z
         (subst (λ (ps : List Piece). i < countIn (alike e ps)) (sym pieces-are) (element-within q h f v))
         (ap (λ (ps : List Piece). spotIn d p 0 (alike e ps) i) pieces-are ∙ element-spot q h f v d p)
         (λ n. ap (λ (ps : List Piece). arrayBytes false (editedIn (alike e ps) i x)) pieces-are ∙ element-edited q h f v x

@@ -5,7 +5,7 @@ use Prim.Native.Nat.{ℕ, _+_, _-_, _≤_, _<_}
 use native.Mathlib.Omega.{arith}
 use borrow.Author.Tests.{lt-ltb, le-ltb}
 use Rattle.meaning.specs.Depths.{Depths}
-use Rattle.meaning.specs.Written.{Piece, stop, layout}
+use Rattle.meaning.specs.Written.{Piece, stop}
 use Rattle.meaning_writing.specs.Readings.{MaybeNumber}
 use Rattle.meaning_writing.specs.Edited.{Editor, Child, childCount, childSpot, childEdited, countIn, spotIn, piecesOf, editedIn, alike}
 use Rattle.meaning_writing.proofs.EditedSteps.{endOf, endOf-cons, endOf-none}

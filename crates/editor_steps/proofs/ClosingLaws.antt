@@ -14,7 +14,7 @@ use Rattle.meaning_writing.specs.Shapes.{part}
 use Rattle.framing_offset_size.specs.Widths.{widthOf}
 use Rattle.framing_offset_size.specs.declared.FramingOffsetSize.{FramingOffsetSize}
 use Rattle.framing_offset_size.specs.declared.FramingOffsetSize.the-variants.{U8, U16, U32, U64}
-use Rattle.editor_basic.specs.Puts.{over}
+use Rattle.editor_basic.specs.Puts.{over, restMost}
 use Rattle.editor_basic.specs.declared.elements.Elements.{Elements}
 use Rattle.editor_basic.specs.declared.fields.Row.{Row}
 use Rattle.editor_basic.specs.declared.fields.Field.{Field}
@@ -96,11 +96,11 @@ rest-is e e′ {l} q s = subst (λ (z : Elements). Standing z l) (sym q) s
 
 module _ (all rest : Elements) (end : ℕ) (l : List ℕ) (p start : ℕ) (w : Walked) (front behind : Elements) (n : ℕ) (out out′ : List ℕ) (at : ℕ) (r : Walked) where
   pub element-closed : edits w ≡ true → r ≡ editedAs (w .place) n → front ≡ frontOf all (all .count - rest .count) → behind ≡ behindOf rest end → n ≡ lengthNow front behind l (endNow start w)
-      → n < endNow start w + 3000000 → at ≡ endIn p start w → out′ ≡ over out at (restNow front behind l (endNow start w))
-      → Closes p start (restNow (frontOf all (all .count - rest .count)) (behindOf rest end) l (endNow start w)) 3000000 w out out′ r
+      → n < endNow start w + restMost → at ≡ endIn p start w → out′ ≡ over out at (restNow front behind l (endNow start w))
+      → Closes p start (restNow (frontOf all (all .count - rest .count)) (behindOf rest end) l (endNow start w)) restMost w out out′ r
   element-closed h q f b m k a o =
       closes-as (ap (λ (z : Elements). restNow z behind l (endNow start w)) f ∙ ap (λ (z : Elements). restNow (frontOf all (all .count - rest .count)) z l (endNow start w)) b) (omega arith)
-      (closes-joined p start (restNow front behind l (endNow start w)) 3000000 w out out′ n at r h q (array-rest-length front behind l (endNow start w) ∙ sym m) a o (omega arith))
+      (closes-joined p start (restNow front behind l (endNow start w)) restMost w out out′ n at r h q (array-rest-length front behind l (endNow start w) ∙ sym m) a o (omega arith))
 
 module _ {text tables : List ℕ} (row : Row) (f : Field) (l : List ℕ) (rest : Row) (q : rest ≡ behindField row f) where
   pub row-asked : FieldBehind text tables row f l → f .last ≡ false → {n m : ℕ} → n < m
@@ -108,11 +108,11 @@ module _ {text tables : List ℕ} (row : Row) (f : Field) (l : List ℕ) (rest :
   row-asked g h s = rw q (g .rest h, g .room h, g .exact h, s)
 
 pub field-closed : (text : List ℕ) (row : Row) (f : Field) (l : List ℕ) (p : ℕ) (w : Walked) (n : ℕ) (out out′ : List ℕ) (at : ℕ) (r : Walked) (rest : Row) → edits w ≡ true → f .last ≡ false
-    → r ≡ editedAs (w .place) n → rest ≡ behindField row f → n ≡ rowLengthNow text rest l (endNow (f .start) w) → n < endNow (f .start) w + 3000000 → at ≡ endIn p (f .start) w
-    → out′ ≡ over out at (rowNow text rest l (endNow (f .start) w)) → Closes p (f .start) (fieldRest text row f l (endNow (f .start) w)) 3000000 w out out′ r
+    → r ≡ editedAs (w .place) n → rest ≡ behindField row f → n ≡ rowLengthNow text rest l (endNow (f .start) w) → n < endNow (f .start) w + restMost → at ≡ endIn p (f .start) w
+    → out′ ≡ over out at (rowNow text rest l (endNow (f .start) w)) → Closes p (f .start) (fieldRest text row f l (endNow (f .start) w)) restMost w out out′ r
 field-closed text row f l p w n out out′ at r rest h g q b m k a o =
     closes-as (ap (λ (z : Row). rowNow text z l (endNow (f .start) w)) b ∙ sym (rest-row text row f l (endNow (f .start) w) g)) (omega arith)
-    (closes-joined p (f .start) (rowNow text rest l (endNow (f .start) w)) 3000000 w out out′ n at r h q (structure-rest-length text rest l (endNow (f .start) w) ∙ sym m) a o (omega arith))
+    (closes-joined p (f .start) (rowNow text rest l (endNow (f .start) w)) restMost w out out′ n at r h q (structure-rest-length text rest l (endNow (f .start) w) ∙ sym m) a o (omega arith))
 
 pub edits-by : (w : Walked) → w .found ≡ true → eqb (w .refusal) 0 ≡ edits w
 edits-by w h = rw h

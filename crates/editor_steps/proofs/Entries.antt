@@ -7,7 +7,6 @@ use native.Mathlib.Omega.{arith}
 use lib.Dec.{leb, eqb}
 use lib.ListN.{length, take, drop, length-append, length-replicate}
 use borrow.Author.Tests.{leb-true}
-use Rattle.meaning.specs.Numbers.{value}
 use Rattle.meaning.specs.Offsets.{encodedWidth, writtenWidth}
 use Rattle.meaning.specs.Padding.{Aligns, padding, zeros}
 use Rattle.meaning.specs.Written.{Piece, stop, layout, structureBytes}
@@ -34,6 +33,7 @@ use Rattle.editor_basic.specs.Rows.{keptEnds, lastNow}
 use Rattle.editor_basic.proofs.ShapeLaws.{editor-alignment, editor-fixed}
 use Rattle.editor_basic.proofs.PassedLaws.{last-now, key-fixed, key-loose}
 use Rattle.editor_basic.proofs.FoundLaws.{up-to-end}
+use Rattle.editor_basic.specs.Puts.{lastMost}
 use Rattle.editor_steps.specs.declared.answers.Walked.{Walked}
 use Rattle.editor_steps.specs.declared.starts.Entry.{Entry}
 use Rattle.editor_steps.specs.Walks.{treeEditor, Walks, entryMost, most, Ready, letterEditor, entryEditors, itemEditor, itemTest, Repeats}
@@ -301,10 +301,10 @@ module _ {text tables : List ℕ} {i : Item} (g : Repeats text tables i) (d : Co
             ∙ ap (λ (e : ℕ). (front ++ its .edited (take (v .body - v .start) (drop (v .start) l)) j x) ++ lastNow e wide l (endNow (v .start) u)) (sym body-is)
             ∙ ap (λ (e : ℕ). (front ++ its .edited (take (v .body - v .start) (drop (v .start) l)) j x) ++ lastNow (v .body) e l (endNow (v .start) u)) (sym width-is)
 
-        pub entry-closed : (out₂ : List ℕ) (r : Walked) → Closes p (v .start) (lastNow (v .body) (v .width) l (endNow (v .start) u)) 600000 u out₁ out₂ r
+        pub entry-closed : (out₂ : List ℕ) (r : Walked) → Closes p (v .start) (lastNow (v .body) (v .width) l (endNow (v .start) u)) lastMost u out₁ out₂ r
             → Walks (itemEditor big (d .variant) text i) (depthsOf d) p l j x (most d + entryMost) out out₂ r
         entry-closed out₂ r y =
             subst (λ (e : Editor). Walks e (depthsOf d) p l j x (most d + entryMost) out out₂ r) (sym (editor-is big))
             (through-closed whole (depthsOf d) p l j its (depthsOf d) (v .start) (take (v .body - v .start) (drop (v .start) l)) j x (most d + entryMost) (most d) out out₁ out₂ u r
-            front (lastNow (v .body) (v .width) l (endNow (v .start) u)) 600000 y k refl
+            front (lastNow (v .body) (v .width) l (endNow (v .start) u)) lastMost y k refl
             (count-is big ∙ ap (λ (z : List ℕ). its .count z) bytes-are) spotted changed front-length (omega (arith, entry-order .0, entry-order .1, w .near)))

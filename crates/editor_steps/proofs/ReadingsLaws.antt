@@ -36,6 +36,7 @@ use Rattle.editor_basic.specs.Elements.{startOf, behindOf, Standing, FirstOf, r
 use Rattle.editor_basic.specs.declared.elements.Elements.{Elements}
 use Rattle.editor_basic.specs.declared.elements.Child as element
 use Rattle.editor_basic.proofs.ElementLaws.{first-of}
+use Rattle.editor_basic.specs.Puts.{restMost}
 use Rattle.editor_steps.specs.declared.answers.Aim.{Aim}
 use Rattle.editor_steps.specs.declared.answers.Walked.{Walked}
 use Rattle.editor_steps.specs.Walks.{newOf, Walks, containerMost, most, Ready, itemEditor, itemTest, elementsTest, elementsEditor}
@@ -169,7 +170,7 @@ module _ {kind : Letter} {a : ℕ} {d : ContainerDepths} {p : ℕ} {l : List ℕ
             each-fits y =
                 element-fits g same-alignment loose past-here p x (most d + containerMost) some-left f (most d) out out out₁ refl v k (omega (arith, f .order, f .inside, w .ready .near, most-small d)) y
 
-            pub each-found : Closes p (c .start) (restNow (frontOf all (all .count - rest .count)) (behindOf rest (c .end)) l (endNow (c .start) v)) 3000000 v out₁ out₂ r
+            pub each-found : Closes p (c .start) (restNow (frontOf all (all .count - rest .count)) (behindOf rest (c .end)) l (endNow (c .start) v)) restMost v out₁ out₂ r
                 → Walks (elementsEditor its-editor) (depthsOf d) p l i x (most d + containerMost) out out₂ r
             each-found y =
                 elements-found g same-alignment loose past-here p x (most d + containerMost) some-left f (most d) out out out₁ refl v k is-found out₂ r y

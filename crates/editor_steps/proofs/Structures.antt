@@ -18,12 +18,12 @@ use Rattle.meaning.specs.Types.{Fields, structure, last, next, alignment, large
 use Rattle.meaning.proofs.Tests.{both-true}
 use Rattle.meaning.proofs.PaddingLaws.{aligns-positive}
 use Rattle.meaning_writing.specs.Shapes.{part, fixedEnd, oneMore, offsetCount, fieldEnd, offsetsLeft}
-use Rattle.meaning_writing.specs.Strict.{Test, testShapes, fieldsFinished, fieldsWritten, offsetsWritten, structureWritten, structureTest, entryTest, testOf}
+use Rattle.meaning_writing.specs.Strict.{Test, testShapes, fieldsFinished, fieldsWritten, offsetsWritten, structureWritten, structureTest, entryTest, testOf, testsOf}
 use Rattle.meaning_writing.specs.Readings.{MaybeNumber}
-use Rattle.meaning_writing.specs.Edited.{Editor, editorShapes, Child, foundPiece, fieldsFrom, fieldsOf, countIn, spotIn, piecesOf, editedIn, each, containerEditor, structureEditor, editorOf}
+use Rattle.meaning_writing.specs.Edited.{Editor, editorShapes, Child, foundPiece, fieldsFrom, fieldsOf, countIn, spotIn, piecesOf, editedIn, each, containerEditor, structureEditor, editorOf, editorsOf}
 use Rattle.meaning_writing.proofs.Parts.{length-part}
-use Rattle.meaning_writing.proofs.StrictSteps.{testsOf, test-structure}
-use Rattle.meaning_writing.proofs.EditedSteps.{editorsOf, editor-structure, editors-last, editors-next, endOf, upTo, upToEnd}
+use Rattle.meaning_writing.proofs.StrictSteps.{test-structure}
+use Rattle.meaning_writing.proofs.EditedSteps.{editor-structure, editors-last, editors-next, endOf, upTo, upToEnd}
 use Rattle.container_depths.specs.Opening.{depthsOf, Raises}
 use Rattle.container_depths.specs.declared.ContainerDepths.{ContainerDepths}
 use Rattle.container_depths.specs.declared.Raised.{Raised}
@@ -45,6 +45,7 @@ use Rattle.editor_basic.proofs.ShapeLaws.{editor-fixed, pieces-are}
 use Rattle.editor_basic.proofs.WrittenLaws.{row-stands, field-accepted, fields-accepted}
 use Rattle.editor_basic.proofs.PassedLaws.{Passed, passed-begin, passed-next, passed-behind, last-rewritten, row-rewritten}
 use Rattle.editor_basic.proofs.FoundLaws.{up-to-end}
+use Rattle.editor_basic.specs.Puts.{restMost}
 use Rattle.editor_steps.specs.declared.answers.Walked.{Walked}
 use Rattle.editor_steps.specs.Walks.{treeEditor, Walks, containerMost, most, Ready, rowTest, rowEditor}
 use Rattle.editor_steps.specs.Starts.{rowAs, rowTests, rowEditors, AllRow}
@@ -318,13 +319,13 @@ module _ (nested : ℕ) {d : Depths} {text tables l : List ℕ} {all row : Row} 
         counts (rowEditor 1 editors) d p l i x m before out₁ (i - (left - w .length)) r h
         (fields-end q g e (w .length) (j .past z .count-is) (j .past z .beyond) ∙ ap countIn (sym children-are)) (omega arith) (j .past z .kept)
 
-    pub fields-found : w .found ≡ true → (out₂ : List ℕ) (r : Walked) → Closes p (f .start) (fieldRest text row f l (endNow (f .start) w)) 3000000 w out₁ out₂ r → f .start + m′ + 3000000 ≤ m
+    pub fields-found : w .found ≡ true → (out₂ : List ℕ) (r : Walked) → Closes p (f .start) (fieldRest text row f l (endNow (f .start) w)) restMost w out₁ out₂ r → f .start + m′ + restMost ≤ m
         → Walks (rowEditor 1 editors) d p l i x m before out₂ r
     unfolding structureEditor containerEditor
     fields-found z out₂ r y small =
         let v = j .here z .within in
         found-closed (rowEditor 1 editors) d p l i its-editor d (f .start) (part (f .start) (f .stop) l) left x m m′ before out₁ out₂ w r (ahead q g v)
-        (fieldRest text row f l (endNow (f .start) w)) 3000000 y j z
+        (fieldRest text row f l (endNow (f .start) w)) restMost y j z
         (subst (λ (cs : List Child). i < countIn cs) (sym children-are) (field-within q g v))
         (ap (λ (cs : List Child). spotIn d p 0 cs i) children-are ∙ field-spot q g v d p)
         (λ n. ap (λ (cs : List Child). structureBytes 1 false (editedIn cs i x)) children-are ∙ field-edited q g v 1 x

@@ -20,13 +20,13 @@ use Rattle.meaning.specs.Written.{deeper}
 use Rattle.meaning.proofs.Tests.{both-true}
 use Rattle.meaning_writing.specs.Strict.{Test, presentWritten, maybeWritten, maybeTest, testOf}
 use Rattle.meaning_writing.specs.Readings.{MaybeNumber, Slot, ofBool, ofNumber, slotOf, slotType}
-use Rattle.meaning_writing.specs.Edited.{Editor, childBytes, roundChild, countMaybe, maybeEditor, structureEditor, editorOf}
+use Rattle.meaning_writing.specs.Edited.{Editor, childBytes, roundChild, countMaybe, maybeEditor, structureEditor, editorOf, editorsOf}
 use Rattle.meaning_writing.proofs.StrictSteps.{test-maybe}
-use Rattle.meaning_writing.proofs.EditedSteps.{editor-basic, editor-maybe, editor-structure, editorsOf}
-use Rattle.container_depths.specs.Opening.{depthsOf, Raises}
+use Rattle.meaning_writing.proofs.EditedSteps.{editor-basic, editor-maybe, editor-structure}
+use Rattle.container_depths.specs.Opening.{depthsOf, Raises, level}
 use Rattle.container_depths.specs.declared.ContainerDepths.{ContainerDepths}
 use Rattle.container_depths.specs.declared.Raised.{Raised}
-use Rattle.container_depths.proofs.Levels.{level, raised-to, raised-shallow, level-falls}
+use Rattle.container_depths.proofs.Levels.{raised-to, raised-shallow, level-falls}
 use Rattle.signature.specs.Places.{basicKind, letterAt}
 use Rattle.signature.specs.Shapes.{shapeIn}
 use Rattle.signature.specs.Trees.{treeAt, behindBy, Typed}

@@ -8,10 +8,8 @@ use Rattle.meaning.specs.Limits.{largestFrame, mostVariants}
 use Rattle.meaning.specs.Offsets.{encodedWidth, lastOffset}
 use Rattle.meaning.specs.Padding.{padding}
 use Rattle.meaning_writing.specs.Shapes.{oneMore, fieldEnd}
-use Rattle.meaning_writing.specs.Strict.{Test}
-use Rattle.meaning_writing.specs.Edited.{Editor}
-use Rattle.meaning_writing.proofs.StrictSteps.{testsOf}
-use Rattle.meaning_writing.proofs.EditedSteps.{editorsOf}
+use Rattle.meaning_writing.specs.Strict.{Test, testsOf}
+use Rattle.meaning_writing.specs.Edited.{Editor, editorsOf}
 use Rattle.framing_offset_size.specs.Widths.{widthOf}
 use Rattle.framing_offset_size.specs.declared.FramingOffsetSize.{FramingOffsetSize}
 use Rattle.signature.specs.Trees.{fieldsAt, Rowed}

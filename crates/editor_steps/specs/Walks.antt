@@ -15,9 +15,8 @@ use Rattle.meaning.specs.Written.{arrayBytes}
 use Rattle.meaning_writing.specs.Strict.{Test, arrayWritten, entryTest, testOf}
 use Rattle.meaning_writing.specs.Readings.{MaybeNumber, Spot, spells, mayStand}
 use Rattle.meaning_writing.specs.Edited.{Editor, still, alike, elementsOf, containerEditor, structureEditor, editorOf}
-use Rattle.container_depths.specs.Opening.{depthsOf}
+use Rattle.container_depths.specs.Opening.{depthsOf, level}
 use Rattle.container_depths.specs.declared.ContainerDepths.{ContainerDepths}
-use Rattle.container_depths.proofs.Levels.{level}
 use Rattle.signature.specs.Trees.{treeAt}
 use Rattle.signature.specs.declared.Letter.{Letter}
 use Rattle.signature.specs.declared.items.Item.{Item}

@@ -21,6 +21,7 @@ ghost use Rattle.meaning.specs.Limits.{largestFrame};
 ghost use Rattle.meaning.specs.Padding.{Aligns, zeros};
 ghost use Rattle.editor_basic.specs.Elements.{behindOf, restNow};
 ghost use Rattle.editor_basic.specs.Rows.{lastNow};
+ghost use Rattle.editor_basic.specs.Puts.{restMost, lastMost};
 ghost use Rattle.editor_steps.specs.Closing.{edits as editsAs, Fits, endNow, frontOf, Closes, Behind, FieldBehind, fieldRest};
 
 // A maybe of what is not fixed: one 0.
@@ -77,7 +78,7 @@ pub fn close_element(
     out: &mut [u8],
 ) -> Walked
     requires { ⌜ (editsAs walked ≡ true → Fits place start walked) × Behind all rest end (now part) ⌝ }
-    ensures { λ r. ⌜ Closes place start (restNow (frontOf all (all .count - rest .count)) (behindOf rest end) (now (part .entry)) (endNow start walked)) 3000000 walked (now (out .entry)) (now (out .exit)) r ⌝ }
+    ensures { λ r. ⌜ Closes place start (restNow (frontOf all (all .count - rest .count)) (behindOf rest end) (now (part .entry)) (endNow start walked)) restMost walked (now (out .entry)) (now (out .exit)) r ⌝ }
 {
     if !edits(walked) {
         return walked;
@@ -100,7 +101,7 @@ pub fn close_last(
     out: &mut [u8],
 ) -> Walked
     requires { ⌜ (editsAs walked ≡ true → Fits place start walked) × (end ≤ length (now part)) × (length (now part) ≤ largestFrame) × Aligns width ⌝ }
-    ensures { λ r. ⌜ Closes place start (lastNow end width (now (part .entry)) (endNow start walked)) 600000 walked (now (out .entry)) (now (out .exit)) r ⌝ }
+    ensures { λ r. ⌜ Closes place start (lastNow end width (now (part .entry)) (endNow start walked)) lastMost walked (now (out .entry)) (now (out .exit)) r ⌝ }
 {
     if !edits(walked) {
         return walked;
@@ -123,7 +124,7 @@ pub fn close_field(
     out: &mut [u8],
 ) -> Walked
     requires { ⌜ (editsAs walked ≡ true → Fits place (field .start) walked) × FieldBehind (now text) (now tables) row field (now part) ⌝ }
-    ensures { λ r. ⌜ Closes place (field .start) (fieldRest (now (text .entry)) row field (now (part .entry)) (endNow (field .start) walked)) 3000000 walked (now (out .entry)) (now (out .exit)) r ⌝ }
+    ensures { λ r. ⌜ Closes place (field .start) (fieldRest (now (text .entry)) row field (now (part .entry)) (endNow (field .start) walked)) restMost walked (now (out .entry)) (now (out .exit)) r ⌝ }
 {
     let start = field.start;
     let last = field.last;

@@ -12,7 +12,6 @@ use meaning::refusals::NO_VALUE;
 use signature::Letter;
 use strict_basic::basic::extent_of;
 ghost use mathlib.Core.Path.{_≡_};
-ghost use mathlib.Core.Bool.{true};
 ghost use Prim.Native.Nat.{_^_};
 ghost use lib.Dec.{ltb};
 ghost use Rattle.meaning.specs.Padding.{Aligns};

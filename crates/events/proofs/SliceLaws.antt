@@ -12,7 +12,6 @@ use borrow.Author.Tests.{lt-ltb, le-ltb}
 use Rattle.meaning.specs.Events.{Event, triples}
 use Rattle.events.specs.Slices.{nextEvent, put, putAll, advance}
 use Rattle.meaning.specs.Choice.{pick}
-use Rattle.meaning.specs.Calls.{filled}
 
 pub putAll-append : (es fs : List Event) (l : List ℕ) (n : ℕ) → putAll l n (es ++ fs) ≡ putAll (putAll l n es) (advance n es) fs
 unfolding putAll advance

@@ -1,6 +1,6 @@
 -- Events in a lent slice, three numbers for each, where there is room. Assumes nothing: these are definitions.
 use mathlib.Core.List.{List, [], _∷_}
-use Prim.Native.Nat.{ℕ, _+_, _-_, _*_, _/_}
+use Prim.Native.Nat.{ℕ, _+_, _*_, _/_}
 use lib.Dec.{ltb}
 use lib.ListN.{length, set}
 use Rattle.meaning.specs.Choice.{pick}

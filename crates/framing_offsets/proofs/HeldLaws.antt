@@ -1,6 +1,6 @@
 -- Tables by their own bytes, from the tests of the code. Assumes nothing.
 use mathlib.Core.Path.{_≡_, refl, sym, ap, _∙_}
-use mathlib.Core.List.{List, []}
+use mathlib.Core.List.{List}
 use mathlib.Core.Bool.{Bool, true, false, _&&_, false≢true}
 use Prim.Native.Nat.{ℕ, _+_, _*_, _-_, _/_, _%_, _≤_, _<_}
 use native.Mathlib.Omega.{arith}
@@ -19,7 +19,7 @@ use Rattle.utils.specs.declared.Checked.{Checked}
 use Rattle.utils.specs.Checks.{passed, failed}
 use Rattle.byte_order.specs.Standing.{numberAt}
 use Rattle.byte_order.proofs.Standings.{numberAt-is}
-use Rattle.framing_offsets.specs.Tables.{tableIn, countFrom, emptyTable, Encoded, offsetIn}
+use Rattle.framing_offsets.specs.Tables.{countFrom, emptyTable, Encoded, offsetIn}
 use Rattle.framing_offsets.specs.Held.{heldTable, tableBytes}
 use Rattle.framing_offsets.proofs.TableLaws.{count-past, offset-behind, offset-past, offset-inside, offset-there}
 

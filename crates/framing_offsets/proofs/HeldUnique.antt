@@ -24,17 +24,11 @@ use Rattle.framing_offsets.specs.Tables.{countFrom, offsetIn}
 use Rattle.framing_offsets.specs.Held.{heldTable, tableBytes}
 use Rattle.framing_offsets.specs.declared.table.FramingOffsets.{FramingOffsets}
 use Rattle.framing_offsets.proofs.table.FramingOffsets.new as new
-use Rattle.framing_offsets.proofs.table.FramingOffsets.new.Met as new-met
 use Rattle.framing_offsets.proofs.table.FramingOffsets.from_encoded_array as encoded
-use Rattle.framing_offsets.proofs.table.FramingOffsets.from_encoded_array.Met as encoded-met
 use Rattle.framing_offsets.proofs.table.FramingOffsets.count as count
-use Rattle.framing_offsets.proofs.table.FramingOffsets.count.Met as count-met
 use Rattle.framing_offsets.proofs.table.FramingOffsets.first as first
-use Rattle.framing_offsets.proofs.table.FramingOffsets.first.Met as first-met
 use Rattle.framing_offsets.proofs.table.FramingOffsets.next as next
-use Rattle.framing_offsets.proofs.table.FramingOffsets.next.Met as next-met
 use Rattle.framing_offsets.proofs.table.FramingOffsets.last as last
-use Rattle.framing_offsets.proofs.table.FramingOffsets.last.Met as last-met
 
 module _ {M : Type 1} (𝓤 : URA M) (H : Heap 𝓤) (A : Atoms 𝓤) (mem : Memory → SProp 𝓤) (run : Routine → Fun 𝓤) (κ : Lft) where
   -- from what each of two answers tells, what they tell together

@@ -1,7 +1,7 @@
 -- The struct that holds a table's slice and its width, as the walks of its functions see it: its machine value, and what it owns.
 -- The struct is Copy: what it owns is had twice, one copy stays whole, and the other is taken apart into what the slice and the width own.
 -- Assumes nothing.
-use mathlib.Core.Path.{_≡_, refl}
+use mathlib.Core.Path.{_≡_}
 use Prim.Native.Nat.{ℕ}
 use mathlib.Core.List.{List, [], _∷_}
 use lib.ListN.{length}

@@ -5,20 +5,14 @@ use mathlib.Core.Bool.{Bool, true, false}
 use Prim.Native.Nat.{ℕ, _+_, _*_, _-_, _/_, _≤_, _<_}
 use native.Mathlib.Nat.{zero-div}
 use native.Mathlib.Omega.{arith}
-use lib.Dec.{leb, eqb}
-use lib.ListN.{length, take, drop, getD}
-use borrow.Author.Tests.{le-leb, lt-leb, eq-eqb, ne-eqb}
-use Rattle.meaning.specs.Choice.{pick}
+use lib.ListN.{length}
+use borrow.Author.Tests.{le-leb, lt-leb, ne-eqb}
 use Rattle.meaning.specs.Refusals.{outOfBounds}
-use Rattle.meaning.specs.Offsets.{Table, encodedWidth, lastOffset, tableFrom, tableOf, endsOf, tableStands}
-use Rattle.meaning.specs.Parts.{holds}
+use Rattle.meaning.specs.Offsets.{Table, encodedWidth, lastOffset, tableFrom, tableOf, tableStands}
 use Rattle.meaning.proofs.OffsetSteps.{end-at, entry-past, entry-there, own-width, restStands, rest-piece, rest-above, rest-next}
 use Rattle.utils.specs.declared.Checked.{Checked}
 use Rattle.framing_offset_size.specs.declared.FramingOffsetSize.{FramingOffsetSize}
-use Rattle.framing_offset_size.specs.declared.FramingOffsetSize.the-variants.{U8}
-use Rattle.framing_offsets.specs.declared.OffsetTable.{OffsetTable}
-use Rattle.framing_offsets.specs.declared.EncodedArray.{EncodedArray}
-use Rattle.utils.specs.Checks.{passed, failed}
+use Rattle.utils.specs.Checks.{failed}
 use Rattle.byte_order.specs.Standing.{numberAt}
 use Rattle.byte_order.proofs.Standings.{numberAt-is, number-inside, number-outside, number-value}
 use Rattle.framing_offsets.specs.Tables.{tableIn, countFrom, encodedAs, Encoded, offsetIn}

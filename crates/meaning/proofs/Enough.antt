@@ -3,7 +3,7 @@
 use mathlib.Core.Path.{_≡_, refl, sym, ap, _∙_}
 use mathlib.Core.List.{List, [], _∷_}
 use mathlib.Core.Option.{Option, none, some}
-use mathlib.Core.Bool.{Bool, true, false, _&&_}
+use mathlib.Core.Bool.{Bool, true, false}
 use Prim.Native.Nat.{ℕ, zero, suc, _+_, _-_, _≤_}
 use native.Mathlib.Omega.{arith}
 use lib.Dec.{leb, eqb}
@@ -22,8 +22,7 @@ use Rattle.meaning.specs.Events.{present, nothing}
 use Rattle.meaning.specs.Outcome.{Outcome, done, refused, after, chain, passing, enclosed}
 use Rattle.meaning.specs.Reading.{Reader, child, within, textAs, endByte, presentIn, maybeIn, further, elements, elementsTo, Step, tabled, arrayBody, arrayIn, childStep, Field, offsetStands, fieldOffset, separator, remaining, variantValue, variantType, variantTyped, variantBody, variantIn, pad, readBasic, readMaybe, readArray, endPadding, fieldsIn, structureBody, structureIn, readStructure, valueFrom, fixedKey, valueBefore, keyTo, textKey, entryFrom, readEntry, entryStep, readVariant, readTree, readers, reading}
 use Rattle.meaning.proofs.DepthLaws.{limits}
-use Rattle.meaning.proofs.Kept.{Kept}
-use Rattle.meaning.proofs.Bounds.{StepKept, cost, bounded, basic-bounded, child-step, entry-step}
+use Rattle.meaning.proofs.Bounds.{StepKept, bounded, basic-bounded, child-step, entry-step}
 
 -- ---- the same readings, by the same readers of what is inside
 

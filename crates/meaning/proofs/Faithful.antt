@@ -13,7 +13,7 @@ use lib.Seq.{drop-at, drop-length, take-append-seam, drop-drop}
 use borrow.Author.Tests.{eqb-false, leb-true, le-leb}
 use Rattle.meaning.specs.Choice.{pick}
 use Rattle.meaning.specs.Limits.{largestFrame, mostVariants}
-use Rattle.meaning.specs.Parts.{holds, partAt}
+use Rattle.meaning.specs.Parts.{partAt}
 use Rattle.meaning.specs.Padding.{padding, zeros, leadingZeros}
 use Rattle.meaning.specs.Offsets.{Table, encodedWidth, lastOffset, tableOf, endsOf, tableStands}
 use Rattle.meaning.specs.Numbers.{spelled}
@@ -24,7 +24,7 @@ use Rattle.meaning.specs.Types.{Number, byte, int16, uint16, int32, uint
 use Rattle.meaning.specs.Letters.{isTextLetter, boolLetter, numberLetter, textLetter, signatureLetter, variantLetter, arrayLetter, dictionaryLetter, structureLetter}
 use Rattle.meaning.specs.TypeText.{typeOf}
 use Rattle.meaning.specs.Events.{Event, event, textEvent, present, nothing, opening, closing, textNamed}
-use Rattle.meaning.specs.Outcome.{Outcome, outcome, done, refused, after, chain, unused, passing, closingAt, enclosed}
+use Rattle.meaning.specs.Outcome.{Outcome, done, refused, after, chain, unused, passing, closingAt, enclosed}
 use Rattle.meaning.specs.Reading
 use Rattle.meaning.specs.Reading.{Reader, child, within, paddingOf, textAs, readText, readBool, numberIn, endByte, presentIn, maybeIn, further, elements, elementsTo, Step, tabled, arrayBody, arrayIn, childStep, Field, offsetStands, fieldOffset, padded, separator, remaining, variantValue, variantType, variantTyped, variantBody, variantIn, pad, readNumber, readBasic, readMaybe, readArray, endPadding, fieldsIn, structureBody, structureIn, readStructure, valueFrom, fixedKey, valueBefore, keyTo, textKey, entryFrom, readEntry, entryStep, readVariant, readTree, readers, reading}
 use Rattle.meaning.specs.Calls.{frameOf, frameReading, Counts, counts, sized, fitted, size, read}

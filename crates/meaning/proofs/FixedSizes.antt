@@ -1,14 +1,14 @@
 -- A value of a type that is fixed in size is written in just that size. Assumes nothing.
-use mathlib.Core.Path.{_≡_, refl, sym, ap, _∙_}
-use mathlib.Core.List.{List, [], _∷_, _++_}
-use mathlib.Core.Bool.{Bool, true, false, _&&_}
+use mathlib.Core.Path.{_≡_, refl, ap, _∙_}
+use mathlib.Core.List.{List, []}
+use mathlib.Core.Bool.{Bool, true, false}
 use Prim.Native.Nat.{ℕ, zero, suc, _+_}
 use native.Mathlib.Omega.{arith}
 use lib.ListN.{length, length-append, length-replicate}
 use Rattle.meaning.specs.Choice.{pick}
-use Rattle.meaning.specs.Numbers.{bytes, ordered}
+use Rattle.meaning.specs.Numbers.{bytes}
 use Rattle.meaning.specs.Padding.{padding, zeros}
-use Rattle.meaning.specs.Types.{Basic, bool, number, text, Tree, Fields, basic, variant, maybe, array, dictionary, structure, last, next, numberWidth, basicAlignment, alignment, largestAlignment, fixed, allFixed, rounded, fixedSize, fieldsEnd}
+use Rattle.meaning.specs.Types.{Basic, bool, number, text, Tree, Fields, basic, variant, maybe, array, dictionary, structure, last, next, numberWidth, alignment, largestAlignment, fixed, allFixed, rounded, fixedSize, fieldsEnd}
 use Rattle.meaning.specs.Values.{BasicValue, ValueOver, FieldsOver, Value}
 use Rattle.meaning.specs.Written.{Piece, stop, layout, basicPiece, structureBytes, structurePiece, variantPiece, pieceOver, piecesOver, piece, written}
 use Rattle.meaning.proofs.NumberLaws.{length-bytes, length-ordered}

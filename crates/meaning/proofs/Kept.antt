@@ -1,13 +1,13 @@
 -- Bounds on an outcome, and how they go through the ways in which outcomes are put together. Assumes nothing.
-use mathlib.Core.Path.{_≡_, refl, sym, ap, _∙_}
-use mathlib.Core.List.{List, [], _∷_, _++_}
-use mathlib.Core.Bool.{Bool, true, false, _&&_, false≢true}
-use Prim.Native.Nat.{ℕ, zero, suc, _+_, _*_, _-_, _≤_, _<_, min}
-use native.Mathlib.Nat.{mul-add, add-mul, mul-le-mul-left, mul-le-mul-right, zero-add}
+use mathlib.Core.Path.{_≡_, refl}
+use mathlib.Core.List.{List, [], _∷_}
+use mathlib.Core.Bool.{Bool, true, false, _&&_}
+use Prim.Native.Nat.{ℕ, _+_, _*_, _-_, _≤_, min}
+use native.Mathlib.Nat.{mul-add, mul-le-mul-right, zero-add}
 use native.Mathlib.Omega.{arith}
-use lib.Dec.{leb, ltb, eqb}
+use lib.Dec.{leb, eqb}
 use lib.ListN.{length, take, drop, length-append, length-take, length-drop}
-use borrow.Author.Tests.{eqb-true, eqb-false, leb-true, leb-false, eq-eqb}
+use borrow.Author.Tests.{eqb-true, eqb-false, leb-true}
 use Rattle.meaning.specs.Choice.{pick}
 use Rattle.meaning.specs.Events.{Event, opening, closing}
 use Rattle.meaning.specs.Outcome.{Outcome, outcome, done, refused, after, chain, unused, closingAt, enclosed}

@@ -1,14 +1,13 @@
 -- Numbers read where they stand: one byte, and a number from its two halves, once over the width and the byte order. Assumes nothing.
-use mathlib.Core.Path.{_≡_, refl, sym, ap, _∙_}
+use mathlib.Core.Path.{_≡_, sym, _∙_}
 use mathlib.Core.List.{List, [], _∷_, _++_, reverse, reverse-append}
 use mathlib.Core.Bool.{Bool, true, false}
-use Prim.Native.Nat.{ℕ, zero, suc, _+_, _-_, _*_, _/_, _%_, _^_, _≤_, _<_}
+use Prim.Native.Nat.{ℕ, suc, _+_, _-_, _*_, _^_, _≤_, _<_}
 use native.Mathlib.Nat.{pow-succ', mul-assoc}
 use native.Mathlib.Omega.{arith}
 use lib.ListN.{length, take, drop, getD, length-reverse, length-take, length-drop}
-use lib.Seq.{take-add, drop-drop, drop-cons, length-take-le}
-use Rattle.meaning.specs.Choice.{pick}
-use Rattle.meaning.specs.Numbers.{bytes, value, ordered, spelled}
+use lib.Seq.{take-add, drop-drop, drop-cons}
+use Rattle.meaning.specs.Numbers.{value, spelled}
 
 pub value-append : (x y : List ℕ) → value (x ++ y) ≡ value x + 256 ^ length x * value y
 unfolding value

@@ -1,13 +1,12 @@
 -- Laws of offset widths. Assumes nothing.
-use mathlib.Core.Path.{_≡_, refl, sym, ap, _∙_}
-use mathlib.Core.List.{List, [], _∷_, _++_}
+use mathlib.Core.Path.{_≡_, refl}
 use mathlib.Core.Bool.{Bool, true, false}
-use Prim.Native.Nat.{ℕ, zero, suc, _+_, _*_, _-_, _^_, _≤_, _<_}
+use Prim.Native.Nat.{ℕ, _+_, _*_, _-_, _^_, _≤_, _<_}
 use native.Mathlib.Omega.{arith}
 use lib.Dec.{leb}
 use borrow.Author.Tests.{le-leb, lt-leb, leb-true, leb-false}
 use Rattle.meaning.specs.Choice.{pick}
-use Rattle.meaning.specs.Offsets.{largest, firstWidth, encodedWidth, writtenWidth, bareWidth}
+use Rattle.meaning.specs.Offsets.{firstWidth, encodedWidth, writtenWidth, bareWidth}
 
 -- how a width was chosen for a body and its offsets
 pub data Fits (body count : ℕ) : ℕ → Type 0 where

@@ -1,17 +1,17 @@
 -- Widths tried one after the other, offsets written byte by byte, and tables read entry by entry: once over the width. Assumes nothing.
 use mathlib.Core.Path.{_≡_, refl, sym, ap, _∙_}
-use mathlib.Core.List.{List, [], _∷_, _++_, append-assoc, append-nil}
+use mathlib.Core.List.{List, _∷_, _++_, append-assoc, append-nil}
 use mathlib.Core.Bool.{Bool, true, false, _&&_}
-use Prim.Native.Nat.{ℕ, zero, suc, _+_, _*_, _-_, _/_, _%_, _^_, _≤_, _<_}
+use Prim.Native.Nat.{ℕ, zero, suc, _+_, _*_, _-_, _/_, _%_, _≤_, _<_}
 use native.Mathlib.Nat.{le-div-iff-mul-le, div-lt-iff-lt-mul, sub-zero, zero-mul, zero-div, zero-mod, mod-eq-of-lt, mod-eq-sub-mod, div-eq-sub-div, suc-mul}
 use native.Mathlib.Numerals.{add-one}
 use native.Mathlib.Omega.{arith}
 use lib.Dec.{leb, eqb}
-use lib.ListN.{length, take, drop, set, getD, length-set, length-drop, take-append-drop}
-use lib.Seq.{take-suc-set, drop-set-lt, drop-drop, drop-cons}
+use lib.ListN.{length, take, drop, set, getD, length-set, take-append-drop}
+use lib.Seq.{take-suc-set, drop-set-lt, drop-drop}
 use borrow.Author.Tests.{le-leb, lt-leb, leb-true, leb-false, ne-eqb}
 use Rattle.meaning.specs.Numbers.{bytes, value}
-use Rattle.meaning.specs.Offsets.{largest, firstWidth, encodedWidth, entries, noneAbove, Table, tableFrom, tableOf, endsOf, tableStands}
+use Rattle.meaning.specs.Offsets.{largest, firstWidth, encodedWidth, entries, noneAbove, Table, tableFrom, endsOf, tableStands}
 use Rattle.meaning.proofs.OffsetLaws.{Fits, fits1, fits2, fits4, fits8, fitsNone, bareWidth-fits, encodedWidth-1, encodedWidth-2, encodedWidth-4, encodedWidth-8}
 
 -- a body that is too long by itself, and one that leaves room for so many offsets

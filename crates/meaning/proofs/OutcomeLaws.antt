@@ -1,18 +1,17 @@
 -- Laws of outcomes that are done, and of the readers' parts. Assumes nothing.
-use mathlib.Core.Path.{_≡_, refl, sym, ap, _∙_}
-use mathlib.Core.List.{List, [], _∷_, _++_, append-nil, append-assoc}
-use mathlib.Core.Bool.{Bool, true, false, _&&_}
-use Prim.Native.Nat.{ℕ, zero, suc, _+_, _-_, _≤_, _<_}
+use mathlib.Core.Path.{_≡_, refl}
+use mathlib.Core.List.{List, [], _∷_, _++_, append-nil}
+use Prim.Native.Nat.{ℕ, _+_, _-_, _≤_}
 use native.Mathlib.Nat.{zero-add}
 use native.Mathlib.Omega.{arith}
-use lib.Dec.{T, leb, ltb, eqb}
-use lib.ListN.{length, take, drop, length-append, length-replicate}
+use lib.Dec.{T, eqb}
+use lib.ListN.{length, length-append, length-replicate}
 use lib.Seq.{take-at, drop-at}
-use borrow.Author.Tests.{le-leb, le-ltb, eq-eqb}
+use borrow.Author.Tests.{le-leb, le-ltb}
 use Rattle.meaning.specs.Padding.{padding, zeros, leadingZeros}
 use Rattle.meaning.specs.Depths.{Depths, depthRefusal}
 use Rattle.meaning.specs.Events.{Event, opening, closing}
-use Rattle.meaning.specs.Outcome.{Outcome, outcome, done, after, chain, passing, closingAt, enclosed}
+use Rattle.meaning.specs.Outcome.{Outcome, done, chain, closingAt, enclosed}
 use Rattle.meaning.specs.Reading.{child, within, paddingOf, pad}
 use Rattle.meaning.proofs.PaddingLaws.{leadingZeros-zeros}
 use Rattle.meaning.proofs.Tests.{from-test}

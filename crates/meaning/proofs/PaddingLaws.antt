@@ -1,6 +1,6 @@
 -- Laws of padding and alignments. Assumes nothing.
 use mathlib.Core.Path.{_≡_, refl, ap, _∙_}
-use mathlib.Core.List.{List, [], _++_}
+use mathlib.Core.List.{List, _++_}
 use Prim.Native.Nat.{ℕ, zero, suc, _+_, _-_, _%_, _≤_, _<_, max}
 use native.Mathlib.Nat.{add-mod, mod-mod, zero-add}
 use native.Mathlib.Omega.{arith}

@@ -2,31 +2,30 @@
 use mathlib.Core.Path.{_≡_, refl, sym, ap, _∙_}
 use mathlib.Core.List.{List, [], _∷_, _++_, append-nil, append-assoc}
 use mathlib.Core.Option.{Option, none, some}
-use mathlib.Core.Bool.{Bool, true, false, _&&_}
+use mathlib.Core.Bool.{Bool, true, false}
 use Prim.Native.Nat.{ℕ, zero, suc, _+_, _*_, _-_, _%_, _^_, _≤_, _<_}
 use native.Mathlib.Omega.{arith}
 use native.Mathlib.Nat.{zero-add}
-use lib.Dec.{T, leb, ltb, eqb, ltb→lt}
-use lib.ListN.{length, take, drop, getD, length-append, length-replicate}
+use lib.Dec.{T, ltb, eqb, ltb→lt}
+use lib.ListN.{length, drop, getD, length-append, length-replicate}
 use lib.Seq.{take-at, drop-at, getD-at}
 use borrow.Author.Tests.{le-leb, lt-leb, eq-eqb, ne-eqb}
-use Rattle.meaning.specs.Choice.{pick}
-use Rattle.meaning.specs.Numbers.{bytes, value, ordered}
+use Rattle.meaning.specs.Numbers.{bytes, ordered}
 use Rattle.meaning.specs.Padding.{padding, zeros, Aligns}
-use Rattle.meaning.specs.Offsets.{writtenWidth, table, tableOf, endsOf, tableStands}
+use Rattle.meaning.specs.Offsets.{writtenWidth, table}
 use Rattle.meaning.specs.Texts.{withoutFinalNul, textRefusal}
 use Rattle.meaning.specs.Depths as Depth
 use Rattle.meaning.specs.Depths.{Depths, depthRefusal, opened}
 use Rattle.meaning.specs.Types.{Number, Text, bool, number, text, numberWidth}
-use Rattle.meaning.specs.Letters.{numberLetter, textLetter}
-use Rattle.meaning.specs.Events.{Event, event, textEvent, present, nothing}
+use Rattle.meaning.specs.Letters.{numberLetter}
+use Rattle.meaning.specs.Events.{Event, event, present, nothing}
 use Rattle.meaning.specs.Written.{Piece, fits, stop, layout, eventsFrom, ends, deeper, bit, basicPiece, maybePiece, enclosing, arrayBytes, arrayPiece}
-use Rattle.meaning.specs.Outcome.{Outcome, done, after, chain, unused, passing, enclosed}
-use Rattle.meaning.specs.Reading.{Reader, child, within, textAs, readText, readBool, numberIn, readNumber, readBasic, endByte, presentIn, maybeIn, readMaybe, further, elements, elementsTo, Step, tabled, arrayBody, arrayIn, readArray, childStep}
+use Rattle.meaning.specs.Outcome.{Outcome, done, chain, unused, passing}
+use Rattle.meaning.specs.Reading.{Reader, child, textAs, readText, readBool, numberIn, readNumber, readBasic, endByte, presentIn, maybeIn, readMaybe, further, elements, elementsTo, Step, tabled, arrayBody, arrayIn, readArray, childStep}
 use Rattle.meaning.proofs.Tests.{both-left, both-right, from-test}
 use Rattle.meaning.proofs.NumberLaws.{length-bytes, value-bytes, ordered-twice, length-ordered}
 use Rattle.meaning.proofs.PaddingLaws.{padding-shift, padding-aligned, padding-none}
-use Rattle.meaning.proofs.OffsetLaws.{Fits, Chosen, writtenWidth-chosen}
+use Rattle.meaning.proofs.OffsetLaws.{Chosen, writtenWidth-chosen}
 use Rattle.meaning.proofs.FitLaws.{allFit, held-fits, children-fit}
 use Rattle.meaning.proofs.OutcomeLaws.{chain-done, enclosed-done, within-done, behind-padding, child-between, child-last}
 use Rattle.meaning.proofs.LayoutLaws.{All, nil, cons, layout-split, layout-shift, placed, length-placed, stop-placed, length-layout, length-table, length-ends, table-found, ends-found, table-stands}

@@ -2,29 +2,27 @@
 use mathlib.Core.Path.{_≡_, refl, sym, ap, _∙_}
 use mathlib.Core.List.{List, [], _∷_, _++_, map, append-nil, append-assoc}
 use mathlib.Core.Bool.{Bool, true, false, _&&_}
-use Prim.Native.Nat.{ℕ, zero, suc, _+_, _*_, _-_, _%_, _^_, _≤_, _<_}
-use native.Mathlib.Nat.{zero-add}
+use Prim.Native.Nat.{ℕ, _+_, _*_, _-_, _%_, _≤_, _<_}
 use native.Mathlib.Omega.{arith}
-use lib.Dec.{T, leb}
+use lib.Dec.{T}
 use lib.ListN.{length, take, drop, length-append, length-replicate}
 use lib.Seq.{drop-at, take-at}
 use borrow.Author.Tests.{le-leb}
-use Rattle.meaning.specs.Choice.{pick}
 use Rattle.meaning.specs.Numbers.{bytes, value}
 use Rattle.meaning.specs.Padding.{padding, zeros, Aligns}
 use Rattle.meaning.specs.Offsets.{encodedWidth, writtenWidth, lastOffset, backTable}
 use Rattle.meaning.specs.Depths.{Depths}
 use Rattle.meaning.specs.Events.{Event}
 use Rattle.meaning.specs.Written.{Piece, fits, stop, layout, eventsFrom, fieldEnds, structureBytes, entryPiece, arrayPiece}
-use Rattle.meaning.specs.Outcome.{Outcome, done, chain, passing}
-use Rattle.meaning.specs.Reading.{Reader, child, further, pad, endPadding, valueFrom, fixedKey, valueBefore, keyTo, textKey, entryFrom, readEntry, entryStep, readArray}
+use Rattle.meaning.specs.Outcome.{done, passing}
+use Rattle.meaning.specs.Reading.{Reader, child, further, endPadding, valueFrom, fixedKey, valueBefore, keyTo, textKey, entryFrom, readEntry, entryStep, readArray}
 use Rattle.meaning.proofs.Tests.{both-left, both-right}
 use Rattle.meaning.proofs.NumberLaws.{length-bytes, value-bytes}
 use Rattle.meaning.proofs.PaddingLaws.{padding-shift, padding-aligned, Divides}
-use Rattle.meaning.proofs.OffsetLaws.{Fits, encodedWidth-fits, fits-below, Chosen, writtenWidth-chosen}
+use Rattle.meaning.proofs.OffsetLaws.{encodedWidth-fits, fits-below, Chosen, writtenWidth-chosen}
 use Rattle.meaning.proofs.FitLaws.{allFit, all-fit}
 use Rattle.meaning.proofs.OutcomeLaws.{chain-done, behind-padding}
-use Rattle.meaning.proofs.LayoutLaws.{All, nil, cons, layout-cons, layout-one, events-cons, events-one, fieldEnds-one, fieldEnds-fixed, fieldEnds-other, placed, length-placed, stop-placed, length-layout, lastOffset-at}
+use Rattle.meaning.proofs.LayoutLaws.{All, nil, cons, layout-cons, layout-one, events-cons, events-one, fieldEnds-one, fieldEnds-fixed, fieldEnds-other, placed, length-placed, stop-placed, lastOffset-at}
 use Rattle.meaning.proofs.ReadsBack.{Reads, Good, child-reads, child-before, Steps, array-reads}
 use Rattle.meaning.proofs.ReadsBackStructures.{last-padded}
 

@@ -1,28 +1,27 @@
 -- What was written reads as it was meant: structures. Assumes nothing.
 use mathlib.Core.Path.{_≡_, refl, sym, ap, _∙_}
 use mathlib.Core.List.{List, [], _∷_, _++_, append-nil, append-assoc}
-use mathlib.Core.Bool.{Bool, true, false, _&&_}
-use Prim.Native.Nat.{ℕ, zero, suc, _+_, _*_, _-_, _%_, _^_, _≤_, _<_}
+use mathlib.Core.Bool.{Bool, true, false}
+use Prim.Native.Nat.{ℕ, suc, _+_, _*_, _-_, _%_, _^_, _≤_, _<_}
 use native.Mathlib.Nat.{zero-add}
 use native.Mathlib.Omega.{arith}
-use lib.Dec.{T, leb, eqb}
-use lib.ListN.{length, take, drop, length-append, length-replicate}
+use lib.Dec.{T, eqb}
+use lib.ListN.{length, drop, length-append, length-replicate}
 use lib.Seq.{take-at, drop-at}
 use borrow.Author.Tests.{le-leb, ne-eqb}
-use Rattle.meaning.specs.Choice.{pick}
-use Rattle.meaning.specs.Numbers.{bytes, value}
+use Rattle.meaning.specs.Numbers.{bytes}
 use Rattle.meaning.specs.Padding.{padding, zeros, Aligns}
 use Rattle.meaning.specs.Offsets.{encodedWidth, writtenWidth, backTable}
 use Rattle.meaning.specs.Depths as Depth
 use Rattle.meaning.specs.Depths.{Depths, depthRefusal, opened}
 use Rattle.meaning.specs.Events.{Event}
 use Rattle.meaning.specs.Written.{Piece, fits, stop, layout, eventsFrom, fieldEnds, deeper, enclosing, structureBytes, structurePiece}
-use Rattle.meaning.specs.Outcome.{Outcome, done, chain, passing, enclosed}
-use Rattle.meaning.specs.Reading.{Reader, child, further, Field, offsetStands, fieldOffset, padded, pad, endPadding, fieldsIn, structureBody, structureIn, readStructure}
+use Rattle.meaning.specs.Outcome.{done, chain, passing}
+use Rattle.meaning.specs.Reading.{Reader, child, further, Field, offsetStands, fieldOffset, padded, endPadding, fieldsIn, structureBody, structureIn, readStructure}
 use Rattle.meaning.proofs.Tests.{both-left, both-right}
 use Rattle.meaning.proofs.NumberLaws.{length-bytes, value-bytes}
-use Rattle.meaning.proofs.PaddingLaws.{padding-shift, padding-aligned, Divides}
-use Rattle.meaning.proofs.OffsetLaws.{Fits, encodedWidth-fits, encodedWidth-positive, fits-below, Chosen, writtenWidth-chosen}
+use Rattle.meaning.proofs.PaddingLaws.{padding-shift, Divides}
+use Rattle.meaning.proofs.OffsetLaws.{encodedWidth-fits, encodedWidth-positive, fits-below, Chosen, writtenWidth-chosen}
 use Rattle.meaning.proofs.FitLaws.{allFit, children-fit}
 use Rattle.meaning.proofs.OutcomeLaws.{chain-done, enclosed-done, within-done, pad-done, behind-padding}
 use Rattle.meaning.proofs.LayoutLaws.{All, nil, cons, layout-cons, layout-one, events-cons, events-one, fieldEnds-one, fieldEnds-fixed, fieldEnds-other, backTable-cons, backTable-one, layout-split, layout-shift, placed, length-placed, stop-placed, length-layout, length-backTable}

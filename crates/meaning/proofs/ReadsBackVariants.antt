@@ -1,13 +1,11 @@
 -- What was written reads as it was meant: variants. Assumes nothing.
-use mathlib.Core.Path.{_≡_, refl, sym, ap, _∙_}
+use mathlib.Core.Path.{_≡_, refl, _∙_}
 use mathlib.Core.List.{List, [], _∷_, _++_, append-nil, append-assoc}
-use mathlib.Core.Option.{Option, none, some}
-use mathlib.Core.Bool.{Bool, true, false, _&&_}
+use mathlib.Core.Bool.{Bool, false}
 use Prim.Native.Nat.{ℕ, zero, suc, _+_, _-_, _%_, _≤_, _<_}
-use native.Mathlib.Nat.{zero-add}
 use native.Mathlib.Omega.{arith}
 use native.Mathlib.Numerals.{add-one}
-use lib.Dec.{T, leb, eqb, leb→le}
+use lib.Dec.{T, eqb}
 use lib.ListN.{length, drop, getD, length-append, length-replicate}
 use lib.Seq.{drop-at, getD-append-add, getD-append-seam}
 use borrow.Author.Tests.{eq-eqb, ne-eqb}
@@ -16,10 +14,10 @@ use Rattle.meaning.specs.Texts.{textRefusal}
 use Rattle.meaning.specs.Depths as Depth
 use Rattle.meaning.specs.Depths.{Depths, depthRefusal, opened}
 use Rattle.meaning.specs.Types.{Tree}
-use Rattle.meaning.specs.TypeText.{typeText, typeOf}
-use Rattle.meaning.specs.Events.{Event, textEvent}
+use Rattle.meaning.specs.TypeText.{typeText}
+use Rattle.meaning.specs.Events.{textEvent}
 use Rattle.meaning.specs.Written.{Piece, fits, deeper, enclosing, variantPiece}
-use Rattle.meaning.specs.Outcome.{Outcome, done, chain, enclosed}
+use Rattle.meaning.specs.Outcome.{done}
 use Rattle.meaning.specs.Reading.{Reader, child, textAs, lastNul, separator, remaining, variantValue, variantType, variantTyped, variantBody, variantIn, readVariant}
 use Rattle.meaning.proofs.Tests.{both-left, both-right}
 use Rattle.meaning.proofs.PaddingLaws.{by8, divides-eight}

@@ -1,21 +1,21 @@
 -- THE ROUND TRIP: every value of every type, within the depth limits and 65,536 bytes, in both byte orders, at every position that is
 -- a multiple of 8, reads back: done, all bytes used, exactly its events. By induction over the type. Assumes nothing.
-use mathlib.Core.Path.{_≡_, refl, sym, ap, _∙_}
-use mathlib.Core.List.{List, [], _∷_, _++_, map}
+use mathlib.Core.Path.{_≡_, refl, sym, _∙_}
+use mathlib.Core.List.{List, [], _∷_, map}
 use mathlib.Core.Option.{Option, none, some}
 use mathlib.Core.Bool.{Bool, true, false, _&&_}
 use Prim.Native.Nat.{ℕ, zero, suc, _+_, _%_, _≤_, _<_, max}
 use native.Mathlib.Omega.{arith}
-use lib.Dec.{T, leb}
-use lib.ListN.{length, length-append, length-replicate}
+use lib.Dec.{T}
+use lib.ListN.{length, length-append}
 use borrow.Author.Tests.{le-leb}
-use Rattle.meaning.specs.Numbers.{bytes, ordered}
+use Rattle.meaning.specs.Numbers.{bytes}
 use Rattle.meaning.specs.Depths.{Depths, noneOpen}
-use Rattle.meaning.specs.Types.{Number, Basic, bool, number, text, Tree, Fields, basic, variant, maybe, array, dictionary, structure, last, next, numberWidth, basicAlignment, basicFixed, alignment, largestAlignment, fixed, allFixed}
+use Rattle.meaning.specs.Types.{Basic, bool, number, text, Tree, Fields, basic, variant, maybe, array, dictionary, structure, last, next, numberWidth, basicAlignment, basicFixed, alignment, largestAlignment, fixed, allFixed}
 use Rattle.meaning.specs.TypeText.{typeText}
 use Rattle.meaning.specs.Values.{BasicValue, ValueOver, FieldsOver, Value}
 use Rattle.meaning.specs.Written.{Piece, fits, layout, basicPiece, maybePiece, arrayPiece, structureBytes, structurePiece, entryPiece, variantPiece, pieceOver, piecesOver, piece, written}
-use Rattle.meaning.specs.Outcome.{Outcome, done, refused}
+use Rattle.meaning.specs.Outcome.{done, refused}
 use Rattle.meaning.specs.Reading.{Reader, Field, readBasic, readMaybe, readArray, childStep, entryStep, readStructure, readVariant, readTree, readers, reading}
 use Rattle.meaning.specs.Limits.{largestFrame, mostVariants}
 use Rattle.meaning.specs.Calls.{frameOf, frameReading}
@@ -26,7 +26,7 @@ use Rattle.meaning.proofs.PaddingLaws.{aligns-max, aligns-positive, Div
 use Rattle.meaning.proofs.TypeLaws.{number-aligned, basic-aligned, aligned, fields-aligned}
 use Rattle.meaning.proofs.TypeTextLaws.{typeOf-typeText}
 use Rattle.meaning.proofs.LayoutLaws.{All, nil, cons, layout-cons}
-use Rattle.meaning.proofs.ReadsBack.{Reads, Good, reads-here, number-reads, bool-reads, text-reads, maybe-reads, elements-read}
+use Rattle.meaning.proofs.ReadsBack.{Good, reads-here, number-reads, bool-reads, text-reads, maybe-reads, elements-read}
 use Rattle.meaning.proofs.ReadsBackStructures.{Row, none, more, structure-reads}
 use Rattle.meaning.proofs.ReadsBackDictionaries.{dictionary-reads}
 use Rattle.meaning.proofs.ReadsBackVariants.{variant-good}

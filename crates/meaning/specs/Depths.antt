@@ -1,5 +1,5 @@
 -- The depth record and its three limits. Assumes nothing: these are definitions.
-use Prim.Native.Nat.{ℕ, suc, _+_, _-_}
+use Prim.Native.Nat.{ℕ, _+_, _-_}
 use lib.Dec.{ltb}
 use Rattle.meaning.specs.Choice.{pick}
 use Rattle.meaning.specs.Limits.{mostStructures, mostArrays, mostContainers}

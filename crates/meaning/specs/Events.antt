@@ -1,5 +1,5 @@
 -- Events, three numbers each in the lent slice. Assumes nothing: these are definitions.
-use mathlib.Core.List.{List, [], _∷_, _++_}
+use mathlib.Core.List.{List, [], _∷_}
 use Prim.Native.Nat.{ℕ}
 use lib.ListN.{length}
 use Rattle.meaning.specs.Letters.{isTextLetter, containerEnd, maybeLetter, nothingLetter}

@@ -7,10 +7,10 @@
 --   b  the place in the part where a body ends          u  the bytes used so far
 --   w  a width                                          a  an alignment
 --   fx whether something is fixed in size, fk a key     t  a type, or a table
-use mathlib.Core.List.{List, [], _∷_, _++_}
+use mathlib.Core.List.{List, [], _∷_}
 use mathlib.Core.Option.{Option, none, some}
 use mathlib.Core.Bool.{Bool, true, false, _&&_, _||_}
-use Prim.Native.Nat.{ℕ, zero, suc, _+_, _-_, max}
+use Prim.Native.Nat.{ℕ, zero, suc, _+_, _-_}
 use lib.Dec.{leb, ltb, eqb}
 use lib.ListN.{length, take, drop, getD}
 use Rattle.meaning.specs.Choice.{pick}
@@ -21,10 +21,10 @@ use Rattle.meaning.specs.Offsets.{Table, encodedWidth, offsetBefore, las
 use Rattle.meaning.specs.Texts.{withoutFinalNul, textRefusal}
 use Rattle.meaning.specs.Depths as Depth
 use Rattle.meaning.specs.Depths.{Depths, depthRefusal, opened}
-use Rattle.meaning.specs.Types.{Text, Basic, bool, number, text, Tree, Fields, basic, variant, maybe, array, dictionary, structure, last, next, numberWidth, basicFixed, alignment, largestAlignment, fixed, allFixed, entryAlignment, entryFixed}
+use Rattle.meaning.specs.Types.{Basic, bool, number, text, Tree, Fields, basic, variant, maybe, array, dictionary, structure, last, next, numberWidth, basicFixed, alignment, largestAlignment, fixed, allFixed, entryAlignment, entryFixed}
 use Rattle.meaning.specs.Letters.{boolLetter, numberLetter, textLetter, signatureLetter, variantLetter, arrayLetter, dictionaryLetter, structureLetter}
 use Rattle.meaning.specs.TypeText.{typeOf}
-use Rattle.meaning.specs.Events.{Event, event, textEvent, present, nothing}
+use Rattle.meaning.specs.Events.{event, textEvent, present, nothing}
 use Rattle.meaning.specs.Outcome.{Outcome, outcome, done, refused, after, chain, unused, passing, enclosed}
 
 -- A reader answers for a part of the frame: from the containers that are open, the place of the part's first byte, and the part.

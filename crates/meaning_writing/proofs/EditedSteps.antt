@@ -9,23 +9,16 @@ use lib.ListN.{length, length-append}
 use Rattle.meaning.specs.Padding.{padding, zeros}
 use Rattle.meaning.specs.Offsets.{writtenWidth, table, backTable}
 use Rattle.meaning.specs.Depths as Depth
-use Rattle.meaning.specs.Depths.{Depths, opened}
+use Rattle.meaning.specs.Depths.{opened}
 use Rattle.meaning.specs.Types.{Basic, Tree, Fields, basic, variant, maybe, array, dictionary, structure, last, next, alignment, largestAlignment, fixed, allFixed, entryAlignment, entryFixed}
 use Rattle.meaning.specs.Written.{Piece, stop, layout, ends, fieldEnds, unless, arrayBytes, structureBytes}
-use Rattle.meaning_writing.specs.Shapes.{shapeOf, basicShape}
+use Rattle.meaning_writing.specs.Shapes.{basicShape}
 use Rattle.meaning_writing.specs.Readings.{slotOf}
-use Rattle.meaning_writing.specs.Edited.{Editor, still, maybeEditor, arrayEditor, structureEditor, variantEditor, editorOver, editorsOver, editorOf}
+use Rattle.meaning_writing.specs.Edited.{still, maybeEditor, arrayEditor, structureEditor, variantEditor, editorOver, editorOf, variantsEditor, editorsOf}
 use Rattle.meaning.proofs.LayoutLaws.{placed, layout-cons, stop-placed, length-table, length-backTable, length-ends, layout-first}
 use Rattle.meaning_writing.proofs.PieceLaws.{fieldEnds-more}
 
 -- ---- the clauses
-
-unfoldable pub variantsEditor : Bool → ℕ → Editor
-variantsEditor big zero = still (shapeOf 8 false 0)
-variantsEditor big (suc n) = variantEditor (λ u. editorOf big n u)
-
-abbrev pub editorsOf : Bool → ℕ → Fields → List Editor
-editorsOf big n ts = editorsOver big (variantsEditor big n) ts
 
 pub editor-over : (big : Bool) (n : ℕ) (t : Tree) → editorOf big n t ≡ editorOver big (variantsEditor big n) t
 unfolding editorOf variantsEditor

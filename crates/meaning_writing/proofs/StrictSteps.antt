@@ -7,16 +7,8 @@ use Prim.Native.Nat.{ℕ, zero, suc, _+_}
 use Rattle.meaning.specs.Padding.{padding}
 use Rattle.meaning.specs.Types.{Basic, bool, number, text, Tree, Fields, basic, variant, maybe, array, dictionary, structure, last, next, alignment, largestAlignment, fixed, allFixed, fixedSize, fieldsEnd, entryAlignment, entryFixed}
 use Rattle.meaning_writing.specs.Shapes.{basicSize, sizesFrom}
-use Rattle.meaning_writing.specs.Strict.{Test, basicTest, maybeTest, arrayTest, structureTest, entryTest, variantTest, noVariant, testOver, testsOver, testOf, testShapes}
+use Rattle.meaning_writing.specs.Strict.{Test, basicTest, maybeTest, arrayTest, structureTest, entryTest, variantTest, testOver, testOf, testShapes, variantsTest, testsOf}
 use Rattle.meaning.proofs.Tests.{impossible, both-true}
-
--- the test of variants, and those of fields, where so many may stand one inside another
-unfoldable pub variantsTest : ℕ → Test
-variantsTest zero = noVariant
-variantsTest (suc n) = variantTest (λ u. testOf n u)
-
-abbrev pub testsOf : ℕ → Fields → List Test
-testsOf n ts = testsOver (variantsTest n) ts
 
 pub test-over : (n : ℕ) (t : Tree) → testOf n t ≡ testOver (variantsTest n) t
 unfolding testOf variantsTest

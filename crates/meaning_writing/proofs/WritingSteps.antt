@@ -6,7 +6,7 @@ use mathlib.Core.Bool.{Bool, true, false}
 use Prim.Native.Nat.{ℕ, zero, suc, _+_, _≤_, _<_}
 use native.Mathlib.Omega.{arith}
 use lib.Dec.{eqb}
-use lib.ListN.{length, take, drop, getD, length-drop}
+use lib.ListN.{length, drop, getD, length-drop}
 use lib.Seq.{drop-cons}
 use borrow.Author.Tests.{eq-eqb, ne-eqb, le-leb, lt-leb, eqb-true, eqb-false}
 use Rattle.meaning.specs.Refusals.{noValue}
@@ -14,6 +14,7 @@ use Rattle.meaning.specs.Texts.{textRefusal}
 use Rattle.meaning.specs.Depths as Depth
 use Rattle.meaning.specs.Depths.{Depths, depthRefusal, opened}
 use Rattle.meaning.specs.Letters.{maybeLetter, nothingLetter, containerEnd}
+use Rattle.meaning_writing.specs.EventsAt.{PlainAt, NotPlain, TextAt, NotText, short, other, carrying, outside, viewed}
 use Rattle.meaning_writing.specs.Writing.{Built, built, fault, Builder, mapped, followed, when, unrefused, whenShallow, onEvent, onPlain, sealed, maybeBy, buildMaybe, buildMany, buildBoth, onText}
 
 -- ---- the steps that are no event
@@ -75,10 +76,6 @@ event-short (k ∷ []) f h = refl
 event-short (k ∷ p ∷ []) f h = refl
 event-short (k ∷ p ∷ n ∷ r) f h = absurd (omega arith)
 
--- the text that the event at a place views
-abbrev pub viewed : List ℕ → List ℕ → ℕ → List ℕ
-viewed texts ns i = take (getD ns (i + 2) 0) (drop (getD ns (i + 1) 0) texts)
-
 module _ {A : Type 0} (ns : List ℕ) (i : ℕ) where
   pub at-end : (f : ℕ → ℕ → ℕ → List ℕ → Built A) → length ns < i + 3 → onEvent (drop i ns) f ≡ fault noValue
   at-end f h = event-short (drop i ns) f (rw (length-drop i ns) (omega arith))
@@ -123,17 +120,7 @@ module _ {A : Type 0} (ns : List ℕ) (i : ℕ) where
     unfolding onText when
     text-inside h e g = at-event _ h ∙ rw (eq-eqb (getD ns i 0) kind e, le-leb (getD ns (i + 1) 0 + getD ns (i + 2) 0) (length texts) g)
 
--- ---- the same as facts that a contract can state: the event at a place is one, or why not
-
-pub record PlainAt (kind : ℕ) (ns : List ℕ) (i : ℕ) : Type 0 where
-  pub whole : i + 3 ≤ length ns
-  pub kind-is : getD ns i 0 ≡ kind
-  pub carries : getD ns (i + 2) 0 ≡ 0
-
-pub data NotPlain (kind : ℕ) (ns : List ℕ) (i : ℕ) : Type 0 where
-  short : length ns < i + 3 → NotPlain kind ns i
-  other : i + 3 ≤ length ns → (getD ns i 0 ≡ kind → ⊥) → NotPlain kind ns i
-  carrying : i + 3 ≤ length ns → getD ns i 0 ≡ kind → (getD ns (i + 2) 0 ≡ 0 → ⊥) → NotPlain kind ns i
+-- ---- the same by facts that a contract can state
 
 pub onPlain-at : {A : Type 0} {kind : ℕ} {ns : List ℕ} {i : ℕ} (f : List ℕ → Built A) → PlainAt kind ns i → onPlain kind (drop i ns) f ≡ f (drop (i + 3) ns)
 onPlain-at {A} {kind} {ns} {i} f h = plain-here ns i kind f (h .whole) (h .kind-is) (h .carries)
@@ -142,16 +129,6 @@ pub onPlain-not : {A : Type 0} {kind : ℕ} {ns : List ℕ} {i : ℕ} (f : List 
 onPlain-not {A} {kind} {ns} {i} f (short h) = plain-end ns i kind f h
 onPlain-not {A} {kind} {ns} {i} f (other h g) = plain-other ns i kind f h g
 onPlain-not {A} {kind} {ns} {i} f (carrying h e g) = plain-carries ns i kind f h e g
-
-pub record TextAt (texts : List ℕ) (kind : ℕ) (ns : List ℕ) (i : ℕ) : Type 0 where
-  pub whole : i + 3 ≤ length ns
-  pub kind-is : getD ns i 0 ≡ kind
-  pub contained : getD ns (i + 1) 0 + getD ns (i + 2) 0 ≤ length texts
-
-pub data NotText (texts : List ℕ) (kind : ℕ) (ns : List ℕ) (i : ℕ) : Type 0 where
-  short : length ns < i + 3 → NotText texts kind ns i
-  other : i + 3 ≤ length ns → (getD ns i 0 ≡ kind → ⊥) → NotText texts kind ns i
-  outside : i + 3 ≤ length ns → getD ns i 0 ≡ kind → length texts < getD ns (i + 1) 0 + getD ns (i + 2) 0 → NotText texts kind ns i
 
 pub onText-at : {A : Type 0} {texts : List ℕ} {kind : ℕ} {ns : List ℕ} {i : ℕ} (f : List ℕ → List ℕ → Built A) → TextAt texts kind ns i
     → onText texts kind (drop i ns) f ≡ unrefused (textRefusal (viewed texts ns i)) (f (viewed texts ns i) (drop (i + 3) ns))

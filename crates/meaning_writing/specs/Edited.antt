@@ -203,6 +203,14 @@ unfoldable pub editorOf : Bool → ℕ → Tree → Editor
 editorOf big zero t = editorOver big (still (shapeOf 8 false 0)) t
 editorOf big (suc n) t = editorOver big (variantEditor (λ u. editorOf big n u)) t
 
+-- the editor of variants, and those of fields, where so many may stand one inside another
+unfoldable pub variantsEditor : Bool → ℕ → Editor
+variantsEditor big zero = still (shapeOf 8 false 0)
+variantsEditor big (suc n) = variantEditor (λ u. editorOf big n u)
+
+abbrev pub editorsOf : Bool → ℕ → Fields → List Editor
+editorsOf big n ts = editorsOver big (variantsEditor big n) ts
+
 -- THE EDITED FRAME: how many readings a frame has; where the i-th stands; the frame with it changed, whose length is the new length
 unfoldable pub readingCount : Bool → ℕ → Tree → List ℕ → ℕ
 readingCount big n t l = editorOf big n t .count l

@@ -1,4 +1,5 @@
 pub mod Writing
+pub mod EventsAt
 pub mod Shown
 pub mod Emitting
 pub mod Shapes

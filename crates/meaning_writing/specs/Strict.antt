@@ -158,6 +158,14 @@ unfoldable pub testOf : ℕ → Tree → Test
 testOf zero t = testOver noVariant t
 testOf (suc n) t = testOver (variantTest (λ u. testOf n u)) t
 
+-- the test of variants, and those of fields, where so many may stand one inside another
+unfoldable pub variantsTest : ℕ → Test
+variantsTest zero = noVariant
+variantsTest (suc n) = variantTest (λ u. testOf n u)
+
+abbrev pub testsOf : ℕ → Fields → List Test
+testsOf n ts = testsOver (variantsTest n) ts
+
 -- THE STRICT TEST: bytes are the written form of a value of a type, with at most n variants one inside another, that may be read where
 -- so many containers are open
 unfoldable pub isWritten : ℕ → Tree → Depths → List ℕ → Bool

@@ -19,7 +19,7 @@ use texts::text;
 use texts::text_refusal;
 use utils::Checked;
 ghost use mathlib.Core.Path.{_≡_};
-ghost use Prim.Native.Nat.{ℕ, _+_, _-_, _≤_, _<_};
+ghost use Prim.Native.Nat.{ℕ, _+_, _-_, _≤_};
 ghost use mathlib.Core.List.{List};
 ghost use mathlib.Core.Bool.{Bool};
 ghost use lib.ListN.{length};

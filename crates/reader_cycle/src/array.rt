@@ -28,11 +28,10 @@ ghost use Prim.Native.Nat.{_≤_};
 ghost use lib.ListN.{length, drop};
 ghost use Rattle.framing_offsets.specs.Tables.{tableIn};
 ghost use Rattle.signature.specs.Places.{letterAt};
-ghost use Rattle.signature.specs.Shapes.{shapeIn};
-ghost use Rattle.signature.specs.Trees.{treeAt, Described};
+ghost use Rattle.signature.specs.Trees.{treeAt};
 ghost use Rattle.reader_basic.specs.Answers.{From};
 ghost use Rattle.reader_basic.specs.Parts.{Stands, Inside};
-ghost use Rattle.reader_steps.specs.Places.{insideOf, itemOf, elementsOf, framedOf, Repeated};
+ghost use Rattle.reader_steps.specs.Places.{insideOf, itemOf, elementsOf, framedOf, DescribedAt, RepeatedAt};
 ghost use Rattle.reader_steps.specs.Rides.{contextOf};
 
 pub(crate) fn array(
@@ -46,7 +45,7 @@ pub(crate) fn array(
     out: &mut [u64],
     n: usize,
 ) -> Answer
-    requires { ⌜ Described (now text) (now shapes) (shapeIn (now text) (now shapes) at) × (letterAt (now text) at ≡ Letter.Array) × Inside (length (now part)) place (contextOf ride) × (lead ≤ length (now part)) ⌝ }
+    requires { ⌜ DescribedAt (now text) (now shapes) at × (letterAt (now text) at ≡ Letter.Array) × Inside (length (now part)) place (contextOf ride) × (lead ≤ length (now part)) ⌝ }
     ensures { λ r. ⌜ From (insideOf (contextOf ride) (treeAt (now (text .entry)) at) place (now (part .entry)) lead) (now (part .entry)) lead n (now (out .entry)) (now (out .exit)) r ⌝ }
 {
     let inner = in_array(ride);
@@ -87,7 +86,7 @@ pub(crate) fn elements(
     out: &mut [u64],
     n: usize,
 ) -> Answer
-    requires { ⌜ Repeated (now text) (now shapes) (itemOf (now text) (now shapes) at) × (itemOf (now text) (now shapes) at .fixed ≡ true) × Inside (length (now part)) place (contextOf ride) × (lead ≤ length (now part)) ⌝ }
+    requires { ⌜ RepeatedAt (now text) (now shapes) at × (itemOf (now text) (now shapes) at .fixed ≡ true) × Inside (length (now part)) place (contextOf ride) × (lead ≤ length (now part)) ⌝ }
     ensures { λ r. ⌜ From (elementsOf (contextOf ride) (now (text .entry)) (itemOf (now (text .entry)) (now (shapes .entry)) at) place (now (part .entry)) lead) (now (part .entry)) lead n (now (out .entry)) (now (out .exit)) r ⌝ }
 {
     let child = at + 1;
@@ -130,7 +129,7 @@ pub(crate) fn framed(
     out: &mut [u64],
     n: usize,
 ) -> Answer
-    requires { ⌜ Repeated (now text) (now shapes) (itemOf (now text) (now shapes) at) × (itemOf (now text) (now shapes) at .fixed ≡ false) × Inside (length (now part)) place (contextOf ride) × (lead ≤ length (now part)) × Stands (tableIn offsets) (drop lead (now part)) ⌝ }
+    requires { ⌜ RepeatedAt (now text) (now shapes) at × (itemOf (now text) (now shapes) at .fixed ≡ false) × Inside (length (now part)) place (contextOf ride) × (lead ≤ length (now part)) × Stands (tableIn offsets) (drop lead (now part)) ⌝ }
     ensures { λ r. ⌜ From (framedOf (contextOf ride) (now (text .entry)) (itemOf (now (text .entry)) (now (shapes .entry)) at) offsets place (now (part .entry)) lead) (now (part .entry)) lead n (now (out .entry)) (now (out .exit)) r ⌝ }
 {
     let child = at + 1;

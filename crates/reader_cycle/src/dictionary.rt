@@ -17,7 +17,7 @@ ghost use Prim.Native.Nat.{ℕ, _≤_};
 ghost use lib.ListN.{length};
 ghost use Rattle.reader_basic.specs.Answers.{Between};
 ghost use Rattle.reader_basic.specs.Parts.{Inside};
-ghost use Rattle.reader_steps.specs.Places.{stepIn, fixedKeyIn, textKeyIn, Repeated, itemBy};
+ghost use Rattle.reader_steps.specs.Places.{stepIn, fixedKeyIn, textKeyIn, EntriesAt, entryOf};
 ghost use Rattle.reader_steps.specs.Rides.{contextOf};
 
 // One entry of a dictionary, from j to e; the body ends at b.
@@ -34,8 +34,8 @@ pub(crate) fn entry(
     out: &mut [u64],
     n: usize,
 ) -> Answer
-    requires { ⌜ Repeated (now text) (now shapes) (itemBy true (now text) (now shapes) at) × Inside (length (now part)) place (contextOf ride) × (j ≤ length (now part)) × (e ≤ b) × (b ≤ length (now part)) × (itemBy true (now text) (now shapes) at .fixed ≡ true → e ≡ length (now part)) ⌝ }
-    ensures { λ r. ⌜ Between (stepIn (contextOf ride) (now (text .entry)) (itemBy true (now (text .entry)) (now (shapes .entry)) at) place (now (part .entry)) b j e) (now (part .entry)) j e n (now (out .entry)) (now (out .exit)) r ⌝ }
+    requires { ⌜ EntriesAt (now text) (now shapes) at × Inside (length (now part)) place (contextOf ride) × (j ≤ length (now part)) × (e ≤ b) × (b ≤ length (now part)) × (entryOf (now text) (now shapes) at .fixed ≡ true → e ≡ length (now part)) ⌝ }
+    ensures { λ r. ⌜ Between (stepIn (contextOf ride) (now (text .entry)) (entryOf (now (text .entry)) (now (shapes .entry)) at) place (now (part .entry)) b j e) (now (part .entry)) j e n (now (out .entry)) (now (out .exit)) r ⌝ }
 {
     let padding = padded(part, j, place, ride, shapes[at]);
     let refusal = padding.refusal;
@@ -65,8 +65,8 @@ pub(crate) fn fixed_key(
     out: &mut [u64],
     n: usize,
 ) -> Answer
-    requires { ⌜ Repeated (now text) (now shapes) (itemBy true (now text) (now shapes) at) × Inside (length (now part)) place (contextOf ride) × (j ≤ length (now part)) × (e ≤ length (now part)) × (itemBy true (now text) (now shapes) at .fixed ≡ true → e ≡ length (now part)) × (itemBy true (now text) (now shapes) at .keyed ≡ true) ⌝ }
-    ensures { λ r. ⌜ ((b : ℕ) → Between (fixedKeyIn (contextOf ride) (now (text .entry)) (itemBy true (now (text .entry)) (now (shapes .entry)) at) place (now (part .entry)) b j e) (now (part .entry)) j e n (now (out .entry)) (now (out .exit)) r) ⌝ }
+    requires { ⌜ EntriesAt (now text) (now shapes) at × Inside (length (now part)) place (contextOf ride) × (j ≤ length (now part)) × (e ≤ length (now part)) × (entryOf (now text) (now shapes) at .fixed ≡ true → e ≡ length (now part)) × (entryOf (now text) (now shapes) at .keyed ≡ true) ⌝ }
+    ensures { λ r. ⌜ ((b : ℕ) → Between (fixedKeyIn (contextOf ride) (now (text .entry)) (entryOf (now (text .entry)) (now (shapes .entry)) at) place (now (part .entry)) b j e) (now (part .entry)) j e n (now (out .entry)) (now (out .exit)) r) ⌝ }
 {
     if e < j {
         return refused(OUT_OF_BOUNDS, 0, n);
@@ -101,8 +101,8 @@ pub(crate) fn text_key(
     out: &mut [u64],
     n: usize,
 ) -> Answer
-    requires { ⌜ Repeated (now text) (now shapes) (itemBy true (now text) (now shapes) at) × Inside (length (now part)) place (contextOf ride) × (j ≤ length (now part)) × (e ≤ b) × (b ≤ length (now part)) ⌝ }
-    ensures { λ r. ⌜ Between (textKeyIn (contextOf ride) (now (text .entry)) (itemBy true (now (text .entry)) (now (shapes .entry)) at) place (now (part .entry)) b j e) (now (part .entry)) j e n (now (out .entry)) (now (out .exit)) r ⌝ }
+    requires { ⌜ EntriesAt (now text) (now shapes) at × Inside (length (now part)) place (contextOf ride) × (j ≤ length (now part)) × (e ≤ b) × (b ≤ length (now part)) ⌝ }
+    ensures { λ r. ⌜ Between (textKeyIn (contextOf ride) (now (text .entry)) (entryOf (now (text .entry)) (now (shapes .entry)) at) place (now (part .entry)) b j e) (now (part .entry)) j e n (now (out .entry)) (now (out .exit)) r ⌝ }
 {
     let ends = key_ends(part, b, j, e);
     let fault = ends.refusal;

@@ -19,11 +19,10 @@ use reader_steps::ends::padded;
 ghost use Prim.Native.Nat.{_≤_};
 ghost use lib.ListN.{length};
 ghost use Rattle.meaning.specs.Reading.{child};
-ghost use Rattle.signature.specs.Shapes.{shapeIn};
-ghost use Rattle.signature.specs.Trees.{treeAt, Described};
+ghost use Rattle.signature.specs.Trees.{treeAt};
 ghost use Rattle.reader_basic.specs.Answers.{Whole, From, Between};
 ghost use Rattle.reader_basic.specs.Parts.{Inside};
-ghost use Rattle.reader_steps.specs.Places.{Contains, valueIn, insideOf};
+ghost use Rattle.reader_steps.specs.Places.{Contains, valueIn, insideOf, DescribedAt};
 ghost use Rattle.reader_steps.specs.Rides.{contextOf};
 
 // A value of a type, from j to e of a part. An end past the part or before the place is out of bounds.
@@ -39,7 +38,7 @@ pub fn value(
     out: &mut [u64],
     n: usize,
 ) -> Answer
-    requires { ⌜ Described (now text) (now shapes) (shapeIn (now text) (now shapes) at) × Inside (length (now part)) place (contextOf ride) × (j ≤ length (now part)) ⌝ }
+    requires { ⌜ DescribedAt (now text) (now shapes) at × Inside (length (now part)) place (contextOf ride) × (j ≤ length (now part)) ⌝ }
     ensures { λ r. ⌜ Between (child (valueIn (contextOf ride) (treeAt (now (text .entry)) at)) place (now (part .entry)) j e) (now (part .entry)) j e n (now (out .entry)) (now (out .exit)) r ⌝ }
 {
     if e < j {
@@ -68,7 +67,7 @@ pub(crate) fn container(
     out: &mut [u64],
     n: usize,
 ) -> Answer
-    requires { ⌜ Described (now text) (now shapes) (shapeIn (now text) (now shapes) at) × Inside (length (now part)) place (contextOf ride) × Contains (treeAt (now text) at) ⌝ }
+    requires { ⌜ DescribedAt (now text) (now shapes) at × Inside (length (now part)) place (contextOf ride) × Contains (treeAt (now text) at) ⌝ }
     ensures { λ r. ⌜ Whole (valueIn (contextOf ride) (treeAt (now (text .entry)) at) place (now (part .entry))) (now (part .entry)) n (now (out .entry)) (now (out .exit)) r ⌝ }
 {
     let padding = padded(part, 0, place, ride, shapes[at]);
@@ -93,7 +92,7 @@ pub(crate) fn body(
     out: &mut [u64],
     n: usize,
 ) -> Answer
-    requires { ⌜ Described (now text) (now shapes) (shapeIn (now text) (now shapes) at) × Inside (length (now part)) place (contextOf ride) × Contains (treeAt (now text) at) × (lead ≤ length (now part)) ⌝ }
+    requires { ⌜ DescribedAt (now text) (now shapes) at × Inside (length (now part)) place (contextOf ride) × Contains (treeAt (now text) at) × (lead ≤ length (now part)) ⌝ }
     ensures { λ r. ⌜ From (insideOf (contextOf ride) (treeAt (now (text .entry)) at) place (now (part .entry)) lead) (now (part .entry)) lead n (now (out .entry)) (now (out .exit)) r ⌝ }
 {
     let code = text[at];

@@ -11,14 +11,13 @@ use reader_steps::opening::in_maybe;
 use signature::Letter;
 use signature::shapes::fixed_of;
 ghost use mathlib.Core.Path.{_≡_};
-ghost use Prim.Native.Nat.{_-_, _≤_, _<_};
+ghost use Prim.Native.Nat.{_≤_};
 ghost use lib.ListN.{length};
 ghost use Rattle.signature.specs.Places.{letterAt};
-ghost use Rattle.signature.specs.Shapes.{shapeIn};
-ghost use Rattle.signature.specs.Trees.{treeAt, Described};
+ghost use Rattle.signature.specs.Trees.{treeAt};
 ghost use Rattle.reader_basic.specs.Answers.{From};
 ghost use Rattle.reader_basic.specs.Parts.{Inside};
-ghost use Rattle.reader_steps.specs.Places.{insideOf};
+ghost use Rattle.reader_steps.specs.Places.{insideOf, DescribedAt};
 ghost use Rattle.reader_steps.specs.Rides.{contextOf};
 
 pub(crate) fn maybe(
@@ -32,7 +31,7 @@ pub(crate) fn maybe(
     out: &mut [u64],
     n: usize,
 ) -> Answer
-    requires { ⌜ Described (now text) (now shapes) (shapeIn (now text) (now shapes) at) × (letterAt (now text) at ≡ Letter.Maybe) × Inside (length (now part)) place (contextOf ride) × (lead ≤ length (now part)) ⌝ }
+    requires { ⌜ DescribedAt (now text) (now shapes) at × (letterAt (now text) at ≡ Letter.Maybe) × Inside (length (now part)) place (contextOf ride) × (lead ≤ length (now part)) ⌝ }
     ensures { λ r. ⌜ From (insideOf (contextOf ride) (treeAt (now (text .entry)) at) place (now (part .entry)) lead) (now (part .entry)) lead n (now (out .entry)) (now (out .exit)) r ⌝ }
 {
     if part.len() <= lead {

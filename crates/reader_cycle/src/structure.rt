@@ -12,15 +12,13 @@ use reader_steps::structure::field_ends;
 use signature::Letter;
 use signature::shapes::next_of;
 ghost use mathlib.Core.Path.{_≡_};
-ghost use Prim.Native.Nat.{_+_, _-_, _≤_};
+ghost use Prim.Native.Nat.{_≤_};
 ghost use lib.ListN.{length};
-ghost use Rattle.meaning.specs.Reading.{child};
 ghost use Rattle.signature.specs.Places.{letterAt};
-ghost use Rattle.signature.specs.Shapes.{shapeIn};
-ghost use Rattle.signature.specs.Trees.{treeAt, Described};
+ghost use Rattle.signature.specs.Trees.{treeAt};
 ghost use Rattle.reader_basic.specs.Answers.{From};
 ghost use Rattle.reader_basic.specs.Parts.{Inside};
-ghost use Rattle.reader_steps.specs.Places.{insideOf};
+ghost use Rattle.reader_steps.specs.Places.{insideOf, DescribedAt};
 ghost use Rattle.reader_steps.specs.Rides.{contextOf};
 
 // A structure, in one function with the loop over all its fields but the last. A field that is neither fixed nor last takes its end from the
@@ -36,7 +34,7 @@ pub(crate) fn structure(
     out: &mut [u64],
     n: usize,
 ) -> Answer
-    requires { ⌜ Described (now text) (now shapes) (shapeIn (now text) (now shapes) at) × (letterAt (now text) at ≡ Letter.OpenStructure) × Inside (length (now part)) place (contextOf ride) × (lead ≤ length (now part)) ⌝ }
+    requires { ⌜ DescribedAt (now text) (now shapes) at × (letterAt (now text) at ≡ Letter.OpenStructure) × Inside (length (now part)) place (contextOf ride) × (lead ≤ length (now part)) ⌝ }
     ensures { λ r. ⌜ From (insideOf (contextOf ride) (treeAt (now (text .entry)) at) place (now (part .entry)) lead) (now (part .entry)) lead n (now (out .entry)) (now (out .exit)) r ⌝ }
 {
     let inner = in_structure(ride);

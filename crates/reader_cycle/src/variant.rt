@@ -13,7 +13,7 @@ use reader_steps::variant::only_basic;
 use reader_steps::variant::type_text;
 use signature::shapes::shapes_of;
 use texts::text;
-ghost use Prim.Native.Nat.{_+_, _-_, _≤_};
+ghost use Prim.Native.Nat.{_≤_};
 ghost use lib.ListN.{length};
 ghost use Rattle.reader_basic.specs.Answers.{From};
 ghost use Rattle.reader_basic.specs.Parts.{Inside};

@@ -7,7 +7,7 @@ use native.Mathlib.Omega.{arith}
 use native.Mathlib.Nat.{add-zero, zero-add, suc-mul}
 use lib.Dec.{leb, ltb, eqb}
 use lib.ListN.{length, drop, length-drop}
-use borrow.Author.Tests.{ne-eqb, le-ltb, le-leb, lt-leb, eqb-true, eqb-false, leb-true, leb-false}
+use borrow.Author.Tests.{ne-eqb, le-leb, lt-leb, eqb-true, eqb-false, leb-true, leb-false}
 use Rattle.meaning.specs.Choice.{pick}
 use Rattle.meaning.specs.Padding.{padding, leadingZeros, Aligns}
 use Rattle.meaning.specs.Numbers.{spelled}

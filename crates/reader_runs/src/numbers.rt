@@ -18,7 +18,7 @@ use reader_basic::refused;
 use utils::Checked;
 ghost use mathlib.Core.Path.{_≡_};
 ghost use mathlib.Core.Bool.{Bool};
-ghost use Prim.Native.Nat.{ℕ, _+_, _-_, _≤_, _<_, min};
+ghost use Prim.Native.Nat.{ℕ, _+_, _≤_, _<_, min};
 ghost use lib.ListN.{length};
 ghost use Rattle.meaning.specs.Depths.{Depths};
 ghost use Rattle.meaning.specs.Reading.{child, childStep, elements as elementsIn};

@@ -6,14 +6,12 @@ use Prim.Native.Nat.{ℕ, _+_, _-_, _≤_}
 use native.Mathlib.Omega.{arith}
 use lib.Dec.{eqb}
 use borrow.Author.Tests.{eq-eqb, ne-eqb}
-use Rattle.meaning.specs.Depths as Depth
 use Rattle.meaning.specs.Depths.{Depths, Opened, total, depthRefusal, opened}
 use Rattle.meaning.specs.Outcome.{Outcome}
 use Rattle.meaning.specs.Reading.{within}
 use Rattle.meaning.proofs.Bounds.{total-most, total-opened}
-use Rattle.container_depths.specs.Opening.{depthsOf}
+use Rattle.container_depths.specs.Opening.{depthsOf, level}
 use Rattle.container_depths.specs.declared.ContainerDepths.{ContainerDepths}
-use Rattle.container_depths.proofs.Levels.{level}
 use Rattle.reader_basic.specs.Answers.{Done}
 use Rattle.reader_basic.specs.Parts.{Within, Inside}
 use Rattle.reader_basic.specs.declared.Answer.{Answer}

@@ -7,7 +7,6 @@ use native.Mathlib.Omega.{arith}
 use lib.ListN.{length}
 use Rattle.meaning.specs.Types.{Number as NumberType, Text as TextType, numberWidth, Basic, number, text, Tree, basic, variant, maybe, array, dictionary, structure, alignment}
 use Rattle.meaning.specs.Letters.{numberLetter, textLetter}
-use Rattle.meaning.specs.Events.{nothing}
 use Rattle.meaning.specs.Outcome.{chain}
 use Rattle.meaning.specs.Reading.{readNumber, readText, readBasic, pad, readMaybe, readTree, readVariant, readArray, readStructure, reading}
 use Rattle.meaning.specs.Padding.{Aligns}

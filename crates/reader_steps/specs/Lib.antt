@@ -1,4 +1,5 @@
 pub mod Children
+pub mod Closing
 pub mod Codes
 pub mod Openings
 pub mod Places

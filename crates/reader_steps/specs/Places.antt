@@ -65,6 +65,9 @@ itemBy entry text shapes at = record {
 abbrev pub itemOf : List ℕ → List ℕ → ℕ → Item
 itemOf text shapes at = itemBy (eqb (getD text (at + 1) 0) dictionaryLetter) text shapes at
 
+abbrev pub entryOf : List ℕ → List ℕ → ℕ → Item
+entryOf text shapes at = itemBy true text shapes at
+
 -- what is repeated in an array or a dictionary: its step
 abbrev pub itemStep : ℕ → Bool → ℕ → List ℕ → Item → Step
 itemStep position big nested text i =
@@ -88,6 +91,16 @@ pub record Repeated (text shapes : List ℕ) (i : Item) : Type 0 where
   pub number : (c w : ℕ) → i .number ≡ Number c w → NumberStep text i c w
   pub pays : i .fixed ≡ true → (position : ℕ) (big : Bool) (nested : ℕ) (d : Depths) (k : ℕ) (l : List ℕ) (b j : ℕ) → j ≤ length l
       → itemStep position big nested text i d k l b j (length l) .refusal ≡ 0 → 0 < itemStep position big nested text i d k l b j (length l) .used
+
+-- the same of what stands at a place: a type; what an array repeats; what a dictionary does
+abbrev pub DescribedAt : List ℕ → List ℕ → ℕ → Type 0
+DescribedAt text shapes at = Described text shapes (shapeIn text shapes at)
+
+abbrev pub RepeatedAt : List ℕ → List ℕ → ℕ → Type 0
+RepeatedAt text shapes at = Repeated text shapes (itemOf text shapes at)
+
+abbrev pub EntriesAt : List ℕ → List ℕ → ℕ → Type 0
+EntriesAt text shapes at = Repeated text shapes (entryOf text shapes at)
 
 -- and that it is what the array or dictionary at a place repeats
 pub record ItemAt (text shapes : List ℕ) (at : ℕ) (i : Item) : Type 0 where

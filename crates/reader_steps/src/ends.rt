@@ -11,17 +11,13 @@ use std::num::wrapping_add_usize;
 use std::num::wrapping_sub_usize;
 use utils::Checked;
 ghost use mathlib.Core.Path.{_≡_};
-ghost use mathlib.Core.Bool.{true};
-ghost use mathlib.Core.List.{List};
-ghost use Prim.Native.Nat.{ℕ, _+_, _-_, _%_, _≤_};
+ghost use Prim.Native.Nat.{_+_, _%_, _≤_};
 ghost use lib.ListN.{length};
 ghost use Rattle.meaning.specs.Limits.{largestFrame, largestNumber};
 ghost use Rattle.meaning.specs.Padding.{Aligns};
-ghost use Rattle.meaning.specs.Outcome.{Outcome, chain, passing};
-ghost use Rattle.meaning.specs.Reading.{child, endPadding};
 ghost use Rattle.de.specs.Parts.{paddingAt};
-ghost use Rattle.reader_basic.specs.Answers.{Done};
 ghost use Rattle.reader_steps.specs.Children.{endsAt, endsMissing};
+ghost use Rattle.reader_steps.specs.Closing.{Passes, EndsPadded};
 ghost use Rattle.reader_steps.specs.Rides.{contextOf};
 
 // Where a child ends by an offset, and the offset's width; or that none stands there.
@@ -56,7 +52,7 @@ impl Ends {
 // The answer with so many more bytes passed behind it, if it is done.
 pub fn past(answer: Answer, more: usize) -> Answer
     requires { ⌜ answer .used + more ≤ largestNumber ⌝ }
-    ensures { λ s. ⌜ ((o : Outcome) (end end′ len n : ℕ) (l l′ : List ℕ) → (answer .refusal ≡ 0 → answer .used + more ≤ end) → end ≤ len → Done o end′ len n l l′ answer → Done (chain o (passing more)) end len n l l′ s) ⌝ }
+    ensures { λ s. ⌜ Passes more answer s ⌝ }
 {
     let refusal = answer.refusal;
     if refusal != 0 {
@@ -89,7 +85,7 @@ pub fn padded(part: &[u8], j: usize, place: usize, ride: usize, shape: u16) -> C
 // The padding at the end of what is fixed, by its shape, judged from where it stands, whatever came of its last child.
 pub fn end_padded(part: &[u8], j: usize, place: usize, ride: usize, shape: u16, r: Answer) -> Answer
     requires { ⌜ (place + length (now part) ≤ largestFrame) × (contextOf ride .position ≤ largestFrame) × (j + r .used ≤ length (now part)) × Aligns (shape % 16) ⌝ }
-    ensures { λ s. ⌜ ((o : Outcome) (end len n : ℕ) (l l′ : List ℕ) → len ≡ length (now (part .entry)) - j → Done o end len n l l′ r → Done (endPadding (contextOf ride .position) true (shape % 16) place (now (part .entry)) j o) len len n l l′ s) ⌝ }
+    ensures { λ s. ⌜ EndsPadded (contextOf ride .position) (shape % 16) (now (part .entry)) j place r s ⌝ }
 {
     let padding = padded(part, j + r.used, place, ride, shape);
     let refusal = padding.refusal;

@@ -4,18 +4,15 @@ use reader_basic::Answer;
 use reader_basic::done;
 use reader_basic::refused;
 ghost use mathlib.Core.Path.{_≡_};
-ghost use mathlib.Core.List.{List};
-ghost use Prim.Native.Nat.{ℕ, _-_, _≤_, _<_};
+ghost use Prim.Native.Nat.{_-_, _≤_, _<_};
 ghost use lib.ListN.{length};
 ghost use Rattle.meaning.specs.Limits.{largestFrame};
-ghost use Rattle.meaning.specs.Outcome.{Outcome, chain};
-ghost use Rattle.meaning.specs.Reading.{endByte};
-ghost use Rattle.reader_basic.specs.Answers.{Done};
+ghost use Rattle.reader_steps.specs.Closing.{EndsInZero};
 
 // The byte where a maybe's child stopped must be 0.
 pub fn end_byte(part: &[u8], lead: usize, r: Answer) -> Answer
     requires { ⌜ (lead < length (now part)) × (length (now part) ≤ largestFrame) × (r .used ≤ length (now part) - lead) × (r .refusal ≡ 0 → r .used ≤ length (now part) - 1 - lead) ⌝ }
-    ensures { λ s. ⌜ ((o : Outcome) (place n : ℕ) (l l′ : List ℕ) → Done o (length (now (part .entry)) - 1 - lead) (length (now (part .entry)) - lead) n l l′ r → Done (chain o (endByte place (now (part .entry)) lead)) (length (now (part .entry)) - lead) (length (now (part .entry)) - lead) n l l′ s) ⌝ }
+    ensures { λ s. ⌜ EndsInZero (now (part .entry)) lead r s ⌝ }
 {
     let refusal = r.refusal;
     let used = r.used;

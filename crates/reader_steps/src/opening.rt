@@ -8,7 +8,6 @@ use meaning::refusals::ARRAYS_TOO_DEEP;
 use meaning::refusals::CONTAINERS_TOO_DEEP;
 use meaning::refusals::STRUCTURES_TOO_DEEP;
 ghost use mathlib.Core.Path.{_≡_};
-ghost use Prim.Native.Nat.{_≤_};
 ghost use lib.Dec.{leb};
 ghost use Rattle.meaning.specs.Depths.{structure, array, variant, maybe, total, depthRefusal};
 ghost use Rattle.container_depths.specs.Opening.{depthsOf};

@@ -8,17 +8,14 @@ use reader_basic::basic::offset_before;
 use signature::shapes::fixed_of;
 ghost use mathlib.Core.Path.{_≡_};
 ghost use mathlib.Core.Bool.{true};
-ghost use mathlib.Core.List.{List};
-ghost use Prim.Native.Nat.{ℕ, _+_, _-_, _%_, _≤_};
+ghost use Prim.Native.Nat.{_+_, _-_, _%_, _≤_};
 ghost use lib.Dec.{leb};
 ghost use lib.ListN.{length};
 ghost use Rattle.meaning.specs.Limits.{largestFrame};
 ghost use Rattle.meaning.specs.Offsets.{encodedWidth};
-ghost use Rattle.meaning.specs.Outcome.{Outcome, chain, passing};
-ghost use Rattle.meaning.specs.Reading.{child, endPadding};
 ghost use Rattle.meaning.specs.Padding.{Aligns};
-ghost use Rattle.reader_basic.specs.Answers.{From, Between};
 ghost use Rattle.reader_steps.specs.Children.{fieldEnds};
+ghost use Rattle.reader_steps.specs.Closing.{ClosesFields};
 ghost use Rattle.reader_steps.specs.Rides.{contextOf};
 
 // Where a field that is not the last ends, in a structure that begins at lead and whose table reaches to an end.
@@ -49,7 +46,7 @@ pub fn close_fields(
     r: Answer,
 ) -> Answer
     requires { ⌜ (place + length (now part) ≤ largestFrame) × (contextOf ride .position ≤ largestFrame) × Aligns (shape % 16) × (j + r .used ≤ length (now part)) × (end ≤ length (now part)) × (leb 16 (shape % 32) ≡ true → end ≡ length (now part)) ⌝ }
-    ensures { λ s. ⌜ ((read : ℕ → List ℕ → Outcome) (n : ℕ) (l l′ : List ℕ) → Between (child read place (now (part .entry)) j end) (now (part .entry)) j end n l l′ r → From (chain (endPadding (contextOf ride .position) (leb 16 (shape % 32)) (shape % 16) place (now (part .entry)) j (child read place (now (part .entry)) j end)) (passing (length (now (part .entry)) - end))) (now (part .entry)) j n l l′ s) ⌝ }
+    ensures { λ s. ⌜ ClosesFields (contextOf ride .position) shape (now (part .entry)) j end place r s ⌝ }
 {
     if fixed_of(shape) {
         return end_padded(part, j, place, ride, shape, r);

@@ -12,20 +12,21 @@ use reader_basic::done;
 use reader_basic::refused;
 use texts::text;
 use texts::text_refusal;
-ghost use mathlib.Core.List.{List, [], _∷_};
-ghost use Prim.Native.Nat.{ℕ, _+_, _-_, _≤_};
+ghost use mathlib.Core.List.{[], _∷_};
+ghost use Prim.Native.Nat.{_+_, _≤_};
 ghost use lib.ListN.{length};
 ghost use Rattle.meaning.specs.Limits.{largestFrame};
 ghost use Rattle.meaning.specs.Letters.{variantLetter, signatureLetter};
 ghost use Rattle.meaning.specs.Events.{opening};
 ghost use Rattle.meaning.specs.Texts.{withoutFinalNul};
-ghost use Rattle.meaning.specs.Outcome.{Outcome, after, chain, closingAt};
-ghost use Rattle.meaning.specs.Reading.{remaining, textAs};
+ghost use Rattle.meaning.specs.Outcome.{after};
+ghost use Rattle.meaning.specs.Reading.{textAs};
 ghost use Rattle.signature.specs.Places.{letterOf};
 ghost use Rattle.reader_basic.specs.Answers.{Done, From};
 ghost use Rattle.reader_basic.specs.Parts.{Inside};
 ghost use Rattle.reader_steps.specs.Places.{insideOf, variantTree};
 ghost use Rattle.reader_steps.specs.Children.{OnlyBasic, HoldsBasic};
+ghost use Rattle.reader_steps.specs.Closing.{ClosesVariant};
 ghost use Rattle.reader_steps.specs.Rides.{contextOf};
 
 // The character of a type text that has one alone, of a basic type; 0 for another.
@@ -88,7 +89,7 @@ pub fn type_text(signature: &[u8], at: usize, from: usize, out: &mut [u64], n: u
 // Closes a variant that is done: all of it is used.
 pub fn close_variant(r: Answer, part: &[u8], lead: usize, place: usize, out: &mut [u64]) -> Answer
     requires { ⌜ (place + length (now part) ≤ largestFrame) × (lead ≤ length (now part)) ⌝ }
-    ensures { λ s. ⌜ ((o : Outcome) (end n : ℕ) (l : List ℕ) → Done o end (length (now (part .entry)) - lead) n l (now (out .entry)) r → From (chain (chain o (remaining (length (now (part .entry)) - lead))) (closingAt (place + lead))) (now (part .entry)) lead n l (now (out .exit)) s) ⌝ }
+    ensures { λ s. ⌜ ClosesVariant (now (part .entry)) lead place (now (out .entry)) (now (out .exit)) r s ⌝ }
 {
     let refusal = r.refusal;
     if refusal != 0 {

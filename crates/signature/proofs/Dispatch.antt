@@ -12,7 +12,7 @@ use Rattle.meaning.specs.Types.{Basic, bool, number, text, Tree, Fields, basic,
 use Rattle.meaning.specs.Letters.{numberLetter, textLetter, basicLetter}
 use Rattle.meaning.specs.TypeText.{typeText, fieldsText, basicAmong, found, firstType, firstFields}
 use Rattle.meaning.proofs.TypeTextLaws.{basic-letter, typeText-positive, head, firstType-typeText, firstType-sound, firstFields-fieldsText, firstFields-sound, fields-head}
-use Rattle.signature.specs.Places.{basicKind, letterOf, letterBy, letterIn, letterAt, childOf, closedBy, fieldAt}
+use Rattle.signature.specs.Places.{basicKind, letterOf, letterBy, letterIn, letterAt, closedBy, fieldAt}
 use Rattle.signature.specs.declared.Letter.{Letter}
 use Rattle.signature.specs.declared.Letter.the-variants.{End, Bad, Boolean, Number, Text, Variant, Maybe, Array, OpenStructure, CloseStructure, OpenEntry, CloseEntry}
 use Rattle.signature.proofs.Letters.{cut}

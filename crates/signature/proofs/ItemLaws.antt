@@ -9,9 +9,9 @@ use types.Run.{OneOf}
 use denote.Enum.Declared.{tagOf}
 use lib.ListN.{drop}
 use borrow.Author.Tests.{le-leb, lt-leb}
-use Rattle.meaning.specs.Types.{Basic, bool, number, text, array, dictionary, basicFixed, fixed, alignment}
+use Rattle.meaning.specs.Types.{number, fixed, alignment}
 use Rattle.meaning.specs.TypeText.{firstType}
-use Rattle.signature.specs.Places.{basicKind, letterAt}
+use Rattle.signature.specs.Places.{letterAt}
 use Rattle.signature.specs.Steps.{keyFixed}
 use Rattle.signature.specs.Shapes.{unpacked, shapeIn}
 use Rattle.signature.specs.Trees.{treeAt, behindBy, Described}

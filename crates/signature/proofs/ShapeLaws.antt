@@ -12,10 +12,10 @@ use lib.ListN.{length, getD, set, length-set}
 use lib.Seq.{getD-set-same, getD-set-other, ext-getD}
 use borrow.Author.Tests.{le-leb, lt-leb, leb-true, leb-false, eqb-true, eqb-false, eq-eqb}
 use Rattle.meaning.specs.Choice.{pick}
-use Rattle.meaning.specs.Types.{Basic, bool, number, text, basicAlignment, rounded}
+use Rattle.meaning.specs.Types.{basicAlignment, rounded}
 use Rattle.meaning.proofs.PaddingLaws.{aligns-positive}
 use Rattle.meaning.proofs.TypeLaws.{aligns-most, basic-aligned}
-use Rattle.signature.specs.Places.{basicKind, letterOf, letterAt, noChild, childAt, noEntry, entryAt, isType}
+use Rattle.signature.specs.Places.{letterOf, letterAt, noChild, childAt, noEntry, entryAt, isType}
 use Rattle.signature.specs.Steps.{keyAlignment}
 use Rattle.signature.specs.Places.{Child}
 use Rattle.signature.specs.Places.{Entry}

@@ -8,7 +8,6 @@ use crate::shapes::shape_in;
 use crate::shapes::unpack;
 use meaning::limits::LONGEST_TYPE;
 ghost use mathlib.Core.Path.{_≡_};
-ghost use Prim.Native.Nat.{_+_};
 ghost use Rattle.signature.specs.Items.{heldNumber, entryItem, elementItem, itemIn};
 
 // The element's shape, or the entry's value's; the entry's key and whether that is fixed; the alignment, and whether it is fixed; the

@@ -14,11 +14,11 @@ use borrow.Author.Tests.{le-leb, lt-leb, eq-eqb, ne-eqb, leb-true, leb-false}
 use Rattle.meaning.specs.Choice.{pick}
 use Rattle.meaning.specs.Refusals.{noValue}
 use Rattle.meaning.specs.Numbers.{value}
-use Rattle.meaning.specs.Padding.{padding, isAlignment, Aligns}
+use Rattle.meaning.specs.Padding.{padding, Aligns}
 use Rattle.meaning.specs.Depths.{Depths}
 use Rattle.meaning.specs.Texts.{textRefusal}
 use Rattle.meaning.specs.Offsets.{firstWidth, encodedWidth, writtenWidth, lastOffset}
-use Rattle.meaning_writing.specs.Shapes.{part, behindPadding, offsetCount, lastEnd, fieldEnd, offsetsLeft, oneMore}
+use Rattle.meaning_writing.specs.Shapes.{part, offsetCount, lastEnd, fieldEnd, offsetsLeft, oneMore}
 use Rattle.meaning_writing.specs.Strict.{Test, testShapes, allZero, basicWritten, childWritten, elementEnd, elementsWritten, tableWritten, arrayWritten, fieldsFinished, fieldsWritten, offsetsWritten, structureWritten}
 use Rattle.meaning.proofs.PaddingLaws.{by1, by2, by4, by8, by-alignment}
 use Rattle.meaning.proofs.OffsetLaws.{encodedWidth-1, encodedWidth-2, encodedWidth-4}

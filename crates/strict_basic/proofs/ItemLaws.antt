@@ -24,7 +24,6 @@ use Rattle.meaning.proofs.PaddingLaws.{by1, padding-below}
 use Rattle.meaning.proofs.TypeLaws.{aligns-most, number-aligned, aligned}
 use Rattle.meaning_writing.proofs.StrictSteps.{test-basic, test-maybe, test-array, test-dictionary}
 use Rattle.signature.specs.Places.{Child, basicKind, letterAt, letterBy, letterOf, childAt}
-use Rattle.signature.specs.Items as its
 use Rattle.signature.specs.Items.{itemIn, EntryOf, ElementOf}
 use Rattle.signature.specs.Trees.{treeAt}
 use Rattle.signature.specs.declared.Letter.{Letter}

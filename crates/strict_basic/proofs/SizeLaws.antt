@@ -16,12 +16,12 @@ use Rattle.meaning.specs.Offsets.{encodedWidth, writtenWidth}
 use Rattle.meaning.specs.Types.{Number as NumberType, byte, int16, uint16, int32, uint32, int64, uint64, double, numberWidth, bool, number, text, Tree, Fields, basic, variant, maybe, array, dictionary, structure, last, next}
 use Rattle.meaning.specs.Types.{alignment, largestAlignment, fixed, allFixed, fixedSize, fieldsEnd, rounded}
 use Rattle.meaning_writing.specs.Shapes.{part, oneMore, offsetCount, lastEnd, fieldEnd, offsetsLeft, fixedEnd}
-use Rattle.meaning_writing.specs.Strict.{Test, testShapes, allZero, basicWritten, basicTest, childWritten, fieldsFinished, fieldsWritten, offsetsWritten, structureWritten, structureTest, testOf}
+use Rattle.meaning_writing.specs.Strict.{Test, testShapes, allZero, basicWritten, basicTest, childWritten, fieldsFinished, fieldsWritten, offsetsWritten, structureWritten, structureTest, testOf, testsOf}
 use Rattle.meaning.proofs.Tests.{both-true}
 use Rattle.meaning.proofs.PaddingLaws.{padding-shift, padding-aligned, padding-none}
 use Rattle.meaning.proofs.TypeLaws.{aligned, fields-aligned}
 use Rattle.meaning_writing.proofs.Parts.{part-none}
-use Rattle.meaning_writing.proofs.StrictSteps.{testsOf, test-basic, test-structure, tests-last, tests-next, test-alignment, test-fixed, test-size}
+use Rattle.meaning_writing.proofs.StrictSteps.{test-basic, test-structure, tests-last, tests-next, test-alignment, test-fixed, test-size}
 use Rattle.strict_basic.specs.Sizes.{anyBytes, anyFields, offsetsIn}
 
 -- ---- any bytes will do

@@ -15,12 +15,12 @@ use Rattle.meaning.specs.Padding.{padding, Aligns}
 use Rattle.meaning.specs.Types.{Number as NumberType, bool, number, text, Tree, Fields, basic, variant, maybe, array, dictionary, structure, last, next, numberWidth, alignment, largestAlignment, fixed, allFixed, fixedSize, fieldsEnd, rounded}
 use Rattle.meaning.specs.TypeText.{firstType, typeText, fieldsText}
 use Rattle.meaning_writing.specs.Shapes.{oneMore, offsetCount}
-use Rattle.meaning_writing.specs.Strict.{testShapes}
+use Rattle.meaning_writing.specs.Strict.{testShapes, testsOf}
 use Rattle.meaning.proofs.Tests.{both-true}
 use Rattle.meaning.proofs.TypeLaws.{aligns-most, aligned, fields-aligned, fixedSize-positive}
 use Rattle.meaning.proofs.PaddingLaws.{padding-below}
 use Rattle.meaning.proofs.TypeTextLaws.{fixedSize-most}
-use Rattle.meaning_writing.proofs.StrictSteps.{testsOf, test-alignment, test-fixed, test-size}
+use Rattle.meaning_writing.proofs.StrictSteps.{test-alignment, test-fixed, test-size}
 use Rattle.signature.specs.Places.{Child, basicKind, letterAt, childAt, fieldAt, isType}
 use Rattle.signature.specs.Shapes.{Shaped, Answered, shapeIn}
 use Rattle.signature.specs.Trees.{treeAt, behindBy, Typed, fieldsAt, Rowed, Described}

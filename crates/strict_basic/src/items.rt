@@ -10,12 +10,11 @@ use signature::Letter;
 use signature::items::item_of;
 use signature::shapes::Shape;
 ghost use mathlib.Core.Path.{_≡_};
-ghost use mathlib.Core.Bool.{true, false};
 ghost use Prim.Native.Nat.{_≤_};
 ghost use Rattle.signature.specs.Places.{letterAt};
 ghost use Rattle.signature.specs.Steps.{isText};
 ghost use Rattle.strict_basic.specs.Ends.{Laid, letterExtent};
-ghost use Rattle.meaning.specs.Padding.{padding, Aligns};
+ghost use Rattle.meaning.specs.Padding.{Aligns};
 ghost use Rattle.strict_basic.specs.Items.{Placed, heldWidth, entrySize, entryItem, elementItem, ItemAt};
 
 // The element's shape, or the entry's value's; the entry's key; how it lies among others; whether any bytes of its size will do;

@@ -2,11 +2,11 @@
 use mathlib.Core.Path.{_≡_, refl, sym, ap, _∙_}
 use mathlib.Core.List.{List, [], _∷_}
 use mathlib.Core.Bool.{Bool, true, false, _&&_}
-use Prim.Native.Nat.{ℕ, zero, suc, _+_, _-_, _*_, _/_, _≤_, _<_}
+use Prim.Native.Nat.{ℕ, zero, suc, _+_, _-_, _*_, _/_, _≤_}
 use native.Mathlib.Nat.{suc-mul}
 use native.Mathlib.Omega.{arith}
 use lib.Dec.{eqb}
-use lib.ListN.{length, take, drop}
+use lib.ListN.{length, take}
 use Rattle.meaning.specs.Choice.{pick}
 use Rattle.meaning.specs.Padding.{padding, Aligns}
 use Rattle.meaning.specs.Depths as Depth
@@ -19,7 +19,7 @@ use Rattle.container_depths.specs.declared.ContainerDepths.{ContainerDepths}
 use Rattle.container_depths.specs.declared.Raised.{Raised}
 use Rattle.container_depths.proofs.Levels.{raised-to}
 use Rattle.strict_basic.specs.Ends.{letterExtent, letterTest, textTest, mayOpen, readingTest, endOf, start, RowsOf, TableOf}
-use Rattle.strict_basic.specs.Items.{treeTest, itemTest, Known, Alike, Repeated, ItemAt}
+use Rattle.strict_basic.specs.Items.{treeTest, itemTest, Known, Alike, ItemAt}
 use Rattle.strict_basic.specs.declared.ends.Extent.{Extent}
 use Rattle.strict_basic.specs.declared.ends.Rows.{Rows}
 use Rattle.strict_basic.specs.declared.items.Item.{Item}

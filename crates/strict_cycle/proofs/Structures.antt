@@ -1,19 +1,19 @@
 -- A law for each way out of structures and their fields, and what the loop over fields keeps. Assumes nothing.
 use mathlib.Core.Path.{_≡_, refl, sym, ap, _∙_}
 use mathlib.Core.List.{List, [], _∷_}
-use mathlib.Core.Bool.{Bool, true, false, _&&_, false≢true}
-use Prim.Native.Nat.{ℕ, _+_, _-_, _*_, _≤_, _<_}
+use mathlib.Core.Bool.{Bool, true, false, _&&_}
+use Prim.Native.Nat.{ℕ, _+_, _-_, _*_, _≤_}
 use native.Mathlib.Omega.{arith}
 use native.Mathlib.Nat.{suc-mul}
 use lib.ListN.{length}
 use Rattle.meaning.specs.Padding.{padding}
 use Rattle.meaning.specs.Depths as Depth
 use Rattle.meaning.specs.Depths.{Depths, opened}
-use Rattle.meaning.specs.Types.{Tree, Fields, structure, largestAlignment, allFixed}
+use Rattle.meaning.specs.Types.{Fields, structure, largestAlignment}
 use Rattle.meaning.specs.Written.{deeper}
 use Rattle.meaning_writing.specs.Shapes.{oneMore, offsetCount, lastEnd, fieldEnd, offsetsLeft, fixedEnd}
-use Rattle.meaning_writing.specs.Strict.{Test, testShapes, childWritten, fieldsFinished, fieldsWritten, structureWritten, structureTest, testOf}
-use Rattle.meaning_writing.proofs.StrictSteps.{testsOf, test-structure, tests-last, tests-next}
+use Rattle.meaning_writing.specs.Strict.{Test, testShapes, childWritten, fieldsFinished, fieldsWritten, structureWritten, structureTest, testOf, testsOf}
+use Rattle.meaning_writing.proofs.StrictSteps.{test-structure, tests-last, tests-next}
 use Rattle.container_depths.specs.Opening.{depthsOf, Raises}
 use Rattle.container_depths.specs.declared.ContainerDepths.{ContainerDepths}
 use Rattle.container_depths.specs.declared.Raised.{Raised}

@@ -1,4 +1,4 @@
-// Arrays, and what is common to them and dictionaries.
+// Arrays, and what is common to them and dictionaries: what is repeated fills the body, and a table of the smallest width has its ends.
 use crate::child;
 use crate::dictionary::entries;
 use container_depths::ContainerDepths;

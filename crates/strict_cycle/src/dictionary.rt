@@ -1,4 +1,4 @@
-// Dictionaries.
+// Dictionaries: entries one behind another, each laid out as a structure of its key and its value.
 use crate::child;
 use container_depths::ContainerDepths;
 use strict_basic::basic::extent_of;

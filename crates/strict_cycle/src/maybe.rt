@@ -1,4 +1,4 @@
-// Maybes.
+// Maybes: no byte for nothing, else the child and, where that is not fixed, a zero.
 use crate::value;
 use container_depths::ContainerDepths;
 use signature::Letter;
@@ -7,7 +7,6 @@ use signature::shapes::shape_in;
 use strict_basic::basic::is_basic;
 use strict_basic::basic::letter_written;
 ghost use mathlib.Core.Path.{_≡_};
-ghost use Prim.Native.Nat.{_+_};
 ghost use lib.ListN.{length};
 ghost use Rattle.container_depths.specs.Opening.{depthsOf};
 ghost use Rattle.signature.specs.Places.{letterAt};

@@ -1,4 +1,4 @@
-// Structures.
+// Structures: fields that fill the body, then padding or a table of the smallest width with the ends that are asked for.
 use crate::child;
 use container_depths::ContainerDepths;
 use signature::Letter;
@@ -16,19 +16,17 @@ use strict_basic::ends::start_of;
 use strict_basic::sizes::extent_in;
 use strict_basic::sizes::offsets_in;
 ghost use mathlib.Core.Path.{_≡_};
-ghost use Prim.Native.Nat.{_+_, _-_, _*_, _≤_};
+ghost use Prim.Native.Nat.{_*_, _≤_};
 ghost use lib.ListN.{length};
-ghost use Rattle.meaning.specs.Limits.{mostVariants};
 ghost use Rattle.meaning.specs.Padding.{Aligns};
 ghost use Rattle.meaning_writing.specs.Shapes.{offsetCount};
 ghost use Rattle.meaning_writing.specs.Strict.{testShapes, fieldsWritten};
-ghost use Rattle.meaning_writing.proofs.StrictSteps.{testsOf};
 ghost use Rattle.container_depths.specs.Opening.{depthsOf};
 ghost use Rattle.signature.specs.Places.{letterAt};
-ghost use Rattle.signature.specs.Trees.{fieldsAt, Rowed};
+ghost use Rattle.signature.specs.Trees.{Rowed};
 ghost use Rattle.strict_basic.specs.Sizes.{Tabled};
 ghost use Rattle.strict_basic.specs.Items.{Placed, treeTest};
-ghost use Rattle.strict_cycle.specs.Walks.{Inside, lastWritten};
+ghost use Rattle.strict_cycle.specs.Walks.{Inside, lastWritten, testsAt};
 
 pub(crate) fn structure(
     text: &[u8],
@@ -65,8 +63,8 @@ pub(crate) fn fields(
     rows: Rows,
     d: ContainerDepths,
 ) -> bool
-    requires { ⌜ Rowed (now text) at × Tabled (now text) (now tables) × Inside (length (now part)) d × (rows .body ≤ length (now part)) × Aligns (whole .alignment) × Aligns (rows .width) × (offsetCount (testShapes (testsOf (mostVariants - d .variant) (fieldsAt (now text) at))) * rows .width ≤ length (now part)) ⌝ }
-    ensures { λ r. ⌜ r ≡ fieldsWritten (whole .fixed) (whole .alignment) (depthsOf d) (now (part .entry)) (rows .body) (rows .width) (testsOf (mostVariants - d .variant) (fieldsAt (now (text .entry)) at)) 0 (length (now (part .entry))) ⌝ }
+    requires { ⌜ Rowed (now text) at × Tabled (now text) (now tables) × Inside (length (now part)) d × (rows .body ≤ length (now part)) × Aligns (whole .alignment) × Aligns (rows .width) × (offsetCount (testShapes (testsAt (now text) at d)) * rows .width ≤ length (now part)) ⌝ }
+    ensures { λ r. ⌜ r ≡ fieldsWritten (whole .fixed) (whole .alignment) (depthsOf d) (now (part .entry)) (rows .body) (rows .width) (testsAt (now (text .entry)) at d) 0 (length (now (part .entry))) ⌝ }
 {
     let body = rows.body;
     let width = rows.width;

@@ -1,4 +1,4 @@
-// Variants.
+// Variants: a value, a nul, and the text of its type.
 use crate::value;
 use container_depths::ContainerDepths;
 use reader_basic::basic::separator;

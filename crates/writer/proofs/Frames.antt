@@ -3,16 +3,14 @@ use mathlib.Core.Path.{_≡_, refl, ap, sym, subst, _∙_}
 use mathlib.Core.List.{List, [], _∷_, _++_}
 use mathlib.Core.Bool.{Bool, true, false}
 use native.Mathlib.Omega.{arith}
-use Prim.Native.Nat.{ℕ, _+_, _-_, _≤_, _<_, min}
-use lib.Dec.{leb}
+use Prim.Native.Nat.{ℕ, _+_, _-_, _≤_, _<_}
 use lib.ListN.{length, take, drop, length-drop, drop-of-length-le}
 use lib.Seq.{take-all, length-take-le}
 use borrow.Author.Tests.{le-leb, lt-leb}
 use Rattle.meaning.specs.Depths.{Depths, noneOpen, depthRefusal}
-use Rattle.meaning.specs.Limits.{largestFrame, mostVariants}
-use Rattle.meaning.specs.Types.{Tree}
+use Rattle.meaning.specs.Limits.{largestFrame}
 use Rattle.meaning.specs.Written.{Piece}
-use Rattle.meaning_writing.specs.Writing.{Built, built, fault, Framed, framed, limited, frameWriting, roomed, WriteAnswer, writeAnswer, writeAnswered, outputWith, write, writeSlice}
+use Rattle.meaning_writing.specs.Writing.{Built, built, fault, Framed, framed, limited, frameWriting, roomed, writeAnswer, writeAnswered, outputWith, write, writeSlice}
 use Rattle.meaning_writing.specs.Emitting.{emit, frameEmitted}
 use Rattle.meaning_writing.proofs.EmitLaws.{frame-untyped, frame-emitted}
 use Rattle.container_depths.specs.Opening.{depthsOf}
@@ -21,14 +19,12 @@ use Rattle.signature.specs.Places.{isType}
 use Rattle.signature.specs.Trees.{treeAt}
 use Rattle.signature.proofs.Answers.{judged-none}
 use Rattle.signature.proofs.TreeLaws.{front}
-use Rattle.writer_store.specs.Stores.{cap, puts}
-use Rattle.writer_basic.specs.Wrote.{Made, Done, Shallow, Placed}
+use Rattle.writer_store.specs.Stores.{puts}
+use Rattle.writer_basic.specs.Wrote.{Done, Shallow}
 use Rattle.writer_basic.specs.declared.Answer.{Answer}
-use Rattle.writer_basic.specs.declared.Context.{Context}
-use Rattle.writer_basic.proofs.Answers.{made-of, fault-of}
 use Rattle.writer_store.proofs.Puts.{puts-room}
 use Rattle.writer_cycle.specs.Places.{valueOf}
-use Rattle.writer.specs.Answers.{answerOf, frameOf, MadeFrame, SaysFrame, WroteFrame, Judged, faulty, left, long, full, good}
+use Rattle.writer.specs.Answers.{frameOf, MadeFrame, SaysFrame, WroteFrame, Judged, faulty, left, long, full, good}
 
 -- ---- the walk
 

@@ -1,5 +1,5 @@
 -- The public contract leaves one answer. Assumes nothing.
-use mathlib.Core.Path.{refl, ap, sym, _∙_}
+use mathlib.Core.Path.{ap, sym, _∙_}
 use Rattle.meaning.specs.OneAnswer.{OneAnswer}
 use Rattle.meaning_writing.specs.Writing.{WriteAnswer}
 use Rattle.writer.specs.declared.Written.{Written}

@@ -18,7 +18,8 @@ use Rattle.meaning_writing.specs.Emitting.{emitBasic}
 use Rattle.meaning.specs.Padding.{Aligns}
 use Rattle.meaning.proofs.PaddingLaws.{by-alignment}
 use Rattle.meaning.proofs.TypeLaws.{number-aligned}
-use Rattle.meaning_writing.proofs.WritingSteps.{NotPlain, TextAt, short, other, carrying, outside, viewed, at-end, at-event, onText-at, onText-not, unrefused-none, unrefused-fault, mapped-built, mapped-fault}
+use Rattle.meaning_writing.specs.EventsAt.{NotPlain, TextAt, short, other, carrying, outside, viewed}
+use Rattle.meaning_writing.proofs.WritingSteps.{at-end, at-event, onText-at, onText-not, unrefused-none, unrefused-fault, mapped-built, mapped-fault}
 use Rattle.meaning.proofs.NumberLaws.{length-bytes}
 use Rattle.signature.specs.Places.{basicKind}
 use Rattle.signature.specs.declared.Letter.{Letter}

@@ -18,7 +18,8 @@ use Rattle.meaning.specs.Written.{Piece, basicPiece, maybePiece}
 use Rattle.meaning.proofs.PaddingLaws.{by-alignment, padding-none}
 use Rattle.meaning_writing.specs.Writing.{Built, built, fault, mapped, buildBasic, buildMaybe}
 use Rattle.meaning_writing.specs.Emitting.{itself, emitBasic, emitMaybe, emitOver, emit}
-use Rattle.meaning_writing.proofs.WritingSteps.{Shorter, PlainAt}
+use Rattle.meaning_writing.specs.EventsAt.{PlainAt}
+use Rattle.meaning_writing.proofs.WritingSteps.{Shorter}
 use Rattle.meaning_writing.proofs.EmitLaws.{basic-shorter, emit-shorter}
 use Rattle.meaning_writing.proofs.PieceLaws.{basic-alignment as piece-alignment, basic-fixed as piece-fixed}
 use Rattle.meaning.proofs.NumberLaws.{length-bytes}

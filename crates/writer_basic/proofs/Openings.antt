@@ -15,7 +15,8 @@ use Rattle.meaning.specs.TypeText.{typeOf}
 use Rattle.meaning.specs.Written.{Piece, maybePiece, arrayPiece, structurePiece}
 use Rattle.meaning_writing.specs.Writing.{Built, fault, Builder, mapped, sealed, whenShallow, buildMaybe, buildMany, buildArray, buildStructure, variantBy, buildVariant}
 use Rattle.meaning_writing.specs.Emitting.{itself, emitMaybe, emitArray, emitStructure, emitVariant}
-use Rattle.meaning_writing.proofs.WritingSteps.{Shorter, PlainAt, NotPlain, short, other, carrying, onPlain-at, onPlain-not, mapped-built, mapped-fault, shallow-open, shallow-fault, maybe-end, maybe-carries, maybe-nothing, maybe-other, maybe-present, many-enough}
+use Rattle.meaning_writing.specs.EventsAt.{PlainAt, NotPlain, short, other, carrying}
+use Rattle.meaning_writing.proofs.WritingSteps.{Shorter, onPlain-at, onPlain-not, mapped-built, mapped-fault, shallow-open, shallow-fault, maybe-end, maybe-carries, maybe-nothing, maybe-other, maybe-present, many-enough}
 use Rattle.meaning.proofs.Bounds.{total-most}
 use Rattle.container_depths.specs.Opening.{depthsOf, Raises}
 use Rattle.container_depths.specs.declared.ContainerDepths.{ContainerDepths}

@@ -7,13 +7,13 @@ use mathlib.Core.Bool.{Bool, true, false}
 use lib.ListN.{length, take, drop}
 use Rattle.meaning.specs.Depths.{depthRefusal}
 use Rattle.meaning.specs.Refusals.{noValue}
-use Rattle.meaning.specs.Types.{Basic, bool, Tree}
+use Rattle.meaning.specs.Types.{Basic, bool, Tree, basicAlignment}
 use Rattle.meaning.specs.Texts.{textRefusal}
 use Rattle.meaning.specs.TypeText.{basicOf}
 use Rattle.meaning.specs.Written.{Piece, layout, ends, maybePiece, structureBytes}
-use Rattle.meaning_writing.specs.Writing.{Built, built, fault, mapped, sealed}
-use Rattle.meaning_writing.specs.Emitting.{itself, variantOf}
-use Rattle.meaning_writing.proofs.WritingSteps.{PlainAt, NotPlain, TextAt, NotText, viewed}
+use Rattle.meaning_writing.specs.Writing.{Built, Builder, built, fault, mapped, sealed, buildMany}
+use Rattle.meaning_writing.specs.Emitting.{emitBasic, emitMaybe, itself, variantOf}
+use Rattle.meaning_writing.specs.EventsAt.{PlainAt, NotPlain, TextAt, NotText, viewed}
 use Rattle.container_depths.specs.Opening.{depthsOf}
 use Rattle.signature.specs.Places.{basicKind}
 use Rattle.signature.specs.declared.Letter.{Letter}
@@ -116,6 +116,23 @@ SaysAll m (fault n) ns i base top k j l l′ s s′ r = Faulted n (r .refusal)
 
 pub record DoneAll (m : ℕ → List Piece → List ℕ) (x : Built (List Piece)) (ns : List ℕ) (i base top k j : ℕ) (l l′ s s′ : List ℕ) (r : Run) : Type 0 where
   pub says : SaysAll m x ns i base top k j l l′ s s′ r
+
+-- the answer for a value, or for children in a row, whose events and bytes begin at a spot
+abbrev pub WroteAt : (List ℕ → Built Piece) → List ℕ → Spot → List ℕ → List ℕ → List ℕ → List ℕ → Answer → Type 0
+WroteAt b ns p l l′ s s′ r = Done (b (drop (p .next) ns)) ns (p .next) (p .start) (p .top) l l′ s s′ r
+
+abbrev pub RowAt : (ℕ → List Piece → List ℕ) → (List ℕ → Built (List Piece)) → List ℕ → Spot → List ℕ → List ℕ → List ℕ → List ℕ → Run → Type 0
+RowAt m b ns p l l′ s s′ r = DoneAll m (b (drop (p .next) ns)) ns (p .next) (p .start) (p .top) 0 0 l l′ s s′ r
+
+-- a value that takes one event, by its letter; the same in a maybe; and as many as there are
+abbrev pub keyOf : List ℕ → Bool → Letter → Builder Piece
+keyOf texts big k = emitBasic texts big (keyBasic k)
+
+abbrev pub readingOf : List ℕ → Bool → Letter → Builder Piece
+readingOf texts big k = emitMaybe (basicAlignment (keyBasic k)) true (keyOf texts big k)
+
+abbrev pub manyOf : (List ℕ → Built Piece) → List ℕ → Built (List Piece)
+manyOf b l = buildMany (length l) b l
 
 -- a maybe round its child, and a variant round its value
 unfoldable pub aroundChild : ℕ → Bool → Built Piece → Built Piece

@@ -16,23 +16,17 @@ use writer_store::pad;
 use writer_store::put;
 use writer_store::put_type;
 ghost use mathlib.Core.Path.{_≡_};
-ghost use mathlib.Core.List.{List, []};
-ghost use mathlib.Core.Bool.{true, false};
-ghost use Prim.Native.Nat.{ℕ, _+_, _-_, _≤_, _<_};
+ghost use Prim.Native.Nat.{_-_, _≤_};
 ghost use lib.ListN.{length, take, drop};
 ghost use Rattle.meaning.specs.Limits.{longestType};
 ghost use Rattle.meaning.specs.Padding.{Aligns};
-ghost use Rattle.meaning.specs.Types.{Tree};
-ghost use Rattle.meaning.specs.TypeText.{typeText};
-ghost use Rattle.meaning.specs.Written.{Piece, fieldEnds, arrayPiece};
-ghost use Rattle.meaning_writing.specs.Writing.{Built, built, mapped, sealed};
 ghost use Rattle.writer_store.specs.Stores.{cap};
-ghost use Rattle.writer_basic.specs.Wrote.{Done, DoneAll, marksOf, aroundChild, aroundValue, Structured};
+ghost use Rattle.writer_basic.specs.Closing.{RoundChild, BehindRow, RoundElements, RoundFields, RoundValue};
 
 // A maybe round its child.
 pub fn present(fixed: bool, r: Answer, out: &mut [u8], start: usize) -> Answer
     requires { ⌜ (start ≤ cap) × (r .refusal ≡ 0 → r .size ≤ cap) ⌝ }
-    ensures { λ q. ⌜ ((x : Built Piece) (ns : List ℕ) (a i top : ℕ) (l s s′ : List ℕ) → length (now (out .entry)) ≡ length l → Done x ns (i + 3) start top l (now (out .entry)) s s′ r → Done (aroundChild a fixed x) ns i start top l (now (out .exit)) s s′ q) ⌝ }
+    ensures { λ q. ⌜ RoundChild fixed start (now (out .entry)) (now (out .exit)) r q ⌝ }
 {
     let refusal = r.refusal;
     let size = r.size;
@@ -49,7 +43,7 @@ pub fn present(fixed: bool, r: Answer, out: &mut [u8], start: usize) -> Answer
 // The event that closes what was written.
 pub fn ended(events: &[u64], r: Run) -> Run
     requires { ⌜ (r .refusal ≡ 0 → r .next ≤ length (now events)) ⌝ }
-    ensures { λ q. ⌜ ((m : ℕ → List Piece → List ℕ) (x : Built (List Piece)) (i base top k j : ℕ) (l l′ s s′ : List ℕ) → DoneAll m x (now (events .entry)) i base top k j l l′ s s′ r → DoneAll m (sealed x) (now (events .entry)) i base top k j l l′ s s′ q) ⌝ }
+    ensures { λ q. ⌜ BehindRow (now (events .entry)) r q ⌝ }
 {
     let refusal = r.refusal;
     let next = r.next;
@@ -72,7 +66,7 @@ pub fn array_end(
     top: usize,
 ) -> Answer
     requires { ⌜ (start ≤ cap) × (top ≤ cap) × (r .refusal ≡ 0 → r .size ≤ cap) × (r .refusal ≡ 0 → r .count ≤ cap) ⌝ }
-    ensures { λ q. ⌜ ((x : Built (List Piece)) (ns : List ℕ) (kind a i : ℕ) (l s : List ℕ) → length (now (out .entry)) ≡ length l → length (now (ends .entry)) ≡ length s → DoneAll (marksOf fixed) x ns (i + 3) start top 0 0 l (now (out .entry)) s (now (ends .entry)) r → Done (mapped (arrayPiece kind a fixed) x) ns i start top l (now (out .exit)) s (now (ends .exit)) q) ⌝ }
+    ensures { λ q. ⌜ RoundElements fixed start top (now (out .entry)) (now (out .exit)) (now (ends .entry)) (now (ends .exit)) r q ⌝ }
 {
     let refusal = r.refusal;
     let size = r.size;
@@ -99,7 +93,7 @@ pub fn structure_end(
     top: usize,
 ) -> Answer
     requires { ⌜ (start ≤ cap) × (top ≤ cap) × Aligns alignment × (r .refusal ≡ 0 → r .size ≤ cap) × (r .refusal ≡ 0 → r .count ≤ cap) ⌝ }
-    ensures { λ q. ⌜ ((P : List Piece → Piece) (x : Built (List Piece)) (ns : List ℕ) (i k : ℕ) (l s : List ℕ) → Structured alignment fixed P → (fixed ≡ true → (cs : List Piece) (rest : List ℕ) → x ≡ built cs rest → fieldEnds 0 cs ≡ []) → (r .refusal ≡ 0 → i < r .next) → length (now (out .entry)) ≡ length l → length (now (ends .entry)) ≡ length s → DoneAll fieldEnds x ns k start top 0 0 l (now (out .entry)) s (now (ends .entry)) r → Done (mapped P x) ns i start top l (now (out .exit)) s (now (ends .entry)) q) ⌝ }
+    ensures { λ q. ⌜ RoundFields fixed alignment start top (now (out .entry)) (now (out .exit)) (now (ends .entry)) r q ⌝ }
 {
     let refusal = r.refusal;
     let size = r.size;
@@ -127,7 +121,7 @@ pub fn variant_end(
     start: usize,
 ) -> Answer
     requires { ⌜ (start ≤ cap) × (r .refusal ≡ 0 → r .size ≤ cap) × (r .refusal ≡ 0 → r .next ≤ length (now events)) × (from ≤ to) × (to ≤ length (now texts)) × (to - from ≤ longestType) ⌝ }
-    ensures { λ q. ⌜ ((x : Built Piece) (t : Tree) (i top : ℕ) (l s s′ : List ℕ) → typeText t ≡ take (to - from) (drop from (now (texts .entry))) → length (now (out .entry)) ≡ length l → Done x (now (events .entry)) (i + 6) start top l (now (out .entry)) s s′ r → Done (aroundValue t x) (now (events .entry)) i start top l (now (out .exit)) s s′ q) ⌝ }
+    ensures { λ q. ⌜ RoundValue (take (to - from) (drop from (now (texts .entry)))) (now (events .entry)) start (now (out .entry)) (now (out .exit)) r q ⌝ }
 {
     let refusal = r.refusal;
     let next = r.next;

@@ -7,7 +7,7 @@ pub mod texts_run;
 use container_depths::ContainerDepths;
 use writer_store::add;
 ghost use mathlib.Core.Path.{_≡_};
-ghost use Prim.Native.Nat.{ℕ, _≤_, _<_, _^_};
+ghost use Prim.Native.Nat.{_≤_, _<_, _^_};
 ghost use Rattle.writer_store.specs.Stores.{cap, sum};
 
 // The refusal's number, 0 if done; the number of the next event's first number; the bytes written.

@@ -22,17 +22,14 @@ ghost use mathlib.Core.Bool.{true, false};
 ghost use Prim.Native.Nat.{ℕ, _≤_};
 ghost use lib.ListN.{length, drop};
 ghost use Rattle.meaning.specs.Depths.{Depths};
-ghost use Rattle.meaning.specs.Types.{basicAlignment};
-ghost use Rattle.meaning_writing.specs.Writing.{buildMany};
-ghost use Rattle.meaning_writing.specs.Emitting.{emitBasic, emitMaybe};
 ghost use Rattle.container_depths.specs.Opening.{depthsOf};
 ghost use Rattle.writer_store.specs.Stores.{cap};
-ghost use Rattle.writer_basic.specs.Wrote.{keyBasic, IsKey, Done, marksOf, DoneAll, Placed};
+ghost use Rattle.writer_basic.specs.Wrote.{IsKey, Done, RowAt, marksOf, keyOf, readingOf, manyOf, Placed};
 
 // Numbers one behind another, up to an event that closes. Each is as long as its alignment, so that none is padded.
 pub fn numbers(code: u8, width: usize, events: &[u64], big: bool, spot: Spot, out: &mut [u8]) -> Run
     requires { ⌜ IsKey (Letter.Number code width) × Placed (length (now events)) spot ⌝ }
-    ensures { λ r. ⌜ ((texts : List ℕ) (d : Depths) (s : List ℕ) → DoneAll (marksOf true) (buildMany (length (drop (spot .next) (now (events .entry)))) (emitBasic texts big (keyBasic (Letter.Number code width)) d) (drop (spot .next) (now (events .entry)))) (now (events .entry)) (spot .next) (spot .start) (spot .top) 0 0 (now (out .entry)) (now (out .exit)) s s r) ⌝ }
+    ensures { λ r. ⌜ ((texts : List ℕ) (d : Depths) (s : List ℕ) → RowAt (marksOf true) (manyOf (keyOf texts big (Letter.Number code width) d)) (now (events .entry)) spot (now (out .entry)) (now (out .exit)) s s r) ⌝ }
 {
     let base = spot.start;
     let mut e = spot.next;
@@ -64,7 +61,7 @@ fn reading(
     start: usize,
 ) -> Answer
     requires { ⌜ (i ≤ length (now events)) × (start ≤ cap) × IsKey (Letter.Number code width) ⌝ }
-    ensures { λ r. ⌜ ((texts : List ℕ) (top : ℕ) (s : List ℕ) → Done (emitMaybe (basicAlignment (keyBasic (Letter.Number code width))) true (emitBasic texts (context .big) (keyBasic (Letter.Number code width))) (depthsOf (context .depths)) (drop i (now (events .entry)))) (now (events .entry)) i start top (now (out .entry)) (now (out .exit)) s s r) ⌝ }
+    ensures { λ r. ⌜ ((texts : List ℕ) (top : ℕ) (s : List ℕ) → Done (readingOf texts (context .big) (Letter.Number code width) (depthsOf (context .depths)) (drop i (now (events .entry)))) (now (events .entry)) i start top (now (out .entry)) (now (out .exit)) s s r) ⌝ }
 {
     if plain_at(events, i, NOTHING_LETTER) {
         return wrote(i + 3, 0);
@@ -91,7 +88,7 @@ pub fn readings(
     ends: &mut [u16],
 ) -> Run
     requires { ⌜ IsKey (Letter.Number code width) × Placed (length (now events)) spot ⌝ }
-    ensures { λ r. ⌜ ((texts : List ℕ) → DoneAll (marksOf false) (buildMany (length (drop (spot .next) (now (events .entry)))) (emitMaybe (basicAlignment (keyBasic (Letter.Number code width))) true (emitBasic texts (context .big) (keyBasic (Letter.Number code width))) (depthsOf (context .depths))) (drop (spot .next) (now (events .entry)))) (now (events .entry)) (spot .next) (spot .start) (spot .top) 0 0 (now (out .entry)) (now (out .exit)) (now (ends .entry)) (now (ends .exit)) r) ⌝ }
+    ensures { λ r. ⌜ ((texts : List ℕ) → RowAt (marksOf false) (manyOf (readingOf texts (context .big) (Letter.Number code width) (depthsOf (context .depths)))) (now (events .entry)) spot (now (out .entry)) (now (out .exit)) (now (ends .entry)) (now (ends .exit)) r) ⌝ }
 {
     let base = spot.start;
     let top = spot.top;

@@ -10,11 +10,9 @@ use signature::Letter;
 use writer_store::add;
 use writer_store::ends::keep;
 ghost use mathlib.Core.Bool.{Bool, false};
-ghost use lib.ListN.{length, drop};
+ghost use lib.ListN.{length};
 ghost use Rattle.meaning.specs.Depths.{Depths};
-ghost use Rattle.meaning_writing.specs.Writing.{buildMany};
-ghost use Rattle.meaning_writing.specs.Emitting.{emitBasic};
-ghost use Rattle.writer_basic.specs.Wrote.{keyBasic, IsKey, marksOf, DoneAll, Placed};
+ghost use Rattle.writer_basic.specs.Wrote.{IsKey, RowAt, marksOf, keyOf, manyOf, Placed};
 
 // Texts one behind another, up to an event that closes. None is padded.
 pub fn texts(
@@ -26,7 +24,7 @@ pub fn texts(
     ends: &mut [u16],
 ) -> Run
     requires { ⌜ IsKey (Letter.Text code) × Placed (length (now events)) spot ⌝ }
-    ensures { λ r. ⌜ ((big : Bool) (d : Depths) → DoneAll (marksOf false) (buildMany (length (drop (spot .next) (now (events .entry)))) (emitBasic (now (texts .entry)) big (keyBasic (Letter.Text code)) d) (drop (spot .next) (now (events .entry)))) (now (events .entry)) (spot .next) (spot .start) (spot .top) 0 0 (now (out .entry)) (now (out .exit)) (now (ends .entry)) (now (ends .exit)) r) ⌝ }
+    ensures { λ r. ⌜ ((big : Bool) (d : Depths) → RowAt (marksOf false) (manyOf (keyOf (now (texts .entry)) big (Letter.Text code) d)) (now (events .entry)) spot (now (out .entry)) (now (out .exit)) (now (ends .entry)) (now (ends .exit)) r) ⌝ }
 {
     let base = spot.start;
     let top = spot.top;

@@ -2,39 +2,38 @@
 -- Assumes nothing.
 use mathlib.Core.Path.{_≡_, refl, ap, sym, subst, subst⁻¹, _∙_}
 use mathlib.Core.List.{List, [], _∷_}
-use mathlib.Core.Bool.{Bool, true, false, false≢true}
+use mathlib.Core.Bool.{Bool, true, false}
 use native.Mathlib.Omega.{arith}
-use Prim.Native.Nat.{ℕ, zero, suc, _+_, _-_, _≤_, _<_, _%_, min}
+use Prim.Native.Nat.{ℕ, _+_, _-_, _≤_, _%_}
 use lib.ListN.{length, drop}
 use Rattle.meaning.specs.Depths.{Depths}
 use Rattle.meaning.specs.Padding.{padding, zeros}
-use Rattle.meaning.specs.Types.{Basic, bool, number, text, basic, maybe, basicAlignment, basicFixed, alignment, fixed}
+use Rattle.meaning.specs.Types.{Basic, text, basic, maybe, basicAlignment, basicFixed, alignment, fixed}
 use Rattle.meaning.specs.Written.{Piece, stop, unless, fieldEnds, entryPiece}
 use Rattle.meaning_writing.specs.Writing.{Built, built, fault, Builder, mapped, buildBoth, buildMany}
 use Rattle.meaning_writing.specs.Emitting.{entryOf, emitBasic, emitMaybe, emitEntry, emit}
 use Rattle.meaning_writing.proofs.EmitLaws.{emit-alignment, emit-shorter, basic-shorter, entry-shorter}
 use Rattle.meaning.specs.Padding.{Aligns}
 use Rattle.meaning.proofs.PaddingLaws.{by-alignment, padding-none}
-use Rattle.meaning.proofs.TypeLaws.{basic-aligned}
 use Rattle.meaning_writing.proofs.WritingSteps.{Shorter, both-second, both-fault, mapped-built, mapped-fault}
 use Rattle.writer_store.specs.Stores.{cap, sum, puts}
 use Rattle.writer_store.specs.Ends.{Kept}
 use Rattle.signature.specs.Places.{basicKind}
 use Rattle.signature.specs.declared.Letter.{Letter}
-use Rattle.signature.specs.declared.Letter.the-variants.{Number, Text}
+use Rattle.signature.specs.declared.Letter.the-variants.{Text}
 use Rattle.signature.proofs.Dispatch.{is-text}
 use Rattle.signature.proofs.TreeLaws.{described-kind}
-use Rattle.writer_basic.specs.Wrote.{keyBasic, IsKey, Made, Done, marksOf, MadeAll, DoneAll, Structured}
+use Rattle.writer_basic.specs.Wrote.{keyBasic, IsKey, Done, marksOf, MadeAll, DoneAll, Structured}
 use Rattle.writer_cycle.proofs.ItemLaws.{emit-basic, emit-maybe, key-of, is-key}
 use Rattle.signature.specs.Trees.{treeAt}
-use Rattle.writer_cycle.specs.Places.{valueOf, itemOf, NumberItem, Repeated}
+use Rattle.writer_cycle.specs.Places.{valueOf, itemOf, Repeated}
 use Rattle.writer_basic.specs.declared.Answer.{Answer}
 use Rattle.writer_basic.specs.declared.Run.{Run}
 use Rattle.signature.specs.declared.items.Item.{Item}
 use Rattle.writer_store.proofs.Puts.{puts-none}
 use Rattle.writer_basic.proofs.NumberRows.{basic-has}
 use Rattle.writer_store.proofs.EndLaws.{kept-not}
-use Rattle.writer_basic.proofs.Answers.{answer, made-of, fault-of, wrong}
+use Rattle.writer_basic.proofs.Answers.{made-of, fault-of, wrong}
 use Rattle.writer_basic.proofs.Rows.{run, none-more, says-on, fields-steady}
 
 -- ---- items

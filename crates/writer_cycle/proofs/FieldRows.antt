@@ -3,7 +3,7 @@ use mathlib.Core.Path.{_≡_, refl, ap, sym, _∙_}
 use mathlib.Core.List.{List, [], _∷_}
 use mathlib.Core.Bool.{Bool, true, false, _&&_, false≢true}
 use native.Mathlib.Omega.{arith}
-use Prim.Native.Nat.{ℕ, zero, suc, _+_, _-_, _≤_, _<_, min}
+use Prim.Native.Nat.{ℕ, _+_, _-_, _≤_}
 use lib.Dec.{eqb}
 use lib.ListN.{length, drop}
 use Rattle.meaning.specs.Depths.{Depths}
@@ -12,7 +12,7 @@ use Rattle.meaning.specs.Types.{Tree, Fields, last, next, alignment, fixed, all
 use Rattle.meaning.specs.Written.{Piece, stop, unless, fieldEnds}
 use Rattle.meaning.specs.Choice.{pick}
 use Rattle.meaning_writing.specs.Writing.{Built, built, fault, mapped, followed, when, onEvent, onPlain, sealed, buildBoth}
-use Rattle.meaning_writing.specs.Emitting.{onePiece, morePieces, emitLast, emitNext, emitVariant, emitFields, emit}
+use Rattle.meaning_writing.specs.Emitting.{onePiece, morePieces, emitLast, emitNext, emitFields}
 use Rattle.meaning_writing.proofs.EmitLaws.{emit-alignment, emit-fixed}
 use Rattle.meaning_writing.proofs.WritingSteps.{both-second, both-fault, mapped-built, mapped-fault}
 use Rattle.signature.specs.Places.{letterAt}
@@ -21,10 +21,10 @@ use Rattle.signature.specs.Trees.{treeAt, fieldsAt, Rowed, Described}
 use Rattle.signature.specs.declared.Letter.{Letter}
 use Rattle.signature.specs.declared.Letter.the-variants.{End, Bad, Boolean, Number, Text, Variant, Maybe, Array, OpenStructure, CloseStructure, OpenEntry, CloseEntry}
 use Rattle.signature.specs.declared.shapes.Shape.{Shape}
-use Rattle.signature.proofs.TreeLaws.{described-alignment, LastField, NextField, last-field-of, next-field-of}
+use Rattle.signature.proofs.TreeLaws.{LastField, NextField, last-field-of, next-field-of}
 use Rattle.writer_store.specs.Stores.{cap, sum, puts}
 use Rattle.writer_store.specs.Ends.{Kept}
-use Rattle.writer_basic.specs.Wrote.{Done, MadeAll, SaysAll, DoneAll}
+use Rattle.writer_basic.specs.Wrote.{Done, MadeAll, DoneAll}
 use Rattle.writer_cycle.specs.Places.{valueOf, fieldsOf}
 use Rattle.writer_basic.specs.declared.Answer.{Answer}
 use Rattle.writer_basic.specs.declared.Run.{Run}

@@ -18,7 +18,8 @@ use Rattle.meaning.proofs.TypeLaws.{number-aligned}
 use Rattle.meaning.proofs.TypeTextLaws.{typeOf-sound}
 use Rattle.meaning_writing.specs.Writing.{Builder, mapped, sealed, buildMany}
 use Rattle.meaning_writing.specs.Emitting.{emitBasic, emitMaybe, emitArray, emitStructure, emitVariant, emit}
-use Rattle.meaning_writing.proofs.WritingSteps.{Shorter, PlainAt, NotPlain}
+use Rattle.meaning_writing.specs.EventsAt.{PlainAt, NotPlain}
+use Rattle.meaning_writing.proofs.WritingSteps.{Shorter}
 use Rattle.container_depths.specs.Opening.{depthsOf, Raises}
 use Rattle.container_depths.specs.declared.ContainerDepths.{ContainerDepths}
 use Rattle.container_depths.specs.declared.Raised.{Raised}

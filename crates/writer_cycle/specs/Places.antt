@@ -3,13 +3,12 @@ use mathlib.Core.Path.{_≡_}
 use mathlib.Core.List.{List}
 use mathlib.Core.Bool.{Bool, true, false}
 use Prim.Native.Nat.{ℕ, _-_, _≤_}
-use lib.ListN.{length, drop}
 use Rattle.meaning.specs.Choice.{pick}
 use Rattle.meaning.specs.Limits.{mostVariants, mostContainers}
 use Rattle.meaning.specs.Padding.{Aligns}
 use Rattle.meaning.specs.Types.{Tree, Fields, basic, variant, maybe, alignment, fixed, basicFixed}
 use Rattle.meaning.specs.Written.{Piece}
-use Rattle.meaning_writing.specs.Writing.{Built, Builder, buildMany}
+use Rattle.meaning_writing.specs.Writing.{Built, Builder}
 use Rattle.meaning_writing.specs.Emitting.{emitBasic, emitArray, emitEntry, emitVariant, emitFields, emit}
 use Rattle.container_depths.specs.Opening.{depthsOf}
 use Rattle.signature.specs.Trees.{treeAt, Described}
@@ -17,10 +16,7 @@ use Rattle.signature.specs.declared.Letter.{Letter}
 use Rattle.signature.specs.declared.Letter.the-variants.{Number}
 use Rattle.signature.specs.declared.items.Item.{Item}
 use Rattle.signature.specs.Items.{itemKind}
-use Rattle.writer_basic.specs.Wrote.{keyBasic, IsKey, Done, DoneAll}
-use Rattle.writer_basic.specs.declared.Answer.{Answer}
-use Rattle.writer_basic.specs.declared.Run.{Run}
-use Rattle.writer_basic.specs.declared.Spot.{Spot}
+use Rattle.writer_basic.specs.Wrote.{keyBasic, IsKey, manyOf}
 use Rattle.writer_basic.specs.declared.Context.{Context}
 
 -- what a type is written as where so many variants are nested, and what fields are
@@ -71,14 +67,7 @@ abbrev pub itemIn : Context → List ℕ → List ℕ → Item → List ℕ → 
 itemIn c texts text i = itemOf texts (c .big) (c .depths .variant) text i (depthsOf (c .depths))
 
 abbrev pub itemsIn : Context → List ℕ → List ℕ → Item → List ℕ → Built (List Piece)
-itemsIn c texts text i l = buildMany (length l) (itemIn c texts text i) l
-
--- the answer for a value, or for children in a row, whose events and bytes begin at a spot
-abbrev pub WroteAt : (List ℕ → Built Piece) → List ℕ → Spot → List ℕ → List ℕ → List ℕ → List ℕ → Answer → Type 0
-WroteAt b ns p l l′ s s′ r = Done (b (drop (p .next) ns)) ns (p .next) (p .start) (p .top) l l′ s s′ r
-
-abbrev pub RowAt : (ℕ → List Piece → List ℕ) → (List ℕ → Built (List Piece)) → List ℕ → Spot → List ℕ → List ℕ → List ℕ → List ℕ → Run → Type 0
-RowAt m b ns p l l′ s s′ r = DoneAll m (b (drop (p .next) ns)) ns (p .next) (p .start) (p .top) 0 0 l l′ s s′ r
+itemsIn c texts text i = manyOf (itemIn c texts text i)
 
 abbrev pub variantTree : Tree
 variantTree = variant

@@ -1,4 +1,4 @@
-// Arrays, and the walk over the entries of a dictionary.
+// Arrays, and the walk over the entries of a dictionary. Guided by SeqSerializer of gvariant/ser.rs.
 use crate::dictionary::entry;
 use crate::opening::in_array;
 use crate::value;
@@ -30,8 +30,8 @@ ghost use mathlib.Core.Path.{_≡_};
 ghost use lib.ListN.{length};
 ghost use Rattle.signature.specs.Places.{letterAt};
 ghost use Rattle.signature.specs.Trees.{treeAt, Described};
-ghost use Rattle.writer_basic.specs.Wrote.{marksOf, Shallow, Placed};
-ghost use Rattle.writer_cycle.specs.Places.{WroteAt, RowAt, valueIn, itemIn, itemsIn, Repeated};
+ghost use Rattle.writer_basic.specs.Wrote.{marksOf, Shallow, Placed, WroteAt, RowAt};
+ghost use Rattle.writer_cycle.specs.Places.{valueIn, itemIn, itemsIn, Repeated};
 
 // An array or a dictionary.
 pub(crate) fn array(

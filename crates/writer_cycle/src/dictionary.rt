@@ -1,4 +1,4 @@
-// The entries of a dictionary.
+// The entries of a dictionary. Guided by MapSerializer of gvariant/ser.rs; but the width of a key's offset counts that offset too.
 use crate::value;
 use signature::items::Item;
 use writer_basic::Answer;
@@ -14,8 +14,8 @@ use writer_store::pad;
 ghost use mathlib.Core.Path.{_≡_};
 ghost use mathlib.Core.Bool.{true};
 ghost use lib.ListN.{length};
-ghost use Rattle.writer_basic.specs.Wrote.{Shallow, Placed};
-ghost use Rattle.writer_cycle.specs.Places.{WroteAt, itemIn, Repeated};
+ghost use Rattle.writer_basic.specs.Wrote.{Shallow, Placed, WroteAt};
+ghost use Rattle.writer_cycle.specs.Places.{itemIn, Repeated};
 
 // An entry: its key, its value, and what ends a structure of both.
 pub(crate) fn entry(

@@ -21,8 +21,8 @@ use writer_basic::basic::number;
 use writer_basic::basic::text_value;
 ghost use lib.ListN.{length};
 ghost use Rattle.signature.specs.Trees.{treeAt, Described};
-ghost use Rattle.writer_basic.specs.Wrote.{Shallow, Placed};
-ghost use Rattle.writer_cycle.specs.Places.{WroteAt, valueIn};
+ghost use Rattle.writer_basic.specs.Wrote.{Shallow, Placed, WroteAt};
+ghost use Rattle.writer_cycle.specs.Places.{valueIn};
 
 // The value of a type. Each container is called twice, so that it keeps its own stack frame; no type begins with the letters of the second
 // calls.

@@ -1,4 +1,4 @@
-// Maybes: nothing, or a value and, where that is not fixed, a zero.
+// Maybes: nothing, or a value and, where that is not fixed, a zero. Guided by serialize_maybe of gvariant/ser.rs.
 use crate::opening::in_maybe;
 use crate::value;
 use meaning::letters::MAYBE_LETTER;
@@ -18,8 +18,8 @@ ghost use mathlib.Core.Path.{_≡_};
 ghost use lib.ListN.{length};
 ghost use Rattle.signature.specs.Places.{letterAt};
 ghost use Rattle.signature.specs.Trees.{treeAt, Described};
-ghost use Rattle.writer_basic.specs.Wrote.{Shallow, Placed};
-ghost use Rattle.writer_cycle.specs.Places.{WroteAt, valueIn};
+ghost use Rattle.writer_basic.specs.Wrote.{Shallow, Placed, WroteAt};
+ghost use Rattle.writer_cycle.specs.Places.{valueIn};
 
 pub(crate) fn maybe(
     text: &[u8],

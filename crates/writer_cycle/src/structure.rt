@@ -1,4 +1,4 @@
-// Structures.
+// Structures: the fields, then padding or the table of their ends. Guided by StructSerializer of gvariant/ser.rs.
 use crate::opening::in_structure;
 use crate::value;
 use meaning::letters::STRUCTURE_LETTER;
@@ -22,14 +22,13 @@ use writer_store::add;
 use writer_store::ends::keep;
 use writer_store::pad;
 ghost use mathlib.Core.Path.{_≡_};
-ghost use Prim.Native.Nat.{_+_};
 ghost use lib.ListN.{length};
 ghost use Rattle.meaning.specs.Written.{fieldEnds};
 ghost use Rattle.signature.specs.Places.{letterAt};
 ghost use Rattle.signature.specs.Shapes.{Shaped};
 ghost use Rattle.signature.specs.Trees.{treeAt, fieldsAt, Rowed, Described};
-ghost use Rattle.writer_basic.specs.Wrote.{Shallow, Placed};
-ghost use Rattle.writer_cycle.specs.Places.{WroteAt, RowAt, valueIn, fieldsIn};
+ghost use Rattle.writer_basic.specs.Wrote.{Shallow, Placed, WroteAt, RowAt};
+ghost use Rattle.writer_cycle.specs.Places.{valueIn, fieldsIn};
 
 pub(crate) fn structure(
     text: &[u8],

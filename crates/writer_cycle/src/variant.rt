@@ -1,4 +1,4 @@
-// Variants: after a variant's event come its type, as a text, and its value.
+// Variants: after a variant's event come its type, as a text, and its value. Guided by StructSerializer of gvariant/ser.rs.
 use crate::opening::in_variant;
 use crate::value;
 use meaning::letters::SIGNATURE_LETTER;
@@ -18,9 +18,9 @@ use writer_basic::refused;
 ghost use Prim.Native.Nat.{_+_};
 ghost use lib.ListN.{length};
 ghost use Rattle.meaning.specs.Letters.{variantLetter, signatureLetter};
-ghost use Rattle.meaning_writing.proofs.WritingSteps.{PlainAt};
-ghost use Rattle.writer_basic.specs.Wrote.{Shallow, Placed, Taken};
-ghost use Rattle.writer_cycle.specs.Places.{WroteAt, valueIn, variantTree};
+ghost use Rattle.meaning_writing.specs.EventsAt.{PlainAt};
+ghost use Rattle.writer_basic.specs.Wrote.{Shallow, Placed, Taken, WroteAt};
+ghost use Rattle.writer_cycle.specs.Places.{valueIn, variantTree};
 
 pub(crate) fn variant(
     events: &[u64],

@@ -1,17 +1,15 @@
 -- The ends that are kept: where they stand, what a store leaves of them, and what was stored, put together. Assumes nothing.
-use Prim.Native.Nat.{ℕ, zero, suc, _+_, _-_, _*_, _/_, _%_, _≤_, _<_, min}
+use Prim.Native.Nat.{ℕ, suc, _+_, _-_, _*_, _/_, _%_, _≤_, _<_, min}
 use mathlib.Core.Path.{_≡_, refl, sym, ap, _∙_}
 use mathlib.Core.List.{List, [], _∷_, _++_, append-assoc, append-nil}
 use mathlib.Core.Bool.{Bool, true, false, false≢true}
 use native.Mathlib.Omega.{arith}
 use native.Mathlib.Decide.{decLt}
-use lib.Dec.{ltb}
 use lib.ListN.{length, take, drop, getD, set, length-set, length-append, List·getD-append}
 use lib.Seq.{take-at, length-take-le, getD-append-add, getD-set-same, getD-set-other, take-set-le}
 use borrow.Author.Tests.{lt-ltb, le-ltb}
-use Rattle.meaning.specs.Choice.{pick}
 use Rattle.meaning.specs.Limits.{largestFrame}
-use Rattle.writer_store.specs.Stores.{cap, sum, puts}
+use Rattle.writer_store.specs.Stores.{sum, puts}
 use Rattle.writer_store.specs.Ends.{tail, endAt, Stored, Room, EndAt, PutEnd, Kept}
 use Rattle.writer_store.proofs.Puts.{puts-room, length-puts}
 

@@ -4,12 +4,12 @@ pub mod ends;
 
 ghost use mathlib.Core.Path.{_≡_};
 ghost use Prim.Native.Nat.{_+_, _≤_, _<_, _^_, _%_, min};
-ghost use mathlib.Core.Bool.{true, false};
+ghost use mathlib.Core.Bool.{true};
 ghost use mathlib.Core.List.{[], _∷_, _++_};
 ghost use lib.ListN.{length, set, take, drop};
 ghost use Rattle.meaning.specs.Numbers.{bytes, ordered};
 ghost use Rattle.meaning.specs.Padding.{Aligns, padding, zeros};
-ghost use Rattle.writer_store.specs.Stores.{cap, sum, puts};
+ghost use Rattle.writer_store.specs.Stores.{sum, puts};
 
 // A sum that stays at the cap.
 pub fn add(a: usize, b: usize) -> usize

@@ -9,10 +9,6 @@ use Rattle.editor_steps.specs.Walks.{newOf}
 use borrow.Author.Needs.{needs}
 use Rattle.bogtassel.proofs.bogtassel_edit.Statement.{statement}
 use Rattle.bogtassel.proofs.bogtassel_edit.Tie as tie
-use Rattle.bogtassel.proofs.bogtassel_edit.Reads as reads
-use Rattle.bogtassel.proofs.bogtassel_edit.Lts as lts
-use Rattle.editor.proofs.edit.Reads as edit-reads
-use Rattle.editor.proofs.new_of.Reads as new-of-reads
 
 -- an answer, and the buffer afterwards
 abbrev Edits : List ℕ → Bool → List ℕ → ℕ → ℕ → New → EditAnswer → List ℕ → Type 0
@@ -21,19 +17,15 @@ Edits type big buffer used i n a buffer′ = (a ≡ edit type big buffer used i 
 by-new : (type : List ℕ) (big : Bool) (buffer : List ℕ) (used i : ℕ) (n m : New) → n ≡ m → (a : EditAnswer) (buffer′ : List ℕ) → Edits type big buffer used i n a buffer′ → Edits type big buffer used i m a buffer′
 by-new type big buffer used i n m h a buffer′ p = subst (λ (x : New). Edits type big buffer used i x a buffer′) h p
 
--- src/lib.rt:91:9
 new-of-requires : tie.Need-new-of-requires
 new-of-requires c κs = search needs
 
--- src/lib.rt:92:9
 edit-requires : tie.Need-edit-requires
 edit-requires c κs = search needs
 
--- src/lib.rt:77:1
 same-length : tie.Need-same-length
 same-length c = search needs
 
--- src/lib.rt:77:1
 returns : tie.Need-returns
 returns c = by-new _ _ _ _ _ _ _ (c .before .before .before .before .new-of .ensures) _ _ (c .before .before .edit .ensures)
 

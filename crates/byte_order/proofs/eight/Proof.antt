@@ -4,9 +4,6 @@ use native.Mathlib.Omega.{arith}
 use borrow.Author.Needs.{needs}
 use Rattle.byte_order.proofs.eight.Statement.{statement}
 use Rattle.byte_order.proofs.eight.Tie as tie
-use Rattle.byte_order.proofs.eight.Reads as reads
-use Rattle.byte_order.proofs.eight.Lts as lts
-use Rattle.byte_order.proofs.four.Reads as four-reads
 
 four-requires : tie.Need-four-requires
 four-requires c κs = search needs

@@ -4,9 +4,6 @@ use native.Mathlib.Omega.{arith}
 use borrow.Author.Needs.{needs}
 use Rattle.byte_order.proofs.four.Statement.{statement}
 use Rattle.byte_order.proofs.four.Tie as tie
-use Rattle.byte_order.proofs.four.Reads as reads
-use Rattle.byte_order.proofs.four.Lts as lts
-use Rattle.byte_order.proofs.two.Reads as two-reads
 
 two-requires : tie.Need-two-requires
 two-requires c κs = search needs

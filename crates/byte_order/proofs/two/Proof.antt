@@ -6,9 +6,6 @@ use mathlib.Core.Path.{sym, _∙_}
 use borrow.Author.Needs.{needs}
 use Rattle.byte_order.proofs.two.Statement.{statement}
 use Rattle.byte_order.proofs.two.Tie as tie
-use Rattle.byte_order.proofs.two.Reads as reads
-use Rattle.byte_order.proofs.two.Lts as lts
-use Rattle.byte_order.proofs.wide.Reads as wide-reads
 
 shared-slice-read-wide : tie.Need-shared-slice-read-wide
 shared-slice-read-wide c = search needs

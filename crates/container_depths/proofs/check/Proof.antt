@@ -4,8 +4,6 @@ use Rattle.meaning.proofs.DepthLaws.{over-structure, over-array, over-total, wi
 use borrow.Author.Needs.{needs}
 use Rattle.container_depths.proofs.check.Statement.{statement}
 use Rattle.container_depths.proofs.check.Tie as tie
-use Rattle.container_depths.proofs.check.Reads as reads
-use Rattle.container_depths.proofs.check.Lts as lts
 
 returns : tie.Need-returns
 returns c = sym (over-structure _ _ _ _ (c .if1 .taken))

@@ -2,7 +2,7 @@
 use Rattle.utils.proofs.Places.{within}
 use Rattle.de.proofs.PartAnswers.{bool-false, bool-true, bool-failed}
 use native.Mathlib.Omega.{arith}
-use mathlib.Core.Path.{sym, _∙_}
+use mathlib.Core.Path.{_∙_}
 use borrow.Author.Needs.{needs}
 use Rattle.de.proofs.read_bool.Statement.{statement}
 use Rattle.de.proofs.read_bool.Tie as tie

@@ -6,11 +6,9 @@ use lib.ListN.{drop}
 use lib.Dec.{leb}
 use native.Mathlib.Omega.{arith}
 use Prim.Native.Nat.{_+_, _-_, _≤_}
-use mathlib.Core.Path.{_≡_, refl, sym, _∙_}
+use mathlib.Core.Path.{_≡_, sym, _∙_}
 use Rattle.de.proofs.zeros.Statement.{statement}
 use Rattle.de.proofs.zeros.Tie as tie
-use Rattle.de.proofs.zeros.Reads as reads
-use Rattle.de.proofs.zeros.Lts as lts
 
 abbrev Inv-loop : tie.InvT-loop
 Inv-loop part place count i₀ i =

@@ -9,72 +9,52 @@ use Rattle.editor.proofs.Edits.{frame-written, edit-1, edit-2, edit-unw
 use borrow.Author.Needs.{needs}
 use Rattle.editor.proofs.edit.Statement.{statement}
 use Rattle.editor.proofs.edit.Tie as tie
-use Rattle.editor.proofs.edit.Reads as reads
-use Rattle.editor.proofs.edit.Lts as lts
-use Rattle.editor.proofs.edit_written.Reads as edit-written-reads
-use Rattle.editor.proofs.refused.Reads as refused-reads
-use Rattle.strict.proofs.is_written.Reads as is-written-reads
-use Rattle.strict_basic.proofs.sizes.tables_of.Reads as tables-of-reads
 
--- src/lib.rt:63:30
 slice-aggregate-tables-of : tie.Need-slice-aggregate-tables-of
 slice-aggregate-tables-of c = search needs
 
--- src/lib.rt:63:9
 tables-of-requires : tie.Need-tables-of-requires
 tables-of-requires c κs = search needs
 
--- src/lib.rt:64:9
 refused-requires : tie.Need-refused-requires
 refused-requires c κs = search needs
 
--- src/lib.rt:64:9
 returns : tie.Need-returns
 returns c =
     rw (c .refused .ensures) (edit-1 _ _ _ _ _ _ (sym (c .before .before .before .tables-of .ensures .judged) ∙ not-true _ (c .before .if1 .taken)))
 
--- src/lib.rt:67:9
 refused-requires-2 : tie.Need-refused-requires-2
 refused-requires-2 c κs = search needs
 
--- src/lib.rt:67:9
 returns-2 : tie.Need-returns-2
 returns-2 c =
     rw (c .refused2 .ensures)
     (edit-2 _ _ _ _ _ _ (sym (c .before .before .before .before .tables-of .ensures .judged) ∙ not-false _ (c .before .before .if1 .left)) (λ l m. omega (arith, c .before .if2 .taken)))
 
--- src/lib.rt:70:9
 refused-requires-3 : tie.Need-refused-requires-3
 refused-requires-3 c κs = search needs
 
--- src/lib.rt:70:9
 returns-3 : tie.Need-returns-3
 returns-3 c =
     rw (c .refused3 .ensures)
     (edit-2 _ _ _ _ _ _ (sym (c .before .before .before .before .before .tables-of .ensures .judged) ∙ not-false _ (c .before .before .before .if1 .left)) (λ l m. omega (arith, c .before .if3 .taken)))
 
--- src/lib.rt:72:45
 slice-reshare-prefix-is-written : tie.Need-slice-reshare-prefix-is-written
 slice-reshare-prefix-is-written c = search needs
 
--- src/lib.rt:72:45
 slice-aggregate-is-written : tie.Need-slice-aggregate-is-written
 slice-aggregate-is-written c =
     sym (length-take-le _ _ (c .before .if3 .left))
 
--- src/lib.rt:72:9
 is-written-requires : tie.Need-is-written-requires
 is-written-requires c κs = search needs
 
--- src/lib.rt:74:9
 refused-requires-4 : tie.Need-refused-requires-4
 refused-requires-4 c κs = search needs
 
--- src/lib.rt:74:9
 same-length : tie.Need-same-length
 same-length c = search needs
 
--- src/lib.rt:74:9
 returns-4 : tie.Need-returns-4
 returns-4 c =
     rw (c .refused4 .ensures)
@@ -82,11 +62,9 @@ returns-4 c =
     (bytes-from _ (λ j. omega (arith, c .before .before .before .before .before .before .before .before .before .before .slice-known .given j)))
     (c .before .before .before .before .before .if2 .left) (c .before .before .before .before .if3 .left) _ (c .before .before .is-written .ensures) (c .before .if4 .taken))
 
--- src/lib.rt:77:29
 slice-aggregate-edit-written : tie.Need-slice-aggregate-edit-written
 slice-aggregate-edit-written c = search needs
 
--- src/lib.rt:77:5
 edit-written-requires : tie.Need-edit-written-requires
 edit-written-requires c κs =
     record {
@@ -97,11 +75,9 @@ edit-written-requires c κs =
           (c .before .before .before .is-written .ensures) (c .before .before .if4 .left);
     }
 
--- src/lib.rt:51:1
 same-length-2 : tie.Need-same-length-2
 same-length-2 c = search needs
 
--- src/lib.rt:51:1
 returns-5 : tie.Need-returns-5
 returns-5 c = search needs
 

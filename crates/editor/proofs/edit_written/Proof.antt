@@ -7,40 +7,28 @@ use Rattle.editor.proofs.Edits.{edit-16, edit-barred, found-so}
 use borrow.Author.Needs.{needs}
 use Rattle.editor.proofs.edit_written.Statement.{statement}
 use Rattle.editor.proofs.edit_written.Tie as tie
-use Rattle.editor.proofs.edit_written.Reads as reads
-use Rattle.editor.proofs.edit_written.Lts as lts
-use Rattle.editor.proofs.change.Reads as change-reads
-use Rattle.editor.proofs.refused.Reads as refused-reads
-use Rattle.editor.proofs.whole.Reads as whole-reads
 
--- src/lib.rt:123:43
 slice-reshare-prefix-whole : tie.Need-slice-reshare-prefix-whole
 slice-reshare-prefix-whole c =
     c .before .before .before .pre .roomy
 
--- src/lib.rt:123:43
 slice-aggregate-whole : tie.Need-slice-aggregate-whole
 slice-aggregate-whole c =
     sym (length-take-le _ _ (c .before .before .before .before .pre .roomy))
 
--- src/lib.rt:123:73
 slice-aggregate-whole-2 : tie.Need-slice-aggregate-whole-2
 slice-aggregate-whole-2 c = search needs
 
--- src/lib.rt:123:9
 whole-requires : tie.Need-whole-requires
 whole-requires c κs =
     c .before .before .before .before .before .pre .frame
 
--- src/lib.rt:126:9
 refused-requires : tie.Need-refused-requires
 refused-requires c κs = search needs
 
--- src/lib.rt:126:9
 same-length : tie.Need-same-length
 same-length c = search needs
 
--- src/lib.rt:126:9
 returns : tie.Need-returns
 returns c =
     rw (c .refused .ensures)
@@ -48,15 +36,12 @@ returns c =
     (λ j. omega (arith, c .before .before .before .before .before .before .slice-known .given j)) (c .before .before .before .before .before .before .before .before .before .args .aim) _
     (c .before .before .before .whole .ensures) (not-true _ (c .before .if1 .taken)))
 
--- src/lib.rt:130:9
 refused-requires-2 : tie.Need-refused-requires-2
 refused-requires-2 c κs = search needs
 
--- src/lib.rt:130:9
 same-length-2 : tie.Need-same-length-2
 same-length-2 c = search needs
 
--- src/lib.rt:130:9
 returns-2 : tie.Need-returns-2
 returns-2 c =
     rw (c .refused2 .ensures)
@@ -65,7 +50,6 @@ returns-2 c =
     (c .before .before .before .before .whole .ensures) (not-false _ (c .before .before .if1 .left))
     (c .before .if2 .taken))
 
--- src/lib.rt:140:5
 change-requires : tie.Need-change-requires
 change-requires c κs =
     found-so (c .before .before .before .before .before .before .before .before .before .before .pre)
@@ -74,11 +58,9 @@ change-requires c κs =
     (not-false _ (c .before .before .if1 .left))
     (c .before .if2 .left)
 
--- src/lib.rt:111:1
 same-length-3 : tie.Need-same-length-3
 same-length-3 c = search needs
 
--- src/lib.rt:111:1
 returns-3 : tie.Need-returns-3
 returns-3 c = search needs
 

@@ -2,18 +2,13 @@
 use Rattle.editor.proofs.Changes.{new-long, new-full, new-roomy}
 use Rattle.editor.proofs.length_refusal.Statement.{statement}
 use Rattle.editor.proofs.length_refusal.Tie as tie
-use Rattle.editor.proofs.length_refusal.Reads as reads
-use Rattle.editor.proofs.length_refusal.Lts as lts
 
--- src/lib.rt:93:9
 returns : tie.Need-returns
 returns c = new-long _ _ (c .if1 .taken)
 
--- src/lib.rt:96:9
 returns-2 : tie.Need-returns-2
 returns-2 c = new-full _ _ (c .before .if1 .left) (c .if2 .taken)
 
--- src/lib.rt:89:1
 returns-3 : tie.Need-returns-3
 returns-3 c = new-roomy _ _ (c .before .if1 .left) (c .if2 .left)
 

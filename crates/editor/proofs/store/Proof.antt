@@ -7,36 +7,25 @@ use Rattle.editor.proofs.Changes.{copied-frame, place-inside, change-lo
 use borrow.Author.Needs.{needs}
 use Rattle.editor.proofs.store.Statement.{statement}
 use Rattle.editor.proofs.store.Tie as tie
-use Rattle.editor.proofs.store.Reads as reads
-use Rattle.editor.proofs.store.Lts as lts
-use Rattle.editor.proofs.whole.Reads as whole-reads
-use Rattle.editor_basic.proofs.mover.put_part.Reads as put-part-reads
-use Rattle.editor_basic.proofs.mover.put_zeros.Reads as put-zeros-reads
 
--- src/lib.rt:209:22
 slice-reshare-prefix-put-part : tie.Need-slice-reshare-prefix-put-part
 slice-reshare-prefix-put-part c = search needs
 
--- src/lib.rt:209:22
 slice-aggregate-put-part : tie.Need-slice-aggregate-put-part
 slice-aggregate-put-part c =
     sym (length-take-le _ _ (c .before .before .before .before .before .before .before .pre .1 .is .held .roomy))
 
--- src/lib.rt:209:5
 put-part-requires : tie.Need-put-part-requires
 put-part-requires c κs = search needs
 
--- src/lib.rt:213:9
 slice-reshare-prefix-whole : tie.Need-slice-reshare-prefix-whole
 slice-reshare-prefix-whole c = search needs
 
--- src/lib.rt:213:9
 slice-aggregate-whole : tie.Need-slice-aggregate-whole
 slice-aggregate-whole c =
     let n = c .before .before .before .put-part .kept .0 in
     sym (length-take-le _ _ (omega (arith, c .before .before .before .before .before .before .before .before .before .before .before .pre .0)))
 
--- src/lib.rt:216:9
 sub-whole : tie.Need-sub-whole
 sub-whole c =
     let p = place-inside (c .before .before .before .before .before .before .before .before .before .before .before .pre .1 .is)
@@ -44,7 +33,6 @@ sub-whole c =
     (c .before .before .before .before .before .before .before .before .before .before .before .pre .1 .fits) in
     omega (arith, c .before .before .before .before .before .before .before .before .before .before .before .pre .1 .is .held .roomy)
 
--- src/lib.rt:216:9
 part-whole-start : tie.Need-part-whole-start
 part-whole-start c =
     let p = place-inside (c .before .before .before .before .before .before .before .before .before .before .before .pre .1 .is)
@@ -52,11 +40,9 @@ part-whole-start c =
     (c .before .before .before .before .before .before .before .before .before .before .before .pre .1 .fits) in
     omega (arith, c .before .before .before .before .before .before .before .before .before .before .before .pre .1 .is .held .roomy)
 
--- src/lib.rt:216:9
 part-whole-end : tie.Need-part-whole-end
 part-whole-end c = search needs
 
--- src/lib.rt:210:5
 whole-requires : tie.Need-whole-requires
 whole-requires c κs =
     copied-frame (c .before .before .before .before .before .before .before .before .before .before .before .before .pre .1 .is .held .frame)
@@ -64,35 +50,27 @@ whole-requires c κs =
     (c .before .before .before .before .before .before .before .before .before .before .before .before .pre .1 .is .held .roomy)
     (c .before .before .before .before .before .before .before .before .before .before .before .before .pre .0))
 
--- src/lib.rt:219:22
 sub-behind : tie.Need-sub-behind
 sub-behind c = search needs
 
--- src/lib.rt:220:19
 sub-put-zeros : tie.Need-sub-put-zeros
 sub-put-zeros c = search needs
 
--- src/lib.rt:220:19
 part-put-zeros-start : tie.Need-part-put-zeros-start
 part-put-zeros-start c = search needs
 
--- src/lib.rt:220:19
 part-put-zeros-end : tie.Need-part-put-zeros-end
 part-put-zeros-end c = search needs
 
--- src/lib.rt:220:9
 put-zeros-requires : tie.Need-put-zeros-requires
 put-zeros-requires c κs = search needs
 
--- src/lib.rt:194:1
 same-length : tie.Need-same-length
 same-length c = search needs
 
--- src/lib.rt:194:1
 same-length-2 : tie.Need-same-length-2
 same-length-2 c = search needs
 
--- src/lib.rt:194:1
 returns : tie.Need-returns
 returns c =
     change-shorter (c .before .before .before .before .before .before .before .before .before .before .before .before .before .before .before .before .before .before .before .before .pre .1 .is)
@@ -105,15 +83,12 @@ returns c =
     (c .before .before .put-zeros .ensures)
     (c .before .before .before .before .if1 .taken)
 
--- src/lib.rt:194:1
 same-length-3 : tie.Need-same-length-3
 same-length-3 c = search needs
 
--- src/lib.rt:194:1
 same-length-4 : tie.Need-same-length-4
 same-length-4 c = search needs
 
--- src/lib.rt:194:1
 returns-2 : tie.Need-returns-2
 returns-2 c =
     change-longer (c .before .before .before .before .before .before .before .before .before .before .before .before .before .before .before .before .pre .1 .is)

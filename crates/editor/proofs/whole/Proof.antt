@@ -6,33 +6,23 @@ use Rattle.editor.proofs.Wholes.{whole-ready, whole-walks}
 use borrow.Author.Needs.{needs}
 use Rattle.editor.proofs.whole.Statement.{statement}
 use Rattle.editor.proofs.whole.Tie as tie
-use Rattle.editor.proofs.whole.Reads as reads
-use Rattle.editor.proofs.whole.Lts as lts
-use Rattle.container_depths.proofs.ContainerDepths.new.Reads as new-reads
-use Rattle.editor_cycle.proofs.value.Reads as value-reads
-use Rattle.signature.proofs.shapes.shape_in.Reads as shape-in-reads
 use Rattle.strict_basic.proofs.TableLaws.{front-placed}
 
--- src/lib.rt:149:9
 new-requires : tie.Need-new-requires
 new-requires c κs = search needs
 
--- src/lib.rt:150:9
 shape-in-requires : tie.Need-shape-in-requires
 shape-in-requires c κs = search needs
 
--- src/lib.rt:151:5
 value-requires : tie.Need-value-requires
 value-requires c κs = (
   front-placed _ _ (c .before .before .before .before .before .before .before .pre .table) (front _ (c .before .before .before .before .before .before .before .pre .typed)) _ (c .before .shape-in .ensures),
   whole-ready _ (c .before .before .new .ensures) _ _ (ap (λ (s : Shape). s .at) (c .before .shape-in .ensures)) _ _ (c .before .before .before .before .before .before .before .pre),
 )
 
--- src/lib.rt:138:1
 same-length : tie.Need-same-length
 same-length c = search needs
 
--- src/lib.rt:138:1
 returns : tie.Need-returns
 returns c = whole-walks _ (c .before .before .before .before .before .new .ensures) _ _ (ap (λ (s : Shape). s .at) (c .before .before .before .before .shape-in .ensures)) _ _ _ _ _ _ _ (c .before .before .value .ensures)
 

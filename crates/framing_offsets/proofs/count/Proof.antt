@@ -4,9 +4,6 @@ use Rattle.framing_offset_size.specs.Widths.{widthOf}
 use borrow.Author.Needs.{needs}
 use Rattle.framing_offsets.proofs.count.Statement.{statement}
 use Rattle.framing_offsets.proofs.count.Tie as tie
-use Rattle.framing_offsets.proofs.count.Reads as reads
-use Rattle.framing_offsets.proofs.count.Lts as lts
-use Rattle.framing_offset_size.proofs.FramingOffsetSize.count_in.Reads as count-in-reads
 
 returns : tie.Need-returns
 returns c = count-past (widthOf (c .before .before .args .size)) _ (c .before .before .args .container .now) (c .if1 .taken)

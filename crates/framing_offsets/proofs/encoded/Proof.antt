@@ -1,8 +1,6 @@
 -- `framing_offsets::encoded` answers with a table, or with a refusal. Assumes nothing.
 use Rattle.framing_offsets.proofs.encoded.Statement.{statement}
 use Rattle.framing_offsets.proofs.encoded.Tie as tie
-use Rattle.framing_offsets.proofs.encoded.Reads as reads
-use Rattle.framing_offsets.proofs.encoded.Lts as lts
 
 returns : tie.Need-returns
 returns c = rw (c .if1 .taken)

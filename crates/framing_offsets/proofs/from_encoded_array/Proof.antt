@@ -7,14 +7,6 @@ use Rattle.framing_offsets.proofs.TableLaws.{encoded-by}
 use borrow.Author.Needs.{needs}
 use Rattle.framing_offsets.proofs.from_encoded_array.Statement.{statement}
 use Rattle.framing_offsets.proofs.from_encoded_array.Tie as tie
-use Rattle.framing_offsets.proofs.from_encoded_array.Reads as reads
-use Rattle.framing_offsets.proofs.from_encoded_array.Lts as lts
-use Rattle.framing_offset_size.proofs.FramingOffsetSize.for_encoded_container.Reads as for-encoded-container-reads
-use Rattle.framing_offset_size.proofs.FramingOffsetSize.max.Reads as max-reads
-use Rattle.framing_offset_size.proofs.FramingOffsetSize.read_last_offset_from_buffer.Reads as read-last-offset-from-buffer-reads
-use Rattle.framing_offsets.proofs.count.Reads as count-reads
-use Rattle.framing_offsets.proofs.encoded.Reads as encoded-reads
-use Rattle.framing_offsets.proofs.stands.Reads as stands-reads
 
 max-requires : tie.Need-max-requires
 max-requires c κs = search needs

@@ -7,10 +7,6 @@ use Rattle.framing_offsets.proofs.HeldLaws.{offset-beyond, offset-throu
 use borrow.Author.Needs.{needs}
 use Rattle.framing_offsets.proofs.next.Statement.{statement}
 use Rattle.framing_offsets.proofs.next.Tie as tie
-use Rattle.framing_offsets.proofs.next.Reads as reads
-use Rattle.framing_offsets.proofs.next.Lts as lts
-use Rattle.framing_offsets.proofs.table.next_in.Reads as next-in-reads
-use Rattle.utils.proofs.Checked.failed.Reads as failed-reads
 
 failed-requires : tie.Need-failed-requires
 failed-requires c κs = search needs

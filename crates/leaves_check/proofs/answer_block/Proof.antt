@@ -7,11 +7,6 @@ use borrow.Author.Needs.{needs}
 use Rattle.lines.proofs.GatherLaws.{part-passed}
 use Rattle.leaves_check.proofs.answer_block.Statement.{statement}
 use Rattle.leaves_check.proofs.answer_block.Tie as tie
-use Rattle.leaves_check.proofs.answer_block.Reads as reads
-use Rattle.leaves_check.proofs.answer_block.Lts as lts
-use Rattle.leaves_check.proofs.calls.answer.Reads as answer-reads
-use Rattle.lines.proofs.front.Reads as front-reads
-use Rattle.lines.proofs.gather.Reads as gather-reads
 
 abbrev Inv-loop : tie.InvT-loop
 Inv-loop block line₀ before kept₀ from₀ line kept from = (from ≤ length block) × (length line ≡ length line₀)

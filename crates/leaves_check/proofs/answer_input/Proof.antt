@@ -4,13 +4,6 @@ use lib.ListN.{length}
 use borrow.Author.Needs.{needs}
 use Rattle.leaves_check.proofs.answer_input.Statement.{statement}
 use Rattle.leaves_check.proofs.answer_input.Tie as tie
-use Rattle.leaves_check.proofs.answer_input.Reads as reads
-use Rattle.leaves_check.proofs.answer_input.Lts as lts
-use Rattle.io.proofs.count.Reads as count-reads
-use Rattle.io.proofs.large_buffer.Reads as large-buffer-reads
-use Rattle.leaves_check.proofs.answer_block.Reads as answer-block-reads
-use Rattle.leaves_check.proofs.answer_rest.Reads as answer-rest-reads
-use Rattle.libc.proofs.read.Reads as read-reads
 
 abbrev Inv-loop : tie.InvT-loop
 Inv-loop line₀ kept₀ turns₀ line kept turns = length line ≡ 65536

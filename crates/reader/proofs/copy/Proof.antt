@@ -10,8 +10,6 @@ use lib.Seq.{paste, paste-zero, paste-suc}
 use borrow.Author.Needs.{needs}
 use Rattle.reader.proofs.copy.Statement.{statement}
 use Rattle.reader.proofs.copy.Tie as tie
-use Rattle.reader.proofs.copy.Reads as reads
-use Rattle.reader.proofs.copy.Lts as lts
 
 step : (d s l : List ℕ) (j : ℕ) → j < length d → j < length s → l ≡ paste d 0 s j → set l j (getD s j 0) ≡ paste d 0 s (j + 1)
 step d s l j hd hs e =

@@ -7,13 +7,6 @@ use Rattle.reader.proofs.Frames.{type-read, type-slice}
 use borrow.Author.Needs.{needs}
 use Rattle.reader.proofs.read.Statement.{statement}
 use Rattle.reader.proofs.read.Tie as tie
-use Rattle.reader.proofs.read.Reads as reads
-use Rattle.reader.proofs.read.Lts as lts
-use Rattle.reader.proofs.in_one_walk.Reads as in-one-walk-reads
-use Rattle.reader.proofs.read_once.Reads as read-once-reads
-use Rattle.reader.proofs.read_twice.Reads as read-twice-reads
-use Rattle.reader_basic.proofs.refused.Reads as refused-reads
-use Rattle.signature.proofs.shapes.shapes_of.Reads as shapes-of-reads
 
 slice-aggregate-shapes-of : tie.Need-slice-aggregate-shapes-of
 slice-aggregate-shapes-of c = search needs

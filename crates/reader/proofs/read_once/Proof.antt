@@ -6,11 +6,6 @@ use Rattle.reader.proofs.Frames.{once-refused, once-small, once-again, 
 use borrow.Author.Needs.{needs}
 use Rattle.reader.proofs.read_once.Statement.{statement}
 use Rattle.reader.proofs.read_once.Tie as tie
-use Rattle.reader.proofs.read_once.Reads as reads
-use Rattle.reader.proofs.read_once.Lts as lts
-use Rattle.reader.proofs.copy.Reads as copy-reads
-use Rattle.reader.proofs.whole.Reads as whole-reads
-use Rattle.reader_basic.proofs.refused.Reads as refused-reads
 
 slice-aggregate-whole : tie.Need-slice-aggregate-whole
 slice-aggregate-whole c = search needs

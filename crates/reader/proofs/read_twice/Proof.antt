@@ -5,11 +5,6 @@ use Rattle.reader.proofs.Frames.{read-refused, slice-refused, read-smal
 use borrow.Author.Needs.{needs}
 use Rattle.reader.proofs.read_twice.Statement.{statement}
 use Rattle.reader.proofs.read_twice.Tie as tie
-use Rattle.reader.proofs.read_twice.Reads as reads
-use Rattle.reader.proofs.read_twice.Lts as lts
-use Rattle.reader.proofs.sized.Reads as sized-reads
-use Rattle.reader.proofs.whole.Reads as whole-reads
-use Rattle.reader_basic.proofs.refused.Reads as refused-reads
 
 sized-requires : tie.Need-sized-requires
 sized-requires c κs = search needs

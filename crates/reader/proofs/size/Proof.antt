@@ -5,14 +5,9 @@ use mathlib.Core.Path.{refl}
 use Rattle.signature.proofs.ShapeLaws.{table-refused, table-filled, table-type}
 use Rattle.reader_basic.proofs.Answers.{denied, granted}
 use Rattle.reader.proofs.Frames.{type-refused}
-use Rattle.reader_basic.proofs.refused.Reads as refused-reads
 use borrow.Author.Needs.{needs}
 use Rattle.reader.proofs.size.Statement.{statement}
 use Rattle.reader.proofs.size.Tie as tie
-use Rattle.reader.proofs.size.Reads as reads
-use Rattle.reader.proofs.size.Lts as lts
-use Rattle.reader.proofs.sized.Reads as sized-reads
-use Rattle.signature.proofs.shapes.shapes_of.Reads as shapes-of-reads
 
 slice-aggregate-shapes-of : tie.Need-slice-aggregate-shapes-of
 slice-aggregate-shapes-of c = search needs

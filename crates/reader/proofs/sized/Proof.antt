@@ -2,13 +2,9 @@
 use Rattle.reader_basic.specs.Answers.{countsOf}
 use mathlib.Core.Path.{ap, _∙_}
 use Rattle.reader.proofs.Frames.{size-done, size-refused}
-use Rattle.reader_basic.proofs.refused.Reads as refused-reads
 use borrow.Author.Needs.{needs}
 use Rattle.reader.proofs.sized.Statement.{statement}
 use Rattle.reader.proofs.sized.Tie as tie
-use Rattle.reader.proofs.sized.Reads as reads
-use Rattle.reader.proofs.sized.Lts as lts
-use Rattle.reader.proofs.whole.Reads as whole-reads
 
 slice-aggregate-whole : tie.Need-slice-aggregate-whole
 slice-aggregate-whole c = search needs

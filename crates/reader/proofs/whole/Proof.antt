@@ -7,14 +7,9 @@ use native.Mathlib.Omega.{arith}
 use mathlib.Core.Path.{refl}
 use Rattle.signature.proofs.TreeLaws.{front, front-described}
 use Rattle.reader.proofs.Frames.{whole-long, whole-far, within-frame, whole-read}
-use Rattle.reader_basic.proofs.refused.Reads as refused-reads
 use borrow.Author.Needs.{needs}
 use Rattle.reader.proofs.whole.Statement.{statement}
 use Rattle.reader.proofs.whole.Tie as tie
-use Rattle.reader.proofs.whole.Reads as reads
-use Rattle.reader.proofs.whole.Lts as lts
-use Rattle.reader_steps.proofs.ride.ride_of.Reads as ride-of-reads
-use Rattle.reader_cycle.proofs.value.Reads as value-reads
 
 returns : tie.Need-returns
 returns c = told (c .refused .ensures) (whole-long _ _ _ _ _ (front _ (c .before .before .before .before .before .pre .0)) (c .before .if1 .taken))

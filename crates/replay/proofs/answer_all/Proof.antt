@@ -1,20 +1,10 @@
 -- `replay::answer_all` is safe and ends: the loop counts its turns down. Assumes nothing.
-use mathlib.Core.Path.{_≡_, refl, sym}
-use Prim.Native.Nat.{ℕ, _-_, _≤_}
-use native.Mathlib.Omega.{arith}
-use lib.ListN.{length, length-replicate}
-use lib.Seq.{length-take-le}
+use mathlib.Core.Path.{_≡_}
+use Prim.Native.Nat.{_-_}
+use lib.ListN.{length}
 use borrow.Author.Needs.{needs}
 use Rattle.replay.proofs.answer_all.Statement.{statement}
 use Rattle.replay.proofs.answer_all.Tie as tie
-use Rattle.replay.proofs.answer_all.Reads as reads
-use Rattle.replay.proofs.answer_all.Lts as lts
-use Rattle.io.proofs.count.Reads as count-reads
-use Rattle.io.proofs.large_buffer.Reads as large-buffer-reads
-use Rattle.libc.proofs.read.Reads as read-reads
-use Rattle.replay.proofs.answer_block.Reads as answer-block-reads
-use Rattle.replay.proofs.answer_rest.Reads as answer-rest-reads
-use Rattle.replay.proofs.complain.Reads as complain-reads
 
 abbrev Inv-loop : tie.InvT-loop
 Inv-loop line₀ frame₀ room₀ progress₀ turns₀ line frame room progress turns = (length line ≡ length line₀) × (length frame ≡ 131072)

@@ -1,23 +1,13 @@
 -- `replay::answer_block` is safe and ends: each line passes a byte of the block, and the output lies within its room. The measure is what is left
 -- of the block. Assumes nothing.
-use mathlib.Core.Path.{_≡_, refl, sym}
-use Prim.Native.Nat.{ℕ, _-_, _≤_}
+use mathlib.Core.Path.{_≡_, refl}
+use Prim.Native.Nat.{_-_, _≤_}
 use native.Mathlib.Omega.{arith}
-use lib.ListN.{length, length-replicate}
-use lib.Seq.{length-take-le}
+use lib.ListN.{length}
 use borrow.Author.Needs.{needs}
 use Rattle.lines.proofs.GatherLaws.{part-passed}
 use Rattle.replay.proofs.answer_block.Statement.{statement}
 use Rattle.replay.proofs.answer_block.Tie as tie
-use Rattle.replay.proofs.answer_block.Reads as reads
-use Rattle.replay.proofs.answer_block.Lts as lts
-use Rattle.io.proofs.large_buffer.Reads as large-buffer-reads
-use Rattle.lines.proofs.front.Reads as front-reads
-use Rattle.lines.proofs.gather.Reads as gather-reads
-use Rattle.replay.proofs.answer.Reads as answer-reads
-use Rattle.replay.proofs.answered.Reads as answered-reads
-use Rattle.replay.proofs.stopped.Reads as stopped-reads
-use Rattle.std.proofs.num.wrapping_add_u64.Reads as wrapping-add-u64-reads
 
 abbrev Inv-loop : tie.InvT-loop
 Inv-loop block line₀ frame₀ room₀ out₀ at₀ kept₀ number₀ from₀ line frame room out at kept number from = (from ≤ length block) × (length line ≡ length line₀) × (length frame ≡ 131072) × (at ≤ 65536)

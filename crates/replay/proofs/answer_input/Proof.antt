@@ -1,15 +1,10 @@
 -- `replay::answer_input` is safe and ends: the arrays have the lengths that `answer_all` asks for. Assumes nothing.
-use mathlib.Core.Path.{_≡_, refl, sym}
-use Prim.Native.Nat.{ℕ, _-_, _≤_}
-use native.Mathlib.Omega.{arith}
-use lib.ListN.{length, length-replicate}
-use lib.Seq.{length-take-le}
+use mathlib.Core.Path.{sym}
+use Prim.Native.Nat.{ℕ, _-_}
+use lib.ListN.{length-replicate}
 use borrow.Author.Needs.{needs}
 use Rattle.replay.proofs.answer_input.Statement.{statement}
 use Rattle.replay.proofs.answer_input.Tie as tie
-use Rattle.replay.proofs.answer_input.Reads as reads
-use Rattle.replay.proofs.answer_input.Lts as lts
-use Rattle.replay.proofs.answer_all.Reads as answer-all-reads
 
 slice-aggregate-answer-all : tie.Need-slice-aggregate-answer-all
 slice-aggregate-answer-all c = sym (length-replicate {A = ℕ} 2097152 0)

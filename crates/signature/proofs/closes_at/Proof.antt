@@ -3,8 +3,6 @@ use borrow.Author.Needs.{needs}
 use Rattle.signature.proofs.Letters.{closes-past, closes-by}
 use Rattle.signature.proofs.closes_at.Statement.{statement}
 use Rattle.signature.proofs.closes_at.Tie as tie
-use Rattle.signature.proofs.closes_at.Reads as reads
-use Rattle.signature.proofs.closes_at.Lts as lts
 
 returns : tie.Need-returns
 returns c = closes-past _ _ (c .if1 .taken)

@@ -3,30 +3,21 @@ use Rattle.strict.proofs.Wholes.{whole-walked, whole-refused, whole-oth
 use borrow.Author.Needs.{needs}
 use Rattle.strict.proofs.is_written.Statement.{statement}
 use Rattle.strict.proofs.is_written.Tie as tie
-use Rattle.strict.proofs.is_written.Reads as reads
-use Rattle.strict.proofs.is_written.Lts as lts
-use Rattle.reader.proofs.size.Reads as size-reads
-use Rattle.strict.proofs.walked.Reads as walked-reads
 
--- src/lib.rt:22:9
 walked-requires : tie.Need-walked-requires
 walked-requires c κs = search needs
 
--- src/lib.rt:24:9
 returns : tie.Need-returns
 returns c =
     whole-walked _ _ _ _ (c .before .walked .ensures) (c .if1 .taken)
 
--- src/lib.rt:26:9
 size-requires : tie.Need-size-requires
 size-requires c κs = search needs
 
--- src/lib.rt:29:9
 returns-2 : tie.Need-returns-2
 returns-2 c =
     whole-refused _ _ _ _ (c .before .before .before .walked .ensures) (c .before .before .if1 .left) _ (c .before .size .ensures) (c .if2 .taken)
 
--- src/lib.rt:19:1
 returns-3 : tie.Need-returns-3
 returns-3 c =
     whole-other _ _ _ _ (c .before .before .before .walked .ensures) (c .before .before .if1 .left) _ (c .before .size .ensures) (c .if2 .left)

@@ -7,49 +7,34 @@ use Rattle.strict.proofs.Wholes.{inside-frame, walk-untyped, walk-long,
 use borrow.Author.Needs.{needs}
 use Rattle.strict.proofs.walked.Statement.{statement}
 use Rattle.strict.proofs.walked.Tie as tie
-use Rattle.strict.proofs.walked.Reads as reads
-use Rattle.strict.proofs.walked.Lts as lts
-use Rattle.container_depths.proofs.ContainerDepths.new.Reads as new-reads
-use Rattle.signature.proofs.shapes.shape_in.Reads as shape-in-reads
-use Rattle.strict_basic.proofs.sizes.tables_of.Reads as tables-of-reads
 use Rattle.strict_basic.proofs.TableLaws.{front-placed}
-use Rattle.strict_cycle.proofs.value.Reads as value-reads
 
--- src/lib.rt:39:30
 slice-aggregate-tables-of : tie.Need-slice-aggregate-tables-of
 slice-aggregate-tables-of c = search needs
 
--- src/lib.rt:39:9
 tables-of-requires : tie.Need-tables-of-requires
 tables-of-requires c κs = search needs
 
--- src/lib.rt:40:9
 returns : tie.Need-returns
 returns c =
     walk-untyped _ _ (sym (c .before .before .tables-of .ensures .judged) ∙ denied (c .if1 .taken))
 
--- src/lib.rt:43:9
 returns-2 : tie.Need-returns-2
 returns-2 c =
     walk-long _ _ (front _ (sym (c .before .before .before .tables-of .ensures .judged) ∙ granted (c .before .if1 .left))) (c .if2 .taken)
 
--- src/lib.rt:45:9
 new-requires : tie.Need-new-requires
 new-requires c κs = search needs
 
--- src/lib.rt:46:37
 slice-aggregate-shape-in : tie.Need-slice-aggregate-shape-in
 slice-aggregate-shape-in c = search needs
 
--- src/lib.rt:46:9
 shape-in-requires : tie.Need-shape-in-requires
 shape-in-requires c κs = search needs
 
--- src/lib.rt:47:33
 slice-aggregate-value : tie.Need-slice-aggregate-value
 slice-aggregate-value c = search needs
 
--- src/lib.rt:47:9
 value-requires : tie.Need-value-requires
 value-requires c κs = (
   front-placed _ _ (c .before .before .before .before .before .before .before .tables-of .ensures .filled (granted (c .before .before .before .before .before .if1 .left)))
@@ -58,14 +43,12 @@ value-requires c κs = (
   inside-frame (c .before .before .before .before .if2 .left) (c .before .before .before .new .ensures),
 )
 
--- src/lib.rt:49:9
 returns-3 : tie.Need-returns-3
 returns-3 c =
     walk-written _ _ (front _ (sym (c .before .before .before .before .before .before .before .before .before .tables-of .ensures .judged) ∙ granted (c .before .before .before .before .before .before .before .if1 .left)))
     (c .before .before .before .before .before .before .if2 .left) _ (c .before .before .before .before .before .new .ensures) _ (ap (λ (s : Shape). s .at) (c .before .before .before .shape-in .ensures)) _
     (c .before .value .ensures) (c .if3 .taken)
 
--- src/lib.rt:35:1
 returns-4 : tie.Need-returns-4
 returns-4 c =
     walk-not _ _ (front _ (sym (c .before .before .before .before .before .before .before .before .before .tables-of .ensures .judged) ∙ granted (c .before .before .before .before .before .before .before .if1 .left)))

@@ -5,10 +5,6 @@ use mathlib.Core.Path.{sym, _∙_}
 use borrow.Author.Needs.{needs}
 use Rattle.texts.proofs.after_byte.Statement.{statement}
 use Rattle.texts.proofs.after_byte.Tie as tie
-use Rattle.texts.proofs.after_byte.Reads as reads
-use Rattle.texts.proofs.after_byte.Lts as lts
-use Rattle.texts.proofs.Wanted.new.Reads as new-reads
-use Rattle.texts.proofs.first_byte.Reads as first-byte-reads
 
 first-byte-requires : tie.Need-first-byte-requires
 first-byte-requires c κs = search needs

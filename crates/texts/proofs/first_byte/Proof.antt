@@ -4,9 +4,6 @@ use mathlib.Core.Path.{sym, _∙_}
 use borrow.Author.Needs.{needs}
 use Rattle.texts.proofs.first_byte.Statement.{statement}
 use Rattle.texts.proofs.first_byte.Tie as tie
-use Rattle.texts.proofs.first_byte.Reads as reads
-use Rattle.texts.proofs.first_byte.Lts as lts
-use Rattle.texts.proofs.Wanted.new.Reads as new-reads
 
 new-requires : tie.Need-new-requires
 new-requires c κs = search needs

@@ -3,14 +3,10 @@ use Rattle.texts.proofs.Runs.{false-is}
 use borrow.Author.Needs.{needs}
 use Rattle.texts.proofs.inside.Statement.{statement}
 use Rattle.texts.proofs.inside.Tie as tie
-use Rattle.texts.proofs.inside.Reads as reads
-use Rattle.texts.proofs.inside.Lts as lts
 
--- src/lib.rt:251:9
 returns : tie.Need-returns
 returns c t = absurd (false-is t)
 
--- src/lib.rt:247:1
 returns-2 : tie.Need-returns-2
 returns-2 c = search needs
 

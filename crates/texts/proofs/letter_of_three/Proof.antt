@@ -4,31 +4,22 @@ use borrow.Author.Tests.{not-false}
 use borrow.Author.Needs.{needs}
 use Rattle.texts.proofs.letter_of_three.Statement.{statement}
 use Rattle.texts.proofs.letter_of_three.Tie as tie
-use Rattle.texts.proofs.letter_of_three.Reads as reads
-use Rattle.texts.proofs.letter_of_three.Lts as lts
-use Rattle.texts.proofs.inside.Reads as inside-reads
 
--- src/lib.rt:273:9
 returns : tie.Need-returns
 returns c t = absurd (false-is t)
 
--- src/lib.rt:276:9
 returns-2 : tie.Need-returns-2
 returns-2 c t = absurd (false-is t)
 
--- src/lib.rt:278:9
 inside-requires : tie.Need-inside-requires
 inside-requires c κs = search needs
 
--- src/lib.rt:279:9
 returns-3 : tie.Need-returns-3
 returns-3 c t = absurd (false-is t)
 
--- src/lib.rt:281:5
 inside-requires-2 : tie.Need-inside-requires-2
 inside-requires-2 c κs = search needs
 
--- src/lib.rt:269:1
 returns-4 : tie.Need-returns-4
 returns-4 c t = record { first = (search needs, search needs); second = c .before .before .inside .ensures (not-false _ (c .before .if3 .left)); third = c .inside2 .ensures t }
 

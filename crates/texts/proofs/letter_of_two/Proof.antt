@@ -3,23 +3,16 @@ use Rattle.texts.proofs.Runs.{false-is}
 use borrow.Author.Needs.{needs}
 use Rattle.texts.proofs.letter_of_two.Statement.{statement}
 use Rattle.texts.proofs.letter_of_two.Tie as tie
-use Rattle.texts.proofs.letter_of_two.Reads as reads
-use Rattle.texts.proofs.letter_of_two.Lts as lts
-use Rattle.texts.proofs.inside.Reads as inside-reads
 
--- src/lib.rt:261:9
 returns : tie.Need-returns
 returns c t = absurd (false-is t)
 
--- src/lib.rt:264:9
 returns-2 : tie.Need-returns-2
 returns-2 c t = absurd (false-is t)
 
--- src/lib.rt:266:5
 inside-requires : tie.Need-inside-requires
 inside-requires c κs = search needs
 
--- src/lib.rt:257:1
 returns-3 : tie.Need-returns-3
 returns-3 c t = record { first = (search needs, search needs); second = c .inside .ensures t }
 

@@ -4,16 +4,9 @@ use lib.ListN.{length}
 use native.Mathlib.Omega.{arith}
 use Rattle.texts.specs.Letters.{Plain}
 use borrow.Author.Needs.{needs}
-use borrow.Author.Tests.{not-false}
 use Rattle.texts.proofs.Runs.{plain-begin, plain-next, plain-on, plain-two-bytes}
 use Rattle.texts.proofs.letters_end.Statement.{statement}
 use Rattle.texts.proofs.letters_end.Tie as tie
-use Rattle.texts.proofs.letters_end.Reads as reads
-use Rattle.texts.proofs.letters_end.Lts as lts
-use Rattle.texts.proofs.letter_of_two.Reads as letter-of-two-reads
-use Rattle.texts.proofs.plain.Reads as plain-reads
-use Rattle.texts.proofs.plain_end.Reads as plain-end-reads
-use Rattle.texts.proofs.wide_end.Reads as wide-end-reads
 
 abbrev Inv-loop : tie.InvT-loop
 Inv-loop text start i₀ i = Plain text start i
@@ -21,95 +14,72 @@ Inv-loop text start i₀ i = Plain text start i
 abbrev μ-loop : tie.MeasureT-loop
 μ-loop text start i₀ i = length text - i
 
--- src/lib.rt:364:5
 loop-holds : tie.Need-loop-holds Inv-loop μ-loop
 loop-holds c = plain-begin _ _ (c .before .pre)
 
--- src/lib.rt:365:12
 sub-if1 : tie.Need-sub-if1 Inv-loop μ-loop
 sub-if1 c = c .loop .inv .to
 
--- src/lib.rt:366:13
 returns : tie.Need-returns Inv-loop μ-loop
 returns c = c .before .loop .inv
 
--- src/lib.rt:368:21
 shared-slice-read-first : tie.Need-shared-slice-read-first Inv-loop μ-loop
 shared-slice-read-first c = omega arith
 
--- src/lib.rt:369:27
 add-second : tie.Need-add-second Inv-loop μ-loop
 add-second c = omega arith
 
--- src/lib.rt:369:22
 shared-slice-read-second : tie.Need-shared-slice-read-second Inv-loop μ-loop
 shared-slice-read-second c = omega arith
 
--- src/lib.rt:370:12
 plain-requires : tie.Need-plain-requires Inv-loop μ-loop
 plain-requires c κs = search needs
 
--- src/lib.rt:371:16
 plain-requires-2 : tie.Need-plain-requires-2 Inv-loop μ-loop
 plain-requires-2 c κs = search needs
 
--- src/lib.rt:372:37
 add-plain-end : tie.Need-add-plain-end Inv-loop μ-loop
 add-plain-end c = omega arith
 
--- src/lib.rt:372:17
 plain-end-requires : tie.Need-plain-end-requires Inv-loop μ-loop
 plain-end-requires c κs = omega arith
 
--- src/lib.rt:364:5
 loop-less : tie.Need-loop-less Inv-loop μ-loop
 loop-less c = omega (arith, c .plain-end .ensures .from, c .plain-end .ensures .to)
 
--- src/lib.rt:364:5
 loop-again : tie.Need-loop-again Inv-loop μ-loop
 loop-again c = plain-on _ _ _ _ (plain-next _ _ _ (c .before .before .before .before .before .before .before .before .loop .inv) (omega arith) (c .before .before .before .before .plain .ensures (c .before .before .before .if2 .taken))) (c .plain-end .ensures)
 
--- src/lib.rt:374:17
 add-i : tie.Need-add-i Inv-loop μ-loop
 add-i c = omega arith
 
--- src/lib.rt:364:5
 loop-less-2 : tie.Need-loop-less-2 Inv-loop μ-loop
 loop-less-2 c = omega arith
 
--- src/lib.rt:364:5
 loop-again-2 : tie.Need-loop-again-2 Inv-loop μ-loop
 loop-again-2 c = plain-next _ _ _ (c .before .before .before .before .before .before .before .loop .inv) (omega arith) (c .before .before .before .plain .ensures (c .before .before .if2 .taken))
 
--- src/lib.rt:376:19
 letter-of-two-requires : tie.Need-letter-of-two-requires Inv-loop μ-loop
 letter-of-two-requires c κs = search needs
 
--- src/lib.rt:377:13
 add-i-2 : tie.Need-add-i-2 Inv-loop μ-loop
 add-i-2 c = omega arith
 
--- src/lib.rt:364:5
 loop-less-3 : tie.Need-loop-less-3 Inv-loop μ-loop
 loop-less-3 c = omega arith
 
--- src/lib.rt:364:5
 loop-again-3 : tie.Need-loop-again-3 Inv-loop μ-loop
 loop-again-3 c = plain-on _ _ _ _ (c .before .before .before .before .before .before .before .loop .inv) (plain-two-bytes _ _ (omega arith) (c .before .letter-of-two .ensures (c .if4 .taken)))
 
--- src/lib.rt:379:17
 wide-end-requires : tie.Need-wide-end-requires Inv-loop μ-loop
 wide-end-requires c κs = c .before .before .before .before .before .before .before .loop .inv .to
 
--- src/lib.rt:381:17
 returns-2 : tie.Need-returns-2 Inv-loop μ-loop
 returns-2 c = c .before .before .before .before .before .before .before .before .before .loop .inv
 
--- src/lib.rt:364:5
 loop-less-4 : tie.Need-loop-less-4 Inv-loop μ-loop
 loop-less-4 c = omega (arith, c .before .wide-end .ensures .from, c .before .wide-end .ensures .to, c .if5 .left)
 
--- src/lib.rt:364:5
 loop-again-4 : tie.Need-loop-again-4 Inv-loop μ-loop
 loop-again-4 c = plain-on _ _ _ _ (c .before .before .before .before .before .before .before .before .before .loop .inv) (c .before .wide-end .ensures)
 

@@ -8,10 +8,6 @@ use borrow.Author.Tests.{not-false}
 use Rattle.texts.proofs.Runs.{plain-next}
 use Rattle.texts.proofs.plain_end.Statement.{statement}
 use Rattle.texts.proofs.plain_end.Tie as tie
-use Rattle.texts.proofs.plain_end.Reads as reads
-use Rattle.texts.proofs.plain_end.Lts as lts
-use Rattle.texts.proofs.plain.Reads as plain-reads
-use Rattle.texts.proofs.plain_steps.Reads as plain-steps-reads
 
 abbrev Inv-loop : tie.InvT-loop
 Inv-loop text start i₀ i = Plain text start i
@@ -19,39 +15,30 @@ Inv-loop text start i₀ i = Plain text start i
 abbrev μ-loop : tie.MeasureT-loop
 μ-loop text start i₀ i = length text - i
 
--- src/lib.rt:236:9
 plain-steps-requires : tie.Need-plain-steps-requires Inv-loop μ-loop
 plain-steps-requires c κs = search needs
 
--- src/lib.rt:237:5
 loop-holds : tie.Need-loop-holds Inv-loop μ-loop
 loop-holds c = c .plain-steps .ensures
 
--- src/lib.rt:238:19
 shared-slice-read-plain : tie.Need-shared-slice-read-plain Inv-loop μ-loop
 shared-slice-read-plain c = omega arith
 
--- src/lib.rt:238:13
 plain-requires : tie.Need-plain-requires Inv-loop μ-loop
 plain-requires c κs = search needs
 
--- src/lib.rt:239:13
 returns : tie.Need-returns Inv-loop μ-loop
 returns c = c .before .before .before .before .loop .inv
 
--- src/lib.rt:241:9
 add-i : tie.Need-add-i Inv-loop μ-loop
 add-i c = omega arith
 
--- src/lib.rt:237:5
 loop-less : tie.Need-loop-less Inv-loop μ-loop
 loop-less c = omega arith
 
--- src/lib.rt:237:5
 loop-again : tie.Need-loop-again Inv-loop μ-loop
 loop-again c = plain-next _ _ _ (c .before .before .before .before .loop .inv) (c .before .before .before .loop-test .taken) (c .before .plain .ensures (not-false _ (c .if1 .left)))
 
--- src/lib.rt:232:1
 returns-2 : tie.Need-returns-2 Inv-loop μ-loop
 returns-2 c = c .before .loop .inv
 

@@ -4,86 +4,61 @@ use native.Mathlib.Omega.{arith}
 use borrow.Author.Needs.{needs}
 use Rattle.texts.proofs.plain_short.Statement.{statement}
 use Rattle.texts.proofs.plain_short.Tie as tie
-use Rattle.texts.proofs.plain_short.Reads as reads
-use Rattle.texts.proofs.plain_short.Lts as lts
-use Rattle.texts.proofs.plain.Reads as plain-reads
-use Rattle.texts.proofs.plain_eight.Reads as plain-eight-reads
-use Rattle.texts.proofs.plain_four.Reads as plain-four-reads
-use Rattle.texts.proofs.plain_two.Reads as plain-two-reads
 
--- src/lib.rt:170:13
 plain-eight-requires : tie.Need-plain-eight-requires
 plain-eight-requires c κs = search needs
 
--- src/lib.rt:171:38
 sub-plain-eight : tie.Need-sub-plain-eight
 sub-plain-eight c = search needs
 
--- src/lib.rt:171:13
 plain-eight-requires-2 : tie.Need-plain-eight-requires-2
 plain-eight-requires-2 c κs = search needs
 
--- src/lib.rt:173:13
 returns : tie.Need-returns
 returns c = bytes-ends (c .before .before .before .before .before .args .text .now) 8 (omega arith) (omega arith) (c .before .before .plain-eight .ensures) (c .before .plain-eight2 .ensures) (c .if2 .taken)
 
--- src/lib.rt:175:9
 returns-2 : tie.Need-returns-2
 returns-2 c = plain-false _ _ _
 
--- src/lib.rt:178:13
 plain-four-requires : tie.Need-plain-four-requires
 plain-four-requires c κs = search needs
 
--- src/lib.rt:179:37
 sub-plain-four : tie.Need-sub-plain-four
 sub-plain-four c = search needs
 
--- src/lib.rt:179:13
 plain-four-requires-2 : tie.Need-plain-four-requires-2
 plain-four-requires-2 c κs = search needs
 
--- src/lib.rt:181:13
 returns-3 : tie.Need-returns-3
 returns-3 c = bytes-ends (c .before .before .before .before .before .before .args .text .now) 4 (omega arith) (omega arith) (c .before .before .plain-four .ensures) (c .before .plain-four2 .ensures) (c .if4 .taken)
 
--- src/lib.rt:183:9
 returns-4 : tie.Need-returns-4
 returns-4 c = plain-false _ _ _
 
--- src/lib.rt:186:13
 plain-two-requires : tie.Need-plain-two-requires
 plain-two-requires c κs = search needs
 
--- src/lib.rt:187:36
 sub-plain-two : tie.Need-sub-plain-two
 sub-plain-two c = search needs
 
--- src/lib.rt:187:13
 plain-two-requires-2 : tie.Need-plain-two-requires-2
 plain-two-requires-2 c κs = search needs
 
--- src/lib.rt:189:13
 returns-5 : tie.Need-returns-5
 returns-5 c = bytes-ends (c .before .before .before .before .before .before .before .args .text .now) 2 (omega arith) (omega arith) (c .before .before .plain-two .ensures) (c .before .plain-two2 .ensures) (c .if6 .taken)
 
--- src/lib.rt:191:9
 returns-6 : tie.Need-returns-6
 returns-6 c = plain-false _ _ _
 
--- src/lib.rt:194:22
 shared-slice-read-plain : tie.Need-shared-slice-read-plain
 shared-slice-read-plain c = search needs
 
--- src/lib.rt:194:9
 plain-requires : tie.Need-plain-requires
 plain-requires c κs = search needs
 
--- src/lib.rt:194:9
 returns-7 : tie.Need-returns-7
 returns-7 c = plain-one (c .before .before .before .before .before .before .before .args .text .now) (c .before .before .if7 .taken) (c .plain .ensures)
 
--- src/lib.rt:165:1
 returns-8 : tie.Need-returns-8
 returns-8 c t = plain-none (c .before .before .before .before .before .args .text .now) (omega arith)
 

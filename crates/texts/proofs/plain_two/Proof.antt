@@ -1,5 +1,4 @@
 -- `plain_two` meets its contract. Assumes nothing.
-use native.Mathlib.Omega.{arith}
 use borrow.Author.Needs.{needs}
 use Prim.Native.Nat.{_+_}
 use Rattle.texts.proofs.Runs.{bytes-one, bytes-halves, false-is}

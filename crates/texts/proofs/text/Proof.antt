@@ -6,8 +6,6 @@ use mathlib.Core.Path.{sym}
 use borrow.Author.Needs.{needs}
 use Rattle.texts.proofs.text.Statement.{statement}
 use Rattle.texts.proofs.text.Tie as tie
-use Rattle.texts.proofs.text.Reads as reads
-use Rattle.texts.proofs.text.Lts as lts
 
 returns : tie.Need-returns
 returns c = sym (nul-empty (c .before .args .part .now) (c .if1 .taken))

@@ -4,35 +4,25 @@ use native.Mathlib.Omega.{arith}
 use borrow.Author.Needs.{needs}
 use Rattle.texts.proofs.three_at.Statement.{statement}
 use Rattle.texts.proofs.three_at.Tie as tie
-use Rattle.texts.proofs.three_at.Reads as reads
-use Rattle.texts.proofs.three_at.Lts as lts
-use Rattle.texts.proofs.letter_of_three.Reads as letter-of-three-reads
 
--- src/lib.rt:289:21
 shared-slice-read-letter-of-three : tie.Need-shared-slice-read-letter-of-three
 shared-slice-read-letter-of-three c = search needs
 
--- src/lib.rt:289:35
 add-letter-of-three : tie.Need-add-letter-of-three
 add-letter-of-three c = search needs
 
--- src/lib.rt:289:30
 shared-slice-read-letter-of-three-2 : tie.Need-shared-slice-read-letter-of-three-2
 shared-slice-read-letter-of-three-2 c = search needs
 
--- src/lib.rt:289:48
 add-letter-of-three-2 : tie.Need-add-letter-of-three-2
 add-letter-of-three-2 c = search needs
 
--- src/lib.rt:289:43
 shared-slice-read-letter-of-three-3 : tie.Need-shared-slice-read-letter-of-three-3
 shared-slice-read-letter-of-three-3 c = search needs
 
--- src/lib.rt:289:5
 letter-of-three-requires : tie.Need-letter-of-three-requires
 letter-of-three-requires c κs = search needs
 
--- src/lib.rt:285:1
 returns : tie.Need-returns
 returns c t = plain-three-bytes _ _ (omega arith) (c .letter-of-three .ensures t)
 

@@ -3,14 +3,10 @@ use Prim.Native.Nat.{_-_}
 use lib.ListN.{length}
 use native.Mathlib.Omega.{arith}
 use Rattle.texts.specs.Letters.{Plain}
-use borrow.Author.Needs.{needs}
 use borrow.Author.Tests.{not-false}
 use Rattle.texts.proofs.Runs.{plain-begin, plain-on, plain-six}
 use Rattle.texts.proofs.threes_end.Statement.{statement}
 use Rattle.texts.proofs.threes_end.Tie as tie
-use Rattle.texts.proofs.threes_end.Reads as reads
-use Rattle.texts.proofs.threes_end.Lts as lts
-use Rattle.texts.proofs.three_at.Reads as three-at-reads
 
 abbrev Inv-loop : tie.InvT-loop
 Inv-loop text start i₀ i = Plain text start i
@@ -18,71 +14,54 @@ Inv-loop text start i₀ i = Plain text start i
 abbrev μ-loop : tie.MeasureT-loop
 μ-loop text start i₀ i = length text - i
 
--- src/lib.rt:298:5
 loop-holds : tie.Need-loop-holds Inv-loop μ-loop
 loop-holds c = plain-begin _ _ (c .before .pre)
 
--- src/lib.rt:298:16
 sub-loop : tie.Need-sub-loop Inv-loop μ-loop
 sub-loop c = c .loop .inv .to
 
--- src/lib.rt:299:13
 three-at-requires : tie.Need-three-at-requires Inv-loop μ-loop
 three-at-requires c κs = omega arith
 
--- src/lib.rt:300:13
 returns : tie.Need-returns Inv-loop μ-loop
 returns c = c .before .before .before .loop .inv
 
--- src/lib.rt:302:28
 add-three-at : tie.Need-add-three-at Inv-loop μ-loop
 add-three-at c = omega arith
 
--- src/lib.rt:302:13
 three-at-requires-2 : tie.Need-three-at-requires-2 Inv-loop μ-loop
 three-at-requires-2 c κs = omega arith
 
--- src/lib.rt:303:20
 add-result : tie.Need-add-result Inv-loop μ-loop
 add-result c = omega arith
 
--- src/lib.rt:303:13
 returns-2 : tie.Need-returns-2 Inv-loop μ-loop
 returns-2 c = plain-on _ _ _ _ (c .before .before .before .before .before .loop .inv) (c .before .before .before .three-at .ensures (not-false _ (c .before .before .if1 .left)))
 
--- src/lib.rt:305:9
 add-i : tie.Need-add-i Inv-loop μ-loop
 add-i c = omega arith
 
--- src/lib.rt:298:5
 loop-less : tie.Need-loop-less Inv-loop μ-loop
 loop-less c = omega arith
 
--- src/lib.rt:298:5
 loop-again : tie.Need-loop-again Inv-loop μ-loop
 loop-again c = plain-six _ _ _ (plain-on _ _ _ _ (c .before .before .before .before .before .loop .inv) (c .before .before .before .three-at .ensures (not-false _ (c .before .before .if1 .left)))) (c .before .three-at2 .ensures (not-false _ (c .if2 .left)))
 
--- src/lib.rt:307:8
 sub-if3 : tie.Need-sub-if3 Inv-loop μ-loop
 sub-if3 c = c .before .loop .inv .to
 
--- src/lib.rt:308:9
 returns-3 : tie.Need-returns-3 Inv-loop μ-loop
 returns-3 c = c .before .before .loop .inv
 
--- src/lib.rt:310:8
 three-at-requires-3 : tie.Need-three-at-requires-3 Inv-loop μ-loop
 three-at-requires-3 c κs = omega arith
 
--- src/lib.rt:311:16
 add-result-2 : tie.Need-add-result-2 Inv-loop μ-loop
 add-result-2 c = omega arith
 
--- src/lib.rt:311:9
 returns-4 : tie.Need-returns-4 Inv-loop μ-loop
 returns-4 c = plain-on _ _ _ _ (c .before .before .before .before .loop .inv) (c .before .three-at3 .ensures (c .if4 .taken))
 
--- src/lib.rt:293:1
 returns-5 : tie.Need-returns-5 Inv-loop μ-loop
 returns-5 c = c .before .before .before .before .loop .inv
 

@@ -6,72 +6,52 @@ use native.Mathlib.Omega.{arith}
 use borrow.Author.Needs.{needs}
 use Rattle.texts.proofs.wanted_end.Statement.{statement}
 use Rattle.texts.proofs.wanted_end.Tie as tie
-use Rattle.texts.proofs.wanted_end.Reads as reads
-use Rattle.texts.proofs.wanted_end.Lts as lts
-use Rattle.texts.proofs.first_byte.Reads as first-byte-reads
-use Rattle.texts.proofs.inside.Reads as inside-reads
 
--- src/lib.rt:313:8
 sub-if1 : tie.Need-sub-if1
 sub-if1 c = search needs
 
--- src/lib.rt:314:9
 returns : tie.Need-returns
 returns c = search needs
 
--- src/lib.rt:316:17
 shared-slice-read-first : tie.Need-shared-slice-read-first
 shared-slice-read-first c = search needs
 
--- src/lib.rt:317:23
 add-second : tie.Need-add-second
 add-second c = search needs
 
--- src/lib.rt:317:18
 shared-slice-read-second : tie.Need-shared-slice-read-second
 shared-slice-read-second c = search needs
 
--- src/lib.rt:319:9
 returns-2 : tie.Need-returns-2
 returns-2 c = search needs
 
--- src/lib.rt:322:9
 returns-3 : tie.Need-returns-3
 returns-3 c = search needs
 
--- src/lib.rt:324:9
 first-byte-requires : tie.Need-first-byte-requires
 first-byte-requires c κs = search needs
 
--- src/lib.rt:326:9
 returns-4 : tie.Need-returns-4
 returns-4 c = search needs
 
--- src/lib.rt:329:9
 returns-5 : tie.Need-returns-5
 returns-5 c = search needs
 
--- src/lib.rt:331:21
 add-inside : tie.Need-add-inside
 add-inside c = search needs
 
--- src/lib.rt:331:16
 shared-slice-read-inside : tie.Need-shared-slice-read-inside
 shared-slice-read-inside c = search needs
 
--- src/lib.rt:331:9
 inside-requires : tie.Need-inside-requires
 inside-requires c κs = search needs
 
--- src/lib.rt:332:9
 returns-6 : tie.Need-returns-6
 returns-6 c = search needs
 
--- src/lib.rt:335:16
 add-result : tie.Need-add-result
 add-result c = search needs
 
--- src/lib.rt:335:9
 returns-7 : tie.Need-returns-7
 returns-7 c =
     wanted-three _ _ (wantedOf (c .before .before .before .before .before .before .before .before .before .first-byte .result)) (omega
@@ -85,31 +65,24 @@ returns-7 c =
     })
     (c .if7 .taken) (c .before .before .before .inside .ensures (not-false _ (c .before .before .if6 .left)))
 
--- src/lib.rt:338:9
 returns-8 : tie.Need-returns-8
 returns-8 c = search needs
 
--- src/lib.rt:340:21
 add-inside-2 : tie.Need-add-inside-2
 add-inside-2 c = search needs
 
--- src/lib.rt:340:16
 shared-slice-read-inside-2 : tie.Need-shared-slice-read-inside-2
 shared-slice-read-inside-2 c = search needs
 
--- src/lib.rt:340:9
 inside-requires-2 : tie.Need-inside-requires-2
 inside-requires-2 c κs = search needs
 
--- src/lib.rt:341:9
 returns-9 : tie.Need-returns-9
 returns-9 c = search needs
 
--- src/lib.rt:343:5
 add-result-2 : tie.Need-add-result-2
 add-result-2 c = search needs
 
--- src/lib.rt:309:1
 returns-10 : tie.Need-returns-10
 returns-10 c =
     wanted-four _ _ (wantedOf (c .before .before .before .before .before .before .before .before .before .before .before .before .before .before .first-byte .result)) (omega

@@ -4,8 +4,6 @@ use borrow.Author.Tests.{eq-eqb, ne-eqb}
 use Rattle.meaning.specs.Padding.{isAlignment}
 use Rattle.utils.proofs.is_alignment.Statement.{statement}
 use Rattle.utils.proofs.is_alignment.Tie as tie
-use Rattle.utils.proofs.is_alignment.Reads as reads
-use Rattle.utils.proofs.is_alignment.Lts as lts
 
 returns : tie.Need-returns
 unfolding isAlignment

@@ -7,13 +7,6 @@ use Rattle.utils.proofs.Masks.{isAlignment-aligns, rounded-up, paddingF
 use borrow.Author.Needs.{needs}
 use Rattle.utils.proofs.padding_for_n_bytes.Statement.{statement}
 use Rattle.utils.proofs.padding_for_n_bytes.Tie as tie
-use Rattle.utils.proofs.padding_for_n_bytes.Reads as reads
-use Rattle.utils.proofs.padding_for_n_bytes.Lts as lts
-use Rattle.utils.proofs.Checked.passed.Reads as passed-reads
-use Rattle.utils.proofs.Checked.failed.Reads as failed-reads
-use Rattle.utils.proofs.is_alignment.Reads as is-alignment-reads
-use Rattle.std.proofs.num.wrapping_add_usize.Reads as wrapping-add-usize-reads
-use Rattle.std.proofs.num.wrapping_sub_usize.Reads as wrapping-sub-usize-reads
 
 is-alignment-requires : tie.Need-is-alignment-requires
 is-alignment-requires c κs = search needs

@@ -3,8 +3,6 @@ use Rattle.utils.proofs.Places.{holds-not, holds-rest}
 use borrow.Author.Needs.{needs}
 use Rattle.utils.proofs.reaches.Statement.{statement}
 use Rattle.utils.proofs.reaches.Tie as tie
-use Rattle.utils.proofs.reaches.Reads as reads
-use Rattle.utils.proofs.reaches.Lts as lts
 
 returns : tie.Need-returns
 returns c = holds-not (c .before .args .part .now) _ _ (c .if1 .taken)

@@ -4,26 +4,19 @@ use Rattle.writer.specs.Answers.{faulty, left, long, full, good}
 use borrow.Author.Needs.{needs}
 use Rattle.writer.proofs.refusal_of.Statement.{statement}
 use Rattle.writer.proofs.refusal_of.Tie as tie
-use Rattle.writer.proofs.refusal_of.Reads as reads
-use Rattle.writer.proofs.refusal_of.Lts as lts
 
--- src/lib.rt:87:9
 returns : tie.Need-returns
 returns c = faulty (c .if1 .taken) refl
 
--- src/lib.rt:90:9
 returns-2 : tie.Need-returns-2
 returns-2 c = left (search needs) (c .if2 .taken) refl
 
--- src/lib.rt:93:9
 returns-3 : tie.Need-returns-3
 returns-3 c = long (search needs) (c .before .before .if2 .left) (c .if3 .taken) refl
 
--- src/lib.rt:96:9
 returns-4 : tie.Need-returns-4
 returns-4 c = full (search needs) (c .before .before .before .before .if2 .left) (c .before .before .if3 .left) (c .if4 .taken) refl
 
--- src/lib.rt:82:1
 returns-5 : tie.Need-returns-5
 returns-5 c = good (search needs) (c .before .before .before .before .if2 .left) (c .before .before .if3 .left) (c .if4 .left) refl
 

@@ -1,31 +1,22 @@
 -- `writer::whole` meets its contract. Assumes nothing.
 use native.Mathlib.Omega.{arith}
-use mathlib.Core.Path.{refl, ap, sym, _∙_}
+use mathlib.Core.Path.{refl, ap}
 use Rattle.signature.proofs.TreeLaws.{described-as, front, front-described}
 use Rattle.signature.specs.declared.shapes.Shape.{Shape}
 use Rattle.writer.proofs.Frames.{start-shallow, whole-done}
 use borrow.Author.Needs.{needs}
 use Rattle.writer.proofs.whole.Statement.{statement}
 use Rattle.writer.proofs.whole.Tie as tie
-use Rattle.writer.proofs.whole.Reads as reads
-use Rattle.writer.proofs.whole.Lts as lts
-use Rattle.container_depths.proofs.ContainerDepths.new.Reads as new-reads
-use Rattle.signature.proofs.shapes.shape_in.Reads as shape-in-reads
-use Rattle.writer_cycle.proofs.value.Reads as value-reads
 
--- src/lib.rt:79:9
 new-requires : tie.Need-new-requires
 new-requires c κs = search needs
 
--- src/lib.rt:81:9
 shape-in-requires : tie.Need-shape-in-requires
 shape-in-requires c κs = search needs
 
--- src/lib.rt:96:9
 slice-aggregate-value : tie.Need-slice-aggregate-value
 slice-aggregate-value c = search needs
 
--- src/lib.rt:87:5
 value-requires : tie.Need-value-requires
 value-requires c κs =
     let at-shape-in = c .before .before in
@@ -33,11 +24,9 @@ value-requires c κs =
     let start = at-new .before .before .before .before .before .before in
     (described-as (at-shape-in .shape-in .ensures) (front-described _ _ (start .pre .1) (front _ (start .pre .0))), start-shallow _ _ (at-new .new .ensures), record { within = omega arith; near = omega arith; few = omega arith })
 
--- src/lib.rt:67:1
 same-length : tie.Need-same-length
 same-length c = search needs
 
--- src/lib.rt:67:1
 returns : tie.Need-returns
 returns c = whole-done _ _ _ _ _ _ _ _ _ _ _ (c .before .before .before .before .before .before .before .new .ensures) (ap (λ (s : Shape). s .at) (c .before .before .before .before .before .before .shape-in .ensures)) refl (c .before .before .before .value .ensures)
 

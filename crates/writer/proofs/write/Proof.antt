@@ -7,76 +7,55 @@ use Rattle.writer.proofs.Frames.{write-untyped}
 use borrow.Author.Needs.{needs}
 use Rattle.writer.proofs.write.Statement.{statement}
 use Rattle.writer.proofs.write.Tie as tie
-use Rattle.writer.proofs.write.Reads as reads
-use Rattle.writer.proofs.write.Lts as lts
-use Rattle.signature.proofs.shapes.shapes_of.Reads as shapes-of-reads
-use Rattle.writer.proofs.in_one_walk.Reads as in-one-walk-reads
-use Rattle.writer.proofs.unwritten.Reads as unwritten-reads
-use Rattle.writer.proofs.write_by_walks.Reads as write-by-walks-reads
 
--- src/lib.rt:41:30
 slice-aggregate-shapes-of : tie.Need-slice-aggregate-shapes-of
 slice-aggregate-shapes-of c = search needs
 
--- src/lib.rt:41:9
 shapes-of-requires : tie.Need-shapes-of-requires
 shapes-of-requires c κs = search needs
 
--- src/lib.rt:42:9
 unwritten-requires : tie.Need-unwritten-requires
 unwritten-requires c κs = search needs
 
--- src/lib.rt:42:9
 returns : tie.Need-returns
 returns c = rw (c .unwritten .ensures) (write-untyped _ _ _ _ _ (table-refused _ _ _ _ refl (c .before .before .before .shapes-of .ensures) (not-true _ (c .before .if1 .taken))))
 
--- src/lib.rt:44:8
 in-one-walk-requires : tie.Need-in-one-walk-requires
 in-one-walk-requires c κs = search needs
 
--- src/lib.rt:46:42
 slice-aggregate-write-by-walks : tie.Need-slice-aggregate-write-by-walks
 slice-aggregate-write-by-walks c = search needs
 
--- src/lib.rt:46:71
 slice-aggregate-write-by-walks-2 : tie.Need-slice-aggregate-write-by-walks-2
 slice-aggregate-write-by-walks-2 c = search needs
 
--- src/lib.rt:46:9
 write-by-walks-requires : tie.Need-write-by-walks-requires
 write-by-walks-requires c κs =
     let at-shapes-of = c .before .before .before .before .before .before .before in
     let good = not-false _ (c .before .before .before .before .before .if1 .left) in
     (table-type _ _ _ _ refl (at-shapes-of .shapes-of .ensures) good, table-filled _ _ _ _ refl (at-shapes-of .shapes-of .ensures) (at-shapes-of .shapes-of .kept .1 .0) good, omega arith)
 
--- src/lib.rt:46:9
 same-length : tie.Need-same-length
 same-length c = search needs
 
--- src/lib.rt:46:9
 returns-2 : tie.Need-returns-2
 returns-2 c = search needs
 
--- src/lib.rt:49:31
 slice-aggregate-write-by-walks-3 : tie.Need-slice-aggregate-write-by-walks-3
 slice-aggregate-write-by-walks-3 c = search needs
 
--- src/lib.rt:49:60
 slice-aggregate-write-by-walks-4 : tie.Need-slice-aggregate-write-by-walks-4
 slice-aggregate-write-by-walks-4 c = search needs
 
--- src/lib.rt:49:5
 write-by-walks-requires-2 : tie.Need-write-by-walks-requires-2
 write-by-walks-requires-2 c κs =
     let at-shapes-of = c .before .before .before .before .before .before .before in
     let good = not-false _ (c .before .before .before .before .before .if1 .left) in
     (table-type _ _ _ _ refl (at-shapes-of .shapes-of .ensures) good, table-filled _ _ _ _ refl (at-shapes-of .shapes-of .ensures) (at-shapes-of .shapes-of .kept .1 .0) good, omega arith)
 
--- src/lib.rt:36:1
 same-length-2 : tie.Need-same-length-2
 same-length-2 c = search needs
 
--- src/lib.rt:36:1
 returns-3 : tie.Need-returns-3
 returns-3 c = search needs
 

@@ -5,82 +5,58 @@ use Rattle.writer_store.proofs.Puts.{overlap}
 use borrow.Author.Needs.{needs}
 use Rattle.writer_store.proofs.copy_all.Statement.{statement}
 use Rattle.writer_store.proofs.copy_all.Tie as tie
-use Rattle.writer_store.proofs.copy_all.Reads as reads
-use Rattle.writer_store.proofs.copy_all.Lts as lts
-use Rattle.writer_store.proofs.copy.Reads as copy-reads
-use Rattle.writer_store.proofs.copy_eight.Reads as copy-eight-reads
-use Rattle.writer_store.proofs.copy_few.Reads as copy-few-reads
-use Rattle.writer_store.proofs.copy_four.Reads as copy-four-reads
 
--- src/lib.rt:228:9
 copy-requires : tie.Need-copy-requires
 copy-requires c κs = search needs
 
--- src/lib.rt:229:9
 same-length : tie.Need-same-length
 same-length c = search needs
 
--- src/lib.rt:229:9
 returns : tie.Need-returns
 returns c = search needs
 
--- src/lib.rt:232:20
 sub-last : tie.Need-sub-last
 sub-last c = search needs
 
--- src/lib.rt:233:9
 copy-eight-requires : tie.Need-copy-eight-requires
 copy-eight-requires c κs = search needs
 
--- src/lib.rt:234:25
 add-copy-eight : tie.Need-add-copy-eight
 add-copy-eight c = search needs
 
--- src/lib.rt:234:9
 copy-eight-requires-2 : tie.Need-copy-eight-requires-2
 copy-eight-requires-2 c κs = search needs
 
--- src/lib.rt:235:9
 same-length-2 : tie.Need-same-length-2
 same-length-2 c = search needs
 
--- src/lib.rt:235:9
 returns-2 : tie.Need-returns-2
 returns-2 c = c .before .before .copy-eight2 .ensures ∙ rw (c .before .before .before .before .before .before .copy-eight .ensures) (overlap _ _ _ _ 8 (omega arith) (omega arith))
 
--- src/lib.rt:238:20
 sub-last-2 : tie.Need-sub-last-2
 sub-last-2 c = search needs
 
--- src/lib.rt:239:9
 copy-four-requires : tie.Need-copy-four-requires
 copy-four-requires c κs = search needs
 
--- src/lib.rt:240:24
 add-copy-four : tie.Need-add-copy-four
 add-copy-four c = search needs
 
--- src/lib.rt:240:9
 copy-four-requires-2 : tie.Need-copy-four-requires-2
 copy-four-requires-2 c κs = search needs
 
--- src/lib.rt:241:9
 same-length-3 : tie.Need-same-length-3
 same-length-3 c = search needs
 
--- src/lib.rt:241:9
 returns-3 : tie.Need-returns-3
 returns-3 c = c .before .before .copy-four2 .ensures ∙ rw (c .before .before .before .before .before .before .copy-four .ensures) (overlap _ _ _ _ 4 (omega arith) (omega arith))
 
--- src/lib.rt:243:5
 copy-few-requires : tie.Need-copy-few-requires
 copy-few-requires c κs = search needs
 
--- src/lib.rt:223:1
 same-length-4 : tie.Need-same-length-4
 same-length-4 c = search needs
 
--- src/lib.rt:223:1
 returns-4 : tie.Need-returns-4
 returns-4 c = search needs
 

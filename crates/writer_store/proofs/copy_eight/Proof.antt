@@ -6,134 +6,100 @@ use lib.ListN.{length-set}
 use Rattle.writer_store.proofs.Puts.{eight}
 use Rattle.writer_store.proofs.copy_eight.Statement.{statement}
 use Rattle.writer_store.proofs.copy_eight.Tie as tie
-use Rattle.writer_store.proofs.copy_eight.Reads as reads
-use Rattle.writer_store.proofs.copy_eight.Lts as lts
 
--- src/lib.rt:177:17
 shared-slice-read-first : tie.Need-shared-slice-read-first
 shared-slice-read-first c = search needs
 
--- src/lib.rt:178:23
 add-second : tie.Need-add-second
 add-second c = search needs
 
--- src/lib.rt:178:18
 shared-slice-read-second : tie.Need-shared-slice-read-second
 shared-slice-read-second c = search needs
 
--- src/lib.rt:179:22
 add-third : tie.Need-add-third
 add-third c = search needs
 
--- src/lib.rt:179:17
 shared-slice-read-third : tie.Need-shared-slice-read-third
 shared-slice-read-third c = search needs
 
--- src/lib.rt:180:23
 add-fourth : tie.Need-add-fourth
 add-fourth c = search needs
 
--- src/lib.rt:180:18
 shared-slice-read-fourth : tie.Need-shared-slice-read-fourth
 shared-slice-read-fourth c = search needs
 
--- src/lib.rt:181:22
 add-fifth : tie.Need-add-fifth
 add-fifth c = search needs
 
--- src/lib.rt:181:17
 shared-slice-read-fifth : tie.Need-shared-slice-read-fifth
 shared-slice-read-fifth c = search needs
 
--- src/lib.rt:182:22
 add-sixth : tie.Need-add-sixth
 add-sixth c = search needs
 
--- src/lib.rt:182:17
 shared-slice-read-sixth : tie.Need-shared-slice-read-sixth
 shared-slice-read-sixth c = search needs
 
--- src/lib.rt:183:24
 add-seventh : tie.Need-add-seventh
 add-seventh c = search needs
 
--- src/lib.rt:183:19
 shared-slice-read-seventh : tie.Need-shared-slice-read-seventh
 shared-slice-read-seventh c = search needs
 
--- src/lib.rt:184:23
 add-eighth : tie.Need-add-eighth
 add-eighth c = search needs
 
--- src/lib.rt:184:18
 shared-slice-read-eighth : tie.Need-shared-slice-read-eighth
 shared-slice-read-eighth c = search needs
 
--- src/lib.rt:185:5
 slice-write-out : tie.Need-slice-write-out
 slice-write-out c = search needs
 
--- src/lib.rt:186:9
 add-out : tie.Need-add-out
 add-out c = search needs
 
--- src/lib.rt:186:5
 slice-write-out-2 : tie.Need-slice-write-out-2
 slice-write-out-2 c = simp length-set (omega arith)
 
--- src/lib.rt:187:9
 add-out-2 : tie.Need-add-out-2
 add-out-2 c = search needs
 
--- src/lib.rt:187:5
 slice-write-out-3 : tie.Need-slice-write-out-3
 slice-write-out-3 c = simp length-set (omega arith)
 
--- src/lib.rt:188:9
 add-out-3 : tie.Need-add-out-3
 add-out-3 c = search needs
 
--- src/lib.rt:188:5
 slice-write-out-4 : tie.Need-slice-write-out-4
 slice-write-out-4 c = simp length-set (omega arith)
 
--- src/lib.rt:189:9
 add-out-4 : tie.Need-add-out-4
 add-out-4 c = search needs
 
--- src/lib.rt:189:5
 slice-write-out-5 : tie.Need-slice-write-out-5
 slice-write-out-5 c = simp length-set (omega arith)
 
--- src/lib.rt:190:9
 add-out-5 : tie.Need-add-out-5
 add-out-5 c = search needs
 
--- src/lib.rt:190:5
 slice-write-out-6 : tie.Need-slice-write-out-6
 slice-write-out-6 c = simp length-set (omega arith)
 
--- src/lib.rt:191:9
 add-out-6 : tie.Need-add-out-6
 add-out-6 c = search needs
 
--- src/lib.rt:191:5
 slice-write-out-7 : tie.Need-slice-write-out-7
 slice-write-out-7 c = simp length-set (omega arith)
 
--- src/lib.rt:192:9
 add-out-7 : tie.Need-add-out-7
 add-out-7 c = search needs
 
--- src/lib.rt:192:5
 slice-write-out-8 : tie.Need-slice-write-out-8
 slice-write-out-8 c = simp length-set (omega arith)
 
--- src/lib.rt:173:1
 same-length : tie.Need-same-length
 same-length c = simp length-set
 
--- src/lib.rt:173:1
 returns : tie.Need-returns
 returns c = sym (eight _ _ _ _ (c .before .before .before .before .before .before .before .before .pre .1))
 

@@ -5,51 +5,37 @@ use Rattle.writer_store.proofs.Puts.{overlap, puts-empty, puts-one}
 use borrow.Author.Needs.{needs}
 use Rattle.writer_store.proofs.copy_few.Statement.{statement}
 use Rattle.writer_store.proofs.copy_few.Tie as tie
-use Rattle.writer_store.proofs.copy_few.Reads as reads
-use Rattle.writer_store.proofs.copy_few.Lts as lts
-use Rattle.writer_store.proofs.copy_two.Reads as copy-two-reads
 
--- src/lib.rt:211:9
 returns : tie.Need-returns
 returns c = puts-empty _ _ _ (c .if1 .taken)
 
--- src/lib.rt:214:19
 shared-slice-read-out : tie.Need-shared-slice-read-out
 shared-slice-read-out c = search needs
 
--- src/lib.rt:214:9
 slice-write-out : tie.Need-slice-write-out
 slice-write-out c = search needs
 
--- src/lib.rt:215:9
 same-length : tie.Need-same-length
 same-length c = search needs
 
--- src/lib.rt:215:9
 returns-2 : tie.Need-returns-2
 returns-2 c = puts-one _ _ _ (c .before .if2 .taken)
 
--- src/lib.rt:217:16
 sub-last : tie.Need-sub-last
 sub-last c = search needs
 
--- src/lib.rt:218:5
 copy-two-requires : tie.Need-copy-two-requires
 copy-two-requires c κs = search needs
 
--- src/lib.rt:219:19
 add-copy-two : tie.Need-add-copy-two
 add-copy-two c = search needs
 
--- src/lib.rt:219:5
 copy-two-requires-2 : tie.Need-copy-two-requires-2
 copy-two-requires-2 c κs = search needs
 
--- src/lib.rt:206:1
 same-length-2 : tie.Need-same-length-2
 same-length-2 c = search needs
 
--- src/lib.rt:206:1
 returns-3 : tie.Need-returns-3
 returns-3 c = c .before .before .copy-two2 .ensures ∙ rw (c .before .before .before .before .before .before .copy-two .ensures) (overlap _ _ _ _ 2 (omega arith) (omega arith))
 

@@ -6,70 +6,52 @@ use lib.ListN.{length-set}
 use Rattle.writer_store.proofs.Puts.{four}
 use Rattle.writer_store.proofs.copy_four.Statement.{statement}
 use Rattle.writer_store.proofs.copy_four.Tie as tie
-use Rattle.writer_store.proofs.copy_four.Reads as reads
-use Rattle.writer_store.proofs.copy_four.Lts as lts
 
--- src/lib.rt:163:17
 shared-slice-read-first : tie.Need-shared-slice-read-first
 shared-slice-read-first c = search needs
 
--- src/lib.rt:164:23
 add-second : tie.Need-add-second
 add-second c = search needs
 
--- src/lib.rt:164:18
 shared-slice-read-second : tie.Need-shared-slice-read-second
 shared-slice-read-second c = search needs
 
--- src/lib.rt:165:22
 add-third : tie.Need-add-third
 add-third c = search needs
 
--- src/lib.rt:165:17
 shared-slice-read-third : tie.Need-shared-slice-read-third
 shared-slice-read-third c = search needs
 
--- src/lib.rt:166:23
 add-fourth : tie.Need-add-fourth
 add-fourth c = search needs
 
--- src/lib.rt:166:18
 shared-slice-read-fourth : tie.Need-shared-slice-read-fourth
 shared-slice-read-fourth c = search needs
 
--- src/lib.rt:167:5
 slice-write-out : tie.Need-slice-write-out
 slice-write-out c = search needs
 
--- src/lib.rt:168:9
 add-out : tie.Need-add-out
 add-out c = search needs
 
--- src/lib.rt:168:5
 slice-write-out-2 : tie.Need-slice-write-out-2
 slice-write-out-2 c = simp length-set (omega arith)
 
--- src/lib.rt:169:9
 add-out-2 : tie.Need-add-out-2
 add-out-2 c = search needs
 
--- src/lib.rt:169:5
 slice-write-out-3 : tie.Need-slice-write-out-3
 slice-write-out-3 c = simp length-set (omega arith)
 
--- src/lib.rt:170:9
 add-out-3 : tie.Need-add-out-3
 add-out-3 c = search needs
 
--- src/lib.rt:170:5
 slice-write-out-4 : tie.Need-slice-write-out-4
 slice-write-out-4 c = simp length-set (omega arith)
 
--- src/lib.rt:159:1
 same-length : tie.Need-same-length
 same-length c = search needs
 
--- src/lib.rt:159:1
 returns : tie.Need-returns
 returns c = sym (four _ _ _ _ (c .before .before .before .before .pre .1))
 

@@ -10,11 +10,6 @@ use Rattle.writer_store.specs.Stores.{puts}
 use Rattle.writer_store.proofs.Puts.{bytes-step, bytes-end, bytes-two}
 use Rattle.writer_store.proofs.digits.Statement.{statement}
 use Rattle.writer_store.proofs.digits.Tie as tie
-use Rattle.writer_store.proofs.digits.Reads as reads
-use Rattle.writer_store.proofs.digits.Lts as lts
-use Rattle.writer_store.proofs.low.Reads as low-reads
-use Rattle.writer_store.proofs.put.Reads as put-reads
-use Rattle.writer_store.proofs.takes_two.Reads as takes-two-reads
 
 abbrev Inv-loop : tie.InvT-loop
 Inv-loop out₀ at width x i₀ y₀ out i y = (i ≤ width) × ((length out ≡ length out₀) × (puts out (at + i) (bytes (width - i) y) ≡ puts out₀ at (bytes width x)))
@@ -46,31 +41,24 @@ same-length c = simp length-set
 returns : tie.Need-returns Inv-loop μ-loop
 returns c = rw (c .before .before .before .takes-two .ensures (c .before .before .if1 .taken) .0, c .before .low .ensures, c .low2 .ensures) (sym (bytes-two _ _ _))
 
--- src/lib.rt:81:5
 loop-holds : tie.Need-loop-holds Inv-loop μ-loop
 loop-holds c = (omega arith, (refl, simp (add-zero, sub-zero)))
 
--- src/lib.rt:82:18
 add-put : tie.Need-add-put Inv-loop μ-loop
 add-put c = omega arith
 
--- src/lib.rt:82:26
 low-requires-3 : tie.Need-low-requires-3 Inv-loop μ-loop
 low-requires-3 c κs = search needs
 
--- src/lib.rt:82:9
 put-requires : tie.Need-put-requires Inv-loop μ-loop
 put-requires c κs = search needs
 
--- src/lib.rt:84:13
 add-i : tie.Need-add-i Inv-loop μ-loop
 add-i c = omega arith
 
--- src/lib.rt:81:5
 loop-less : tie.Need-loop-less Inv-loop μ-loop
 loop-less c = omega arith
 
--- src/lib.rt:81:5
 loop-again : tie.Need-loop-again Inv-loop μ-loop
 loop-again c =
     let at-put = c .before .before in
@@ -78,11 +66,9 @@ loop-again c =
     let at-loop = at-low3 .before .before .before in
     (omega arith, (simp (at-put .put .ensures, length-set) (at-loop .loop .inv .1 .0), simp (at-put .put .ensures, at-low3 .low3 .ensures) (sym (bytes-step _ _ _ _ _ (omega arith)) ∙ at-loop .loop .inv .1 .1)))
 
--- src/lib.rt:75:1
 same-length-2 : tie.Need-same-length-2 Inv-loop μ-loop
 same-length-2 c = omega arith
 
--- src/lib.rt:75:1
 returns-2 : tie.Need-returns-2 Inv-loop μ-loop
 returns-2 c = sym (bytes-end _ _ _ _ _ (omega arith)) ∙ c .before .loop .inv .1 .1
 

@@ -1,7 +1,7 @@
 -- `writer_store::turned` meets its contract. Assumes nothing.
 use native.Mathlib.Omega.{arith}
 use borrow.Author.Needs.{needs}
-use Prim.Native.Nat.{_+_, _-_, _≤_}
+use Prim.Native.Nat.{_-_, _≤_}
 use mathlib.Core.Path.{_≡_, sym, _∙_, refl}
 use mathlib.Core.List.{reverse}
 use lib.ListN.{length, length-set}
@@ -10,10 +10,6 @@ use Rattle.writer_store.specs.Stores.{puts}
 use Rattle.writer_store.proofs.Puts.{turned-step, turned-end}
 use Rattle.writer_store.proofs.turned.Statement.{statement}
 use Rattle.writer_store.proofs.turned.Tie as tie
-use Rattle.writer_store.proofs.turned.Reads as reads
-use Rattle.writer_store.proofs.turned.Lts as lts
-use Rattle.writer_store.proofs.low.Reads as low-reads
-use Rattle.writer_store.proofs.put.Reads as put-reads
 
 abbrev Inv-loop : tie.InvT-loop
 Inv-loop out₀ at width x i₀ y₀ out i y = (i ≤ width) × ((length out ≡ length out₀) × (puts out at (reverse (bytes i y)) ≡ puts out₀ at (reverse (bytes width x))))
@@ -21,31 +17,24 @@ Inv-loop out₀ at width x i₀ y₀ out i y = (i ≤ width) × ((length out ≡
 abbrev μ-loop : tie.MeasureT-loop
 μ-loop out₀ at width x i₀ y₀ out i y = i
 
--- src/lib.rt:95:5
 loop-holds : tie.Need-loop-holds Inv-loop μ-loop
 loop-holds c = (omega arith, (refl, refl))
 
--- src/lib.rt:96:13
 sub-i : tie.Need-sub-i Inv-loop μ-loop
 sub-i c = omega arith
 
--- src/lib.rt:97:18
 add-put : tie.Need-add-put Inv-loop μ-loop
 add-put c = omega arith
 
--- src/lib.rt:97:26
 low-requires : tie.Need-low-requires Inv-loop μ-loop
 low-requires c κs = search needs
 
--- src/lib.rt:97:9
 put-requires : tie.Need-put-requires Inv-loop μ-loop
 put-requires c κs = search needs
 
--- src/lib.rt:95:5
 loop-less : tie.Need-loop-less Inv-loop μ-loop
 loop-less c = omega arith
 
--- src/lib.rt:95:5
 loop-again : tie.Need-loop-again Inv-loop μ-loop
 loop-again c =
     let at-put = c .before .before in
@@ -53,11 +42,9 @@ loop-again c =
     let at-loop = at-low .before .before .before in
     (omega arith, (simp (at-put .put .ensures, length-set) (at-loop .loop .inv .1 .0), simp (at-put .put .ensures, at-low .low .ensures) (sym (turned-step _ _ _ _ (omega arith)) ∙ at-loop .loop .inv .1 .1)))
 
--- src/lib.rt:89:1
 same-length : tie.Need-same-length Inv-loop μ-loop
 same-length c = omega arith
 
--- src/lib.rt:89:1
 returns : tie.Need-returns Inv-loop μ-loop
 returns c = sym (turned-end _ _ _ _ (omega arith)) ∙ c .before .loop .inv .1 .1
 

@@ -2,9 +2,6 @@
 use borrow.Author.Needs.{needs}
 use Rattle.container_depths.proofs.ContainerDepths.dec_array.Statement.{statement}
 use Rattle.container_depths.proofs.ContainerDepths.dec_array.Tie as tie
-use Rattle.container_depths.proofs.ContainerDepths.dec_array.Reads as reads
-use Rattle.container_depths.proofs.ContainerDepths.dec_array.Lts as lts
-use Rattle.container_depths.proofs.lowered.Reads as lowered-reads
 
 lowered-requires : tie.Need-lowered-requires
 lowered-requires c κs = search needs

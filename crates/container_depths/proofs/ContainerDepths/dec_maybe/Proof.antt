@@ -2,9 +2,6 @@
 use borrow.Author.Needs.{needs}
 use Rattle.container_depths.proofs.ContainerDepths.dec_maybe.Statement.{statement}
 use Rattle.container_depths.proofs.ContainerDepths.dec_maybe.Tie as tie
-use Rattle.container_depths.proofs.ContainerDepths.dec_maybe.Reads as reads
-use Rattle.container_depths.proofs.ContainerDepths.dec_maybe.Lts as lts
-use Rattle.container_depths.proofs.lowered.Reads as lowered-reads
 
 lowered-requires : tie.Need-lowered-requires
 lowered-requires c κs = search needs

@@ -4,9 +4,6 @@ use Rattle.container_depths.proofs.ContainerDepths.dec_structure.Statem
   statement,
 }
 use Rattle.container_depths.proofs.ContainerDepths.dec_structure.Tie as tie
-use Rattle.container_depths.proofs.ContainerDepths.dec_structure.Reads as reads
-use Rattle.container_depths.proofs.ContainerDepths.dec_structure.Lts as lts
-use Rattle.container_depths.proofs.lowered.Reads as lowered-reads
 
 lowered-requires : tie.Need-lowered-requires
 lowered-requires c κs = search needs

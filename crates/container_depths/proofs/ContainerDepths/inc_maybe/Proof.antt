@@ -3,9 +3,6 @@ use native.Mathlib.Nat.{add-zero}
 use borrow.Author.Needs.{needs}
 use Rattle.container_depths.proofs.ContainerDepths.inc_maybe.Statement.{statement}
 use Rattle.container_depths.proofs.ContainerDepths.inc_maybe.Tie as tie
-use Rattle.container_depths.proofs.ContainerDepths.inc_maybe.Reads as reads
-use Rattle.container_depths.proofs.ContainerDepths.inc_maybe.Lts as lts
-use Rattle.container_depths.proofs.ContainerDepths.raised.Reads as raised-reads
 
 raised-requires : tie.Need-raised-requires
 raised-requires c κs = search needs

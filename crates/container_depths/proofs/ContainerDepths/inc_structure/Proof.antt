@@ -5,9 +5,6 @@ use Rattle.container_depths.proofs.ContainerDepths.inc_structure.Statem
   statement,
 }
 use Rattle.container_depths.proofs.ContainerDepths.inc_structure.Tie as tie
-use Rattle.container_depths.proofs.ContainerDepths.inc_structure.Reads as reads
-use Rattle.container_depths.proofs.ContainerDepths.inc_structure.Lts as lts
-use Rattle.container_depths.proofs.ContainerDepths.raised.Reads as raised-reads
 
 raised-requires : tie.Need-raised-requires
 raised-requires c κs = search needs

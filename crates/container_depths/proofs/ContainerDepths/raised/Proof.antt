@@ -6,10 +6,6 @@ use mathlib.Core.Path.{sym, _∙_}
 use borrow.Author.Needs.{needs}
 use Rattle.container_depths.proofs.ContainerDepths.raised.Statement.{statement}
 use Rattle.container_depths.proofs.ContainerDepths.raised.Tie as tie
-use Rattle.container_depths.proofs.ContainerDepths.raised.Reads as reads
-use Rattle.container_depths.proofs.ContainerDepths.raised.Lts as lts
-use Rattle.container_depths.proofs.check.Reads as check-reads
-use Rattle.container_depths.proofs.wide.Reads as wide-reads
 
 wide-requires : tie.Need-wide-requires
 wide-requires c κs = search needs

@@ -8,32 +8,22 @@ use Rattle.editor_basic.proofs.ElementLaws.{offset-inside, first-of}
 use borrow.Author.Needs.{needs}
 use Rattle.editor_basic.proofs.elements.first_element.Statement.{statement}
 use Rattle.editor_basic.proofs.elements.first_element.Tie as tie
-use Rattle.editor_basic.proofs.elements.first_element.Reads as reads
-use Rattle.editor_basic.proofs.elements.first_element.Lts as lts
-use Rattle.editor_basic.proofs.elements.due.Reads as due-reads
-use Rattle.framing_offset_size.proofs.FramingOffsetSize.width.Reads as width-reads
-use Rattle.strict_basic.proofs.ends.offset_at.Reads as offset-at-reads
 
--- src/elements.rt:54:25
 due-requires : tie.Need-due-requires
 due-requires c κs = search needs
 
--- src/elements.rt:54:17
 add-start : tie.Need-add-start
 add-start c = search needs
 
--- src/elements.rt:56:9
 width-requires : tie.Need-width-requires
 width-requires c κs = search needs
 
--- src/elements.rt:57:9
 offset-at-requires : tie.Need-offset-at-requires
 offset-at-requires c κs =
     let start = c .before .before .before in
     let e = start .args .elements in
     rw (c .width .ensures) (offset-inside e _ (start .pre .0) (start .pre .1), width-aligns (e .size))
 
--- src/elements.rt:49:1
 returns : tie.Need-returns
 returns c =
     let start = c .before .before .before .before in

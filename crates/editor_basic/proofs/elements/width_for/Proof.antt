@@ -4,27 +4,19 @@ use Rattle.editor_basic.proofs.ElementLaws.{written-size, written-none}
 use borrow.Author.Needs.{needs}
 use Rattle.editor_basic.proofs.elements.width_for.Statement.{statement}
 use Rattle.editor_basic.proofs.elements.width_for.Tie as tie
-use Rattle.editor_basic.proofs.elements.width_for.Reads as reads
-use Rattle.editor_basic.proofs.elements.width_for.Lts as lts
-use Rattle.framing_offset_size.proofs.FramingOffsetSize.for_bare_container.Reads as for-bare-container-reads
 
--- src/elements.rt:53:11
 for-bare-container-requires : tie.Need-for-bare-container-requires
 for-bare-container-requires c κs = search needs
 
--- src/elements.rt:54:23
 enum-known-size : tie.Need-enum-known-size
 enum-known-size c = search needs
 
--- src/elements.rt:55:29
 enum-told : tie.Need-enum-told
 enum-told c = search needs
 
--- src/elements.rt:50:1
 returns : tie.Need-returns
 returns c = written-size _ _ _ (sym (c .before .size .given .1)) (c .before .before .before .for-bare-container .ensures .width)
 
--- src/elements.rt:50:1
 returns-2 : tie.Need-returns-2
 returns-2 c = written-none _ _ (sym (c .enum-told .given .1)) (c .before .before .for-bare-container .ensures .width)
 

@@ -9,40 +9,24 @@ use Rattle.editor_basic.proofs.RowLaws.{here-placed, placed-lies, offse
 use borrow.Author.Needs.{needs}
 use Rattle.editor_basic.proofs.fields.first_field.Statement.{statement}
 use Rattle.editor_basic.proofs.fields.first_field.Tie as tie
-use Rattle.editor_basic.proofs.fields.first_field.Reads as reads
-use Rattle.editor_basic.proofs.fields.first_field.Lts as lts
-use Rattle.editor_basic.proofs.fields.field_as.Reads as field-as-reads
-use Rattle.signature.proofs.letter_at.Reads as letter-at-reads
-use Rattle.signature.proofs.shapes.shape_in.Reads as shape-in-reads
-use Rattle.strict_basic.proofs.ends.aligned.Reads as aligned-reads
-use Rattle.strict_basic.proofs.ends.field_end.Reads as field-end-reads
-use Rattle.strict_basic.proofs.ends.last_end.Reads as last-end-reads
-use Rattle.strict_basic.proofs.ends.offsets_left.Reads as offsets-left-reads
-use Rattle.strict_basic.proofs.sizes.extent_in.Reads as extent-in-reads
 
--- src/fields.rt:62:9
 shape-in-requires : tie.Need-shape-in-requires
 shape-in-requires c κs = search needs
 
--- src/fields.rt:63:9
 extent-in-requires : tie.Need-extent-in-requires
 extent-in-requires c κs = (c .before .before .before .before .pre .table .room, placed-at (here-placed _ _ _ _ (c .before .before .before .before .pre) _ (c .shape-in .ensures)))
 
--- src/fields.rt:65:9
 aligned-requires : tie.Need-aligned-requires
 aligned-requires c κs =
     let h = placed-lies (here-placed _ _ _ _ (c .before .before .before .before .before .pre) _ (c .before .shape-in .ensures)) _ (c .extent-in .ensures) in
     (omega (arith, (c .before .before .before .before .before .pre .inside), (c .before .before .before .before .before .pre .short)), h .laid .aligned)
 
--- src/fields.rt:66:9
 letter-at-requires : tie.Need-letter-at-requires
 letter-at-requires c κs = search needs
 
--- src/fields.rt:68:13
 enum-told : tie.Need-enum-told
 enum-told c = search needs
 
--- src/fields.rt:68:13
 last-end-requires : tie.Need-last-end-requires
 last-end-requires c κs =
     let at-extent-in = c .before .before .before .before in
@@ -51,11 +35,9 @@ last-end-requires c κs =
     let h = placed-lies (here-placed _ _ _ _ (start .pre) _ (at-shape-in .shape-in .ensures)) _ (at-extent-in .extent-in .ensures) in
     (omega (arith, (start .pre .inside), (start .pre .short)), h .laid)
 
--- src/fields.rt:69:9
 field-as-requires : tie.Need-field-as-requires
 field-as-requires c κs = search needs
 
--- src/fields.rt:69:9
 returns : tie.Need-returns
 returns c =
     let at-last-end = c .before in
@@ -69,7 +51,6 @@ returns c =
     let f = last-field-of _ _ _ (start .pre .rowed) (start .pre .table .shapes) _ (at-shape-in .shape-in .ensures) _ (at-letter-at .letter-at .ensures) (at-enum-told .enum-told .given .1) in
     rw (c .field-as .ensures) (field-last _ _ _ _ (start .pre) _ (ap (λ s. s .at) (at-shape-in .shape-in .ensures)) _ h _ (at-aligned .aligned .ensures) _ _ f (at-last-end .last-end .ensures))
 
--- src/fields.rt:71:9
 field-end-requires : tie.Need-field-end-requires
 field-end-requires c κs =
     let at-letter-at = c .before in
@@ -81,7 +62,6 @@ field-end-requires c κs =
     let z = start .pre in
     (omega (arith, z .inside, z .short), h .laid, z .end-inside, z .wide, λ q. offset-room _ _ _ _ _ _ (f .fields) (h .same-fixed) (z .room) q)
 
--- src/fields.rt:72:9
 offsets-left-requires : tie.Need-offsets-left-requires
 offsets-left-requires c κs =
     let at-match = c .before in
@@ -93,11 +73,9 @@ offsets-left-requires c κs =
     let f = next-field-of _ _ _ (start .pre .rowed) (start .pre .table .shapes) _ (at-shape-in .shape-in .ensures) _ (at-letter-at .letter-at .ensures) (apart-from CloseStructure _ (at-match .match .keys2)) in
     λ q. offset-room _ _ _ _ _ _ (f .fields) (h .same-fixed) (start .pre .room) q
 
--- src/fields.rt:73:5
 field-as-requires-2 : tie.Need-field-as-requires-2
 field-as-requires-2 c κs = search needs
 
--- src/fields.rt:58:1
 returns-2 : tie.Need-returns-2
 returns-2 c =
     let at-offsets-left = c .before in

@@ -6,29 +6,19 @@ use Rattle.editor_basic.proofs.FinishLaws.{filling, table-most, last-do
 use borrow.Author.Needs.{needs}
 use Rattle.editor_basic.proofs.finisher.finish_last.Statement.{statement}
 use Rattle.editor_basic.proofs.finisher.finish_last.Tie as tie
-use Rattle.editor_basic.proofs.finisher.finish_last.Reads as reads
-use Rattle.editor_basic.proofs.finisher.finish_last.Lts as lts
-use Rattle.editor_basic.proofs.elements.width_for.Reads as width-for-reads
-use Rattle.editor_basic.proofs.finisher.widen.Reads as widen-reads
-use Rattle.framing_offset_size.proofs.FramingOffsetSize.width.Reads as width-reads
 
--- src/finisher.rt:62:18
 sub-count : tie.Need-sub-count
 sub-count c = search needs
 
--- src/finisher.rt:62:17
 div-count : tie.Need-div-count
 div-count c = aligns-positive (c .before .before .pre .2)
 
--- src/finisher.rt:63:9
 width-for-requires : tie.Need-width-for-requires
 width-for-requires c κs = search needs
 
--- src/finisher.rt:64:9
 width-requires : tie.Need-width-requires
 width-requires c κs = search needs
 
--- src/finisher.rt:65:5
 widen-requires : tie.Need-widen-requires
 widen-requires c κs =
     let a = c .before .before .before .before .before .args in
@@ -36,7 +26,6 @@ widen-requires c κs =
     let f = filling (a .old .now) (a .end) (a .narrow) (p .0) (p .1) in
     (f .stand, p .1, p .2, table-most _ _ (c .before .before .width-for .result) (c .before .width .ensures) (f .few) .0, omega (arith, p .3))
 
--- src/finisher.rt:66:10
 mul-result : tie.Need-mul-result
 mul-result c =
     let a = c .before .before .before .before .before .before .before .before .args in
@@ -44,7 +33,6 @@ mul-result c =
     let f = filling (a .old .now) (a .end) (a .narrow) (p .0) (p .1) in
     omega (arith, table-most _ _ (c .before .before .before .before .before .width-for .result) (c .before .before .before .before .width .ensures) (f .few) .1)
 
--- src/finisher.rt:66:5
 add-result : tie.Need-add-result
 add-result c =
     let a = c .before .before .before .before .before .before .before .before .args in
@@ -52,11 +40,9 @@ add-result c =
     let f = filling (a .old .now) (a .end) (a .narrow) (p .0) (p .1) in
     omega (arith, table-most _ _ (c .before .before .before .before .before .width-for .result) (c .before .before .before .before .width .ensures) (f .few) .1, p .3)
 
--- src/finisher.rt:50:1
 same-length : tie.Need-same-length
 same-length c = search needs
 
--- src/finisher.rt:50:1
 returns : tie.Need-returns
 returns c =
     let a = c .before .before .before .before .before .before .before .before .args in

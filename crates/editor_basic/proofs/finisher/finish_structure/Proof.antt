@@ -6,14 +6,6 @@ use Rattle.editor_basic.proofs.FinishLaws.{filling, keptCount, behindCo
 use borrow.Author.Needs.{needs}
 use Rattle.editor_basic.proofs.finisher.finish_structure.Statement.{statement}
 use Rattle.editor_basic.proofs.finisher.finish_structure.Tie as tie
-use Rattle.editor_basic.proofs.finisher.finish_structure.Reads as reads
-use Rattle.editor_basic.proofs.finisher.finish_structure.Lts as lts
-use Rattle.editor_basic.proofs.elements.width_for.Reads as width-for-reads
-use Rattle.editor_basic.proofs.finisher.widen.Reads as widen-reads
-use Rattle.editor_basic.proofs.mover.put_low_first.Reads as put-low-first-reads
-use Rattle.editor_basic.proofs.rewriter.move_fields.Reads as move-fields-reads
-use Rattle.editor_basic.proofs.rewriter.rewrite_field_ends.Reads as rewrite-field-ends-reads
-use Rattle.framing_offset_size.proofs.FramingOffsetSize.width.Reads as width-reads
 
 -- what the sums stay below, once the width is known
 sizes : (c : tie.After-width) → let start = c .before .before .before .before .before .before .before .before .before .before .before .before in
@@ -24,77 +16,60 @@ sizes c =
     let p = start .pre in
     row-sizes _ _ (start .args .rest) (start .args .old .now) _ _ _ _ (c .before .width-for .result) (p .0) (c .width .ensures) (p .3) (c .before .before .before .before .before .before .move-fields .ensures .1 .1)
 
--- src/finisher.rt:84:9
 move-fields-requires : tie.Need-move-fields-requires
 move-fields-requires c κs = search needs
 
--- src/finisher.rt:86:16
 add-from : tie.Need-add-from
 add-from c = search needs
 
--- src/finisher.rt:87:19
 sub-before : tie.Need-sub-before
 sub-before c = search needs
 
--- src/finisher.rt:87:18
 div-before : tie.Need-div-before
 div-before c = aligns-positive (c .before .before .before .before .before .before .before .before .before .pre .0 .wide)
 
--- src/finisher.rt:88:19
 sub-behind : tie.Need-sub-behind
 sub-behind c = search needs
 
--- src/finisher.rt:88:18
 div-behind : tie.Need-div-behind
 div-behind c = aligns-positive (c .before .before .before .before .before .before .before .before .before .before .pre .0 .wide)
 
--- src/finisher.rt:89:27
 add-count : tie.Need-add-count
 add-count c = omega (arith, row-counts _ _ _ _ (c .before .before .before .before .before .before .before .before .before .before .pre .0) .1)
 
--- src/finisher.rt:89:17
 add-count-2 : tie.Need-add-count-2
 add-count-2 c = let n = row-counts _ _ _ _ (c .before .before .before .before .before .before .before .before .before .before .pre .0) in omega (arith, n .0, n .1)
 
--- src/finisher.rt:90:9
 width-for-requires : tie.Need-width-for-requires
 width-for-requires c κs = search needs
 
--- src/finisher.rt:91:9
 width-requires : tie.Need-width-requires
 width-requires c κs = search needs
 
--- src/finisher.rt:92:21
 sub-own : tie.Need-sub-own
 sub-own c = search needs
 
--- src/finisher.rt:92:15
 add-own : tie.Need-add-own
 add-own c = search needs
 
--- src/finisher.rt:92:33
 mul-own : tie.Need-mul-own
 mul-own c =
     let s = sizes c in
     omega (arith, s .early, s .high, s .few-before, s .few-behind, s .slim, s .ends-behind, s .ends-all)
 
--- src/finisher.rt:92:15
 add-own-2 : tie.Need-add-own-2
 add-own-2 c =
     let s = sizes c in
     omega (arith, s .early, s .high, s .few-before, s .few-behind, s .slim, s .ends-behind, s .ends-all)
 
--- src/finisher.rt:93:5
 put-low-first-requires : tie.Need-put-low-first-requires
 put-low-first-requires c κs = search needs
 
--- src/finisher.rt:94:50
 add-widen : tie.Need-add-widen
 add-widen c =
     let s = sizes (c .before .before .before .before .before) in
     omega (arith, s .early, s .high, s .few-before, s .few-behind, s .slim, s .ends-behind, s .ends-all)
 
--- src/finisher.rt:94:5
 widen-requires : tie.Need-widen-requires
 widen-requires c κs =
     let at-width = c .before .before .before .before .before in
@@ -104,30 +79,25 @@ widen-requires c κs =
     let f = filling (start .args .old .now) _ _ (p .1) (p .0 .short) in
     (f .stand, p .0 .short, p .0 .wide, s .slim, omega (arith, s .early, s .high, s .few-before, s .few-behind, s .slim, s .ends-behind, s .ends-all))
 
--- src/finisher.rt:95:5
 rewrite-field-ends-requires : tie.Need-rewrite-field-ends-requires
 rewrite-field-ends-requires c κs =
     let a = c .before .before .before .before .before .before .before .before .before .before .before .before .before .before .before .before .before .before .before .before .before .args in
     let p = c .before .before .before .before .before .before .before .before .before .before .before .before .before .before .before .before .before .before .before .before .before .pre in
     (p .0, omega (arith, p .3), own-room _ (a .rest) (a .old .now) (a .to) _ _ (behind-count _ (a .rest) (a .old .now) (a .to) (p .0 .wide) (p .2)))
 
--- src/finisher.rt:96:11
 mul-result : tie.Need-mul-result
 mul-result c =
     let s = sizes (c .before .before .before .before .before .before .before .before .before .before .before .before) in
     omega (arith, s .early, s .high, s .few-before, s .few-behind, s .slim, s .ends-behind, s .ends-all)
 
--- src/finisher.rt:96:5
 add-result : tie.Need-add-result
 add-result c =
     let s = sizes (c .before .before .before .before .before .before .before .before .before .before .before .before) in
     omega (arith, s .early, s .high, s .few-before, s .few-behind, s .slim, s .ends-behind, s .ends-all)
 
--- src/finisher.rt:70:1
 same-length : tie.Need-same-length
 same-length c = search needs
 
--- src/finisher.rt:70:1
 returns : tie.Need-returns
 returns c =
     let at-widen = c .before .before .before .before .before .before in

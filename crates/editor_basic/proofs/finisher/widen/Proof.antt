@@ -10,10 +10,6 @@ use Rattle.editor_basic.proofs.PutLaws.{over-beyond}
 use Rattle.editor_basic.proofs.FinishLaws.{offsets-room, offsets-few, widen-turn, widen-end}
 use Rattle.editor_basic.proofs.finisher.widen.Statement.{statement}
 use Rattle.editor_basic.proofs.finisher.widen.Tie as tie
-use Rattle.editor_basic.proofs.finisher.widen.Reads as reads
-use Rattle.editor_basic.proofs.finisher.widen.Lts as lts
-use Rattle.editor_basic.proofs.mover.put_low_first.Reads as put-low-first-reads
-use Rattle.strict_basic.proofs.ends.offset_at.Reads as offset-at-reads
 
 abbrev Inv-loop : tie.InvT-loop
 Inv-loop old from count narrow width out₀ at left₀ next₀ place₀ out left next place =
@@ -25,42 +21,33 @@ Inv-loop old from count narrow width out₀ at left₀ next₀ place₀ out left
 abbrev μ-loop : tie.MeasureT-loop
 μ-loop old from count narrow width out₀ at left₀ next₀ place₀ out left next place = left
 
--- src/finisher.rt:34:9
 returns : tie.Need-returns Inv-loop μ-loop
 returns c = sym (over-beyond _ _ _ (c .if1 .taken))
 
--- src/finisher.rt:39:5
 loop-holds : tie.Need-loop-holds Inv-loop μ-loop
 loop-holds c = (refl, c .before .before .before .pre .0, omega arith, refl)
 
--- src/finisher.rt:40:13
 offset-at-requires : tie.Need-offset-at-requires Inv-loop μ-loop
 offset-at-requires c κs = (offsets-room _ _ _ _ (c .loop-test .taken) (c .before .loop .inv .1) .0, c .before .before .before .before .before .pre .2)
 
--- src/finisher.rt:41:9
 put-low-first-requires : tie.Need-put-low-first-requires Inv-loop μ-loop
 put-low-first-requires c κs = search needs
 
--- src/finisher.rt:42:16
 add-next : tie.Need-add-next Inv-loop μ-loop
 add-next c =
     let a = c .before .before .before .before .before .before .before .before .before .before .args in
     let p = c .before .before .before .before .before .before .before .before .before .before .pre in
     omega (arith, c .before .before .before .before .before .before .loop .inv .2, p .1, p .3, p .4, offsets-few (p .2) (a .count) (length (a .old .now)) (omega (arith, p .0)))
 
--- src/finisher.rt:43:17
 add-place : tie.Need-add-place Inv-loop μ-loop
 add-place c = omega (arith, offsets-room _ _ _ _ (c .before .before .before .before .before .loop-test .taken) (c .before .before .before .before .before .before .loop .inv .1) .0, c .before .before .before .before .before .before .before .before .before .before .pre .1)
 
--- src/finisher.rt:44:16
 sub-left : tie.Need-sub-left Inv-loop μ-loop
 sub-left c = omega (arith, c .before .before .before .before .before .loop-test .taken)
 
--- src/finisher.rt:39:5
 loop-less : tie.Need-loop-less Inv-loop μ-loop
 loop-less c = omega (arith, c .before .before .before .before .before .loop-test .taken)
 
--- src/finisher.rt:39:5
 loop-again : tie.Need-loop-again Inv-loop μ-loop
 loop-again c =
     let i = c .before .before .before .before .before .before .loop .inv in
@@ -71,11 +58,9 @@ loop-again c =
       (c .before .before .put-low-first .kept .0) ∙ i .3,
     )
 
--- src/finisher.rt:21:1
 same-length : tie.Need-same-length Inv-loop μ-loop
 same-length c = c .before .loop .inv .3
 
--- src/finisher.rt:21:1
 returns-2 : tie.Need-returns-2 Inv-loop μ-loop
 returns-2 c = widen-end (c .before .before .before .before .before .args .old .now) _ _ (c .before .loop .place) _ _ _ _ (c .before .loop .inv .0) (omega (arith, c .loop-test .left))
 

@@ -1,17 +1,10 @@
 -- `put_high_first` meets its contract.
-use borrow.Author.Needs.{needs}
 use mathlib.Core.Logic.{⊎-elim}
-use mathlib.Core.Path.{_≡_, refl, sym, ap, _∙_}
-use Prim.Native.Nat.{ℕ, _+_, _-_, _%_, _/_, _≤_}
+use Prim.Native.Nat.{_-_, _≤_}
 use native.Mathlib.Omega.{arith}
-use lib.ListN.{length, drop, getD, drop-of-length-le}
-use Rattle.meaning.specs.Padding.{zeros}
-use Rattle.meaning.specs.Numbers.{bytes}
-use Rattle.editor_basic.proofs.PutLaws.{over-both, Putting, putting-begin, putting-next, putting-end, zeros-next, zeros-done, part-next, bytes-next, bytes-done, less-none, Falling, falling-begin, falling-kept, falling-next, falling-past, falling-end}
+use Rattle.editor_basic.proofs.PutLaws.{Falling, falling-begin, falling-kept, falling-next, falling-past, falling-end}
 use Rattle.editor_basic.proofs.mover.put_high_first.Statement.{statement}
 use Rattle.editor_basic.proofs.mover.put_high_first.Tie as tie
-use Rattle.editor_basic.proofs.mover.put_high_first.Reads as reads
-use Rattle.editor_basic.proofs.mover.put_high_first.Lts as lts
 
 abbrev Inv-loop : tie.InvT-loop
 Inv-loop out₀ at width number rest₀ i₀ out rest i = (i ≤ width) × Falling out₀ at width number out i rest
@@ -19,35 +12,27 @@ Inv-loop out₀ at width number rest₀ i₀ out rest i = (i ≤ width) × Falli
 abbrev μ-loop : tie.MeasureT-loop
 μ-loop out₀ at width number rest₀ i₀ out rest i = i
 
--- src/mover.rt:78:5
 loop-holds : tie.Need-loop-holds Inv-loop μ-loop
 loop-holds c = (omega arith, falling-begin _ _ _ _)
 
--- src/mover.rt:79:13
 sub-i : tie.Need-sub-i Inv-loop μ-loop
 sub-i c = omega arith
 
--- src/mover.rt:80:12
 add-if1 : tie.Need-add-if1 Inv-loop μ-loop
 add-if1 c = omega arith
 
--- src/mover.rt:81:27
 cast-out : tie.Need-cast-out Inv-loop μ-loop
 cast-out c = omega arith
 
--- src/mover.rt:81:17
 add-out : tie.Need-add-out Inv-loop μ-loop
 add-out c = omega arith
 
--- src/mover.rt:81:13
 slice-write-out : tie.Need-slice-write-out Inv-loop μ-loop
 slice-write-out c = omega arith
 
--- src/mover.rt:78:5
 loop-less : tie.Need-loop-less Inv-loop μ-loop
 loop-less c = omega arith
 
--- src/mover.rt:78:5
 loop-again : tie.Need-loop-again Inv-loop μ-loop
 loop-again c =
     let at-loop = c .before .before in
@@ -59,11 +44,9 @@ loop-again c =
           (c .if1 .came),
     )
 
--- src/mover.rt:72:1
 same-length : tie.Need-same-length Inv-loop μ-loop
 same-length c = falling-kept _ _ _ _ _ _ _ (c .before .loop .inv .1)
 
--- src/mover.rt:72:1
 returns : tie.Need-returns Inv-loop μ-loop
 returns c = falling-end _ _ _ _ _ _ _ (c .loop-test .left) (c .before .loop .inv .1)
 

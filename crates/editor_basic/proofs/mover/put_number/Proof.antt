@@ -1,30 +1,19 @@
 -- `put_number` meets its contract.
 use mathlib.Core.Bool.{Bool}
-use mathlib.Core.Path.{_≡_, refl, sym, ap, _∙_}
-use Prim.Native.Nat.{ℕ, _+_, _-_, _%_, _/_, _≤_}
-use native.Mathlib.Omega.{arith}
-use lib.ListN.{length, drop, getD, drop-of-length-le}
-use Rattle.meaning.specs.Padding.{zeros}
+use mathlib.Core.Path.{sym, ap, _∙_}
+use Prim.Native.Nat.{_-_}
 use Rattle.meaning.specs.Numbers.{bytes, ordered}
 use Rattle.editor_basic.specs.Puts.{over}
-use Rattle.editor_basic.proofs.PutLaws.{over-both, Putting, putting-begin, putting-next, putting-end, zeros-next, zeros-done, part-next, bytes-next, bytes-done, less-none, Falling, falling-begin, falling-kept, falling-next, falling-past, falling-end}
 use borrow.Author.Needs.{needs}
 use Rattle.editor_basic.proofs.mover.put_number.Statement.{statement}
 use Rattle.editor_basic.proofs.mover.put_number.Tie as tie
-use Rattle.editor_basic.proofs.mover.put_number.Reads as reads
-use Rattle.editor_basic.proofs.mover.put_number.Lts as lts
-use Rattle.editor_basic.proofs.mover.put_high_first.Reads as put-high-first-reads
-use Rattle.editor_basic.proofs.mover.put_low_first.Reads as put-low-first-reads
 
--- src/mover.rt:93:9
 put-high-first-requires : tie.Need-put-high-first-requires
 put-high-first-requires c κs = search needs
 
--- src/mover.rt:94:9
 same-length : tie.Need-same-length
 same-length c = search needs
 
--- src/mover.rt:94:9
 returns : tie.Need-returns
 returns c =
     let at-put-high-first = c .before .before in
@@ -32,15 +21,12 @@ returns c =
     let start = at-if1 .before .before in
     (at-put-high-first .put-high-first .ensures) ∙ ap (λ (b : Bool). over (start .args .out .now) (start .args .at) (ordered b (bytes (start .args .width) (start .args .number)))) (sym (at-if1 .if1 .taken))
 
--- src/mover.rt:96:5
 put-low-first-requires : tie.Need-put-low-first-requires
 put-low-first-requires c κs = search needs
 
--- src/mover.rt:88:1
 same-length-2 : tie.Need-same-length-2
 same-length-2 c = search needs
 
--- src/mover.rt:88:1
 returns-2 : tie.Need-returns-2
 returns-2 c =
     let at-put-low-first = c .before .before in

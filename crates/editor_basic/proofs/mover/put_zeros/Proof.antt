@@ -1,17 +1,12 @@
 -- `put_zeros` meets its contract.
 use borrow.Author.Needs.{needs}
-use mathlib.Core.Path.{_≡_, refl, sym, ap, _∙_}
-use Prim.Native.Nat.{ℕ, _+_, _-_, _%_, _/_, _≤_}
+use mathlib.Core.Path.{ap}
+use Prim.Native.Nat.{_-_, _≤_}
 use native.Mathlib.Omega.{arith}
-use lib.ListN.{length, drop, getD, drop-of-length-le}
 use Rattle.meaning.specs.Padding.{zeros}
-use Rattle.meaning.specs.Numbers.{bytes}
-use Rattle.editor_basic.proofs.PutLaws.{over-both, Putting, putting-begin, putting-next, putting-end, zeros-next, zeros-done, part-next, bytes-next, bytes-done, less-none, Falling, falling-begin, falling-kept, falling-next, falling-past, falling-end}
+use Rattle.editor_basic.proofs.PutLaws.{Putting, putting-begin, putting-next, putting-end, zeros-next, zeros-done, less-none}
 use Rattle.editor_basic.proofs.mover.put_zeros.Statement.{statement}
 use Rattle.editor_basic.proofs.mover.put_zeros.Tie as tie
-use Rattle.editor_basic.proofs.mover.put_zeros.Reads as reads
-use Rattle.editor_basic.proofs.mover.put_zeros.Lts as lts
-use Rattle.editor_basic.proofs.mover.room.Reads as room-reads
 
 abbrev Inv-loop : tie.InvT-loop
 Inv-loop out₀ at count most i₀ out i = (i ≤ most) × Putting out₀ at (zeros count) out i (zeros (count - i))
@@ -19,31 +14,24 @@ Inv-loop out₀ at count most i₀ out i = (i ≤ most) × Putting out₀ at (ze
 abbrev μ-loop : tie.MeasureT-loop
 μ-loop out₀ at count most i₀ out i = most - i
 
--- src/mover.rt:28:9
 room-requires : tie.Need-room-requires Inv-loop μ-loop
 room-requires c κs = search needs
 
--- src/mover.rt:30:5
 loop-holds : tie.Need-loop-holds Inv-loop μ-loop
 loop-holds c = (omega arith, putting-begin _ _ _ _ (ap zeros (less-none (c .before .before .args .count))))
 
--- src/mover.rt:31:13
 add-out : tie.Need-add-out Inv-loop μ-loop
 add-out c = omega (arith, (c .before .before .room .ensures), (c .before .loop .inv .1 .kept))
 
--- src/mover.rt:31:9
 slice-write-out : tie.Need-slice-write-out Inv-loop μ-loop
 slice-write-out c = omega (arith, (c .before .before .room .ensures), (c .before .loop .inv .1 .kept))
 
--- src/mover.rt:32:9
 add-i : tie.Need-add-i Inv-loop μ-loop
 add-i c = omega arith
 
--- src/mover.rt:30:5
 loop-less : tie.Need-loop-less Inv-loop μ-loop
 loop-less c = omega arith
 
--- src/mover.rt:30:5
 loop-again : tie.Need-loop-again Inv-loop μ-loop
 loop-again c =
     let at-loop = c .before in
@@ -51,11 +39,9 @@ loop-again c =
     let start = at-room .before .before in
     (omega arith, putting-next _ _ _ _ _ _ _ _ (at-loop .loop .inv .1) (zeros-next (start .args .count) (at-loop .loop .i) (omega (arith, (at-room .room .ensures)))))
 
--- src/mover.rt:25:1
 same-length : tie.Need-same-length Inv-loop μ-loop
 same-length c = c .before .loop .inv .1 .kept
 
--- src/mover.rt:25:1
 returns : tie.Need-returns Inv-loop μ-loop
 returns c =
     let at-loop = c .before in

@@ -1,45 +1,31 @@
 -- `finish_array` meets its contract.
-use mathlib.Core.Path.{_≡_, refl, sym, ap, _∙_}
-use Prim.Native.Nat.{ℕ, suc, _+_, _-_, _*_, _≤_, _<_}
+use mathlib.Core.Path.{refl, _∙_}
+use Prim.Native.Nat.{_-_}
 use native.Mathlib.Omega.{arith}
 use Rattle.editor_basic.proofs.ElementLaws.{few}
 use Rattle.editor_basic.proofs.RewriteLaws.{finish-sizes, finish-done}
 use borrow.Author.Needs.{needs}
 use Rattle.editor_basic.proofs.rewriter.finish_array.Statement.{statement}
 use Rattle.editor_basic.proofs.rewriter.finish_array.Tie as tie
-use Rattle.editor_basic.proofs.rewriter.finish_array.Reads as reads
-use Rattle.editor_basic.proofs.rewriter.finish_array.Lts as lts
-use Rattle.editor_basic.proofs.elements.width_for.Reads as width-for-reads
-use Rattle.editor_basic.proofs.mover.put_low_first.Reads as put-low-first-reads
-use Rattle.editor_basic.proofs.rewriter.move_elements.Reads as move-elements-reads
-use Rattle.editor_basic.proofs.rewriter.rewrite_ends.Reads as rewrite-ends-reads
-use Rattle.framing_offset_size.proofs.FramingOffsetSize.width.Reads as width-reads
 
--- src/rewriter.rt:85:9
 move-elements-requires : tie.Need-move-elements-requires
 move-elements-requires c κs = search needs
 
--- src/rewriter.rt:87:27
 add-count : tie.Need-add-count
 add-count c = omega (arith, few _ _ (c .before .before .before .before .before .before .before .pre .1))
 
--- src/rewriter.rt:87:17
 add-count-2 : tie.Need-add-count-2
 add-count-2 c = omega (arith, few _ _ (c .before .before .before .before .before .before .before .pre .0), few _ _ (c .before .before .before .before .before .before .before .pre .1))
 
--- src/rewriter.rt:88:9
 width-for-requires : tie.Need-width-for-requires
 width-for-requires c κs = search needs
 
--- src/rewriter.rt:89:9
 width-requires : tie.Need-width-requires
 width-requires c κs = search needs
 
--- src/rewriter.rt:90:23
 sub-table : tie.Need-sub-table
 sub-table c = search needs
 
--- src/rewriter.rt:90:17
 add-table : tie.Need-add-table
 add-table c =
     let at-width-for = c .before in
@@ -48,7 +34,6 @@ add-table c =
     let s = finish-sizes (start .args .front) (start .args .rest) (start .args .old .now) (start .args .to) _ _ (at-width-for .width-for .result) (start .pre .0) (start .pre .1) (at-move-elements .move-elements .ensures .1) (c .width .ensures) in
     omega (arith, s .few-front, s .few-rest, s .slim, s .ends-front, s .ends-all, s .low, s .high, (start .pre .2))
 
--- src/rewriter.rt:91:5
 rewrite-ends-requires : tie.Need-rewrite-ends-requires
 rewrite-ends-requires c κs =
     let at-width = c .before in
@@ -58,7 +43,6 @@ rewrite-ends-requires c κs =
     let s = finish-sizes (start .args .front) (start .args .rest) (start .args .old .now) (start .args .to) _ _ (at-width-for .width-for .result) (start .pre .0) (start .pre .1) (at-move-elements .move-elements .ensures .1) (at-width .width .ensures) in
     (start .pre .0, omega (arith, s .few-front, s .few-rest, s .slim, s .ends-front, s .ends-all, s .low, s .high, (start .pre .2)), s .slim)
 
--- src/rewriter.rt:92:23
 mul-own : tie.Need-mul-own
 mul-own c =
     let at-width = c .before .before .before .before in
@@ -68,7 +52,6 @@ mul-own c =
     let s = finish-sizes (start .args .front) (start .args .rest) (start .args .old .now) (start .args .to) _ _ (at-width-for .width-for .result) (start .pre .0) (start .pre .1) (at-move-elements .move-elements .ensures .1) (at-width .width .ensures) in
     omega (arith, s .few-front, s .few-rest, s .slim, s .ends-front, s .ends-all, s .low, s .high, (start .pre .2))
 
--- src/rewriter.rt:92:15
 add-own : tie.Need-add-own
 add-own c =
     let at-width = c .before .before .before .before in
@@ -78,11 +61,9 @@ add-own c =
     let s = finish-sizes (start .args .front) (start .args .rest) (start .args .old .now) (start .args .to) _ _ (at-width-for .width-for .result) (start .pre .0) (start .pre .1) (at-move-elements .move-elements .ensures .1) (at-width .width .ensures) in
     omega (arith, s .few-front, s .few-rest, s .slim, s .ends-front, s .ends-all, s .low, s .high, (start .pre .2))
 
--- src/rewriter.rt:93:5
 put-low-first-requires : tie.Need-put-low-first-requires
 put-low-first-requires c κs = search needs
 
--- src/rewriter.rt:94:41
 add-rewrite-ends : tie.Need-add-rewrite-ends
 add-rewrite-ends c =
     let at-width = c .before .before .before .before .before .before .before .before .before in
@@ -92,7 +73,6 @@ add-rewrite-ends c =
     let s = finish-sizes (start .args .front) (start .args .rest) (start .args .old .now) (start .args .to) _ _ (at-width-for .width-for .result) (start .pre .0) (start .pre .1) (at-move-elements .move-elements .ensures .1) (at-width .width .ensures) in
     omega (arith, s .few-front, s .few-rest, s .slim, s .ends-front, s .ends-all, s .low, s .high, (start .pre .2))
 
--- src/rewriter.rt:94:5
 rewrite-ends-requires-2 : tie.Need-rewrite-ends-requires-2
 rewrite-ends-requires-2 c κs =
     let at-width = c .before .before .before .before .before .before .before .before .before in
@@ -102,7 +82,6 @@ rewrite-ends-requires-2 c κs =
     let s = finish-sizes (start .args .front) (start .args .rest) (start .args .old .now) (start .args .to) _ _ (at-width-for .width-for .result) (start .pre .0) (start .pre .1) (at-move-elements .move-elements .ensures .1) (at-width .width .ensures) in
     (start .pre .1, omega (arith, s .few-front, s .few-rest, s .slim, s .ends-front, s .ends-all, s .low, s .high, (start .pre .2)), s .slim)
 
--- src/rewriter.rt:95:11
 mul-result : tie.Need-mul-result
 mul-result c =
     let at-width = c .before .before .before .before .before .before .before .before .before .before .before .before in
@@ -112,7 +91,6 @@ mul-result c =
     let s = finish-sizes (start .args .front) (start .args .rest) (start .args .old .now) (start .args .to) _ _ (at-width-for .width-for .result) (start .pre .0) (start .pre .1) (at-move-elements .move-elements .ensures .1) (at-width .width .ensures) in
     omega (arith, s .few-front, s .few-rest, s .slim, s .ends-front, s .ends-all, s .low, s .high, (start .pre .2))
 
--- src/rewriter.rt:95:5
 add-result : tie.Need-add-result
 add-result c =
     let at-width = c .before .before .before .before .before .before .before .before .before .before .before .before in
@@ -122,11 +100,9 @@ add-result c =
     let s = finish-sizes (start .args .front) (start .args .rest) (start .args .old .now) (start .args .to) _ _ (at-width-for .width-for .result) (start .pre .0) (start .pre .1) (at-move-elements .move-elements .ensures .1) (at-width .width .ensures) in
     omega (arith, s .few-front, s .few-rest, s .slim, s .ends-front, s .ends-all, s .low, s .high, (start .pre .2))
 
--- src/rewriter.rt:73:1
 same-length : tie.Need-same-length
 same-length c = search needs
 
--- src/rewriter.rt:73:1
 returns : tie.Need-returns
 returns c =
     let at-rewrite-ends2 = c .before .before in

@@ -1,25 +1,15 @@
 -- `move_elements` meets its contract.
-use borrow.Author.Needs.{needs}
-use mathlib.Core.Path.{_≡_, refl, sym, ap, _∙_}
-use mathlib.Core.List.{List}
-use Prim.Native.Nat.{ℕ, _+_, _-_, _*_, _≤_, _<_}
+use mathlib.Core.Path.{_≡_, refl, _∙_}
+use Prim.Native.Nat.{_+_, _-_}
 use native.Mathlib.Omega.{arith}
 use lib.ListN.{length}
-use Rattle.meaning.specs.Offsets.{table}
-use Rattle.meaning.specs.Written.{layout, ends}
+use Rattle.meaning.specs.Written.{layout}
 use Rattle.editor_basic.specs.Puts.{over}
-use Rattle.editor_basic.specs.Elements.{elementsIn, behindOf}
-use Rattle.editor_basic.proofs.PutLaws.{over-beyond}
-use Rattle.editor_basic.proofs.ElementLaws.{few, offset-inside}
-use Rattle.editor_basic.proofs.RewriteLaws.{Reaching, reaching-begin, reaching-most, reaching-next, reaching-step, turn-most, moving-turn, listing-turn, reaching-end, moving-end, listing-end}
+use Rattle.editor_basic.specs.Elements.{elementsIn}
+use Rattle.editor_basic.proofs.ElementLaws.{offset-inside}
+use Rattle.editor_basic.proofs.RewriteLaws.{Reaching, reaching-begin, turn-most, moving-turn, reaching-end, moving-end}
 use Rattle.editor_basic.proofs.rewriter.move_elements.Statement.{statement}
 use Rattle.editor_basic.proofs.rewriter.move_elements.Tie as tie
-use Rattle.editor_basic.proofs.rewriter.move_elements.Reads as reads
-use Rattle.editor_basic.proofs.rewriter.move_elements.Lts as lts
-use Rattle.editor_basic.proofs.elements.behind.Reads as behind-reads
-use Rattle.editor_basic.proofs.elements.due.Reads as due-reads
-use Rattle.editor_basic.proofs.elements.first_element.Reads as first-element-reads
-use Rattle.editor_basic.proofs.mover.move_part.Reads as move-part-reads
 
 abbrev Inv-loop : tie.InvT-loop
 Inv-loop old out₀ at to rest₀ next₀ place₀ out rest next place =
@@ -31,31 +21,24 @@ Inv-loop old out₀ at to rest₀ next₀ place₀ out rest next place =
 abbrev μ-loop : tie.MeasureT-loop
 μ-loop old out₀ at to rest₀ next₀ place₀ out rest next place = rest .count
 
--- src/rewriter.rt:28:5
 loop-holds : tie.Need-loop-holds Inv-loop μ-loop
 loop-holds c = (reaching-begin _ _ _ (c .before .before .pre .0) (omega (arith, (c .before .before .pre .1))), refl, omega arith, refl)
 
--- src/rewriter.rt:29:13
 first-element-requires : tie.Need-first-element-requires Inv-loop μ-loop
 first-element-requires c κs = (c .before .before .loop .inv .0 .stands, c .if1 .taken)
 
--- src/rewriter.rt:32:13
 due-requires : tie.Need-due-requires Inv-loop μ-loop
 due-requires c κs = c .before .before .before .loop .inv .0 .stands .aligned
 
--- src/rewriter.rt:33:39
 sub-move-part : tie.Need-sub-move-part Inv-loop μ-loop
 sub-move-part c = omega (arith, (c .before .before .first-element .ensures .order), (c .before .before .first-element .ensures .inside))
 
--- src/rewriter.rt:33:39
 part-move-part-start : tie.Need-part-move-part-start Inv-loop μ-loop
 part-move-part-start c = omega (arith, (c .before .before .first-element .ensures .order), (c .before .before .first-element .ensures .inside))
 
--- src/rewriter.rt:33:39
 part-move-part-end : tie.Need-part-move-part-end Inv-loop μ-loop
 part-move-part-end c = omega (arith, (c .before .before .first-element .ensures .order), (c .before .before .first-element .ensures .inside))
 
--- src/rewriter.rt:33:9
 move-part-requires : tie.Need-move-part-requires Inv-loop μ-loop
 move-part-requires c κs =
     let at-due = c .before .before in
@@ -68,11 +51,9 @@ move-part-requires c κs =
     let h = turn-most (l .rest) (start .args .old .now) (f .result) (l .place) _ (l .inv .0) (f .ensures) (at-if1 .if1 .taken) _ (at-due .due .ensures .0) in
     omega (arith, h .0, h .1, l .inv .2, (start .pre .1))
 
--- src/rewriter.rt:34:32
 sub-moved : tie.Need-sub-moved Inv-loop μ-loop
 sub-moved c = omega (arith, (c .before .before .before .before .before .before .first-element .ensures .order), (c .before .before .before .before .before .before .first-element .ensures .inside))
 
--- src/rewriter.rt:34:21
 add-moved : tie.Need-add-moved Inv-loop μ-loop
 add-moved c =
     let at-due = c .before .before .before .before .before in
@@ -85,7 +66,6 @@ add-moved c =
     let h = turn-most (l .rest) (start .args .old .now) (f .result) (l .place) _ (l .inv .0) (f .ensures) (at-if1 .if1 .taken) _ (at-due .due .ensures .0) in
     omega (arith, h .0, h .1, l .inv .2, (start .pre .1))
 
--- src/rewriter.rt:35:16
 add-next : tie.Need-add-next Inv-loop μ-loop
 add-next c =
     let at-due = c .before .before .before .before .before in
@@ -98,7 +78,6 @@ add-next c =
     let h = turn-most (l .rest) (start .args .old .now) (f .result) (l .place) _ (l .inv .0) (f .ensures) (at-if1 .if1 .taken) _ (at-due .due .ensures .0) in
     omega (arith, h .0, h .1, l .inv .2, (start .pre .1))
 
--- src/rewriter.rt:36:17
 add-place : tie.Need-add-place Inv-loop μ-loop
 add-place c =
     let at-due = c .before .before .before .before .before in
@@ -111,7 +90,6 @@ add-place c =
     let h = turn-most (l .rest) (start .args .old .now) (f .result) (l .place) _ (l .inv .0) (f .ensures) (at-if1 .if1 .taken) _ (at-due .due .ensures .0) in
     omega (arith, h .0, h .1, l .inv .2, (start .pre .1))
 
--- src/rewriter.rt:37:9
 behind-requires : tie.Need-behind-requires Inv-loop μ-loop
 behind-requires c κs =
     let at-if1 = c .before .before .before .before .before .before .before in
@@ -120,11 +98,9 @@ behind-requires c κs =
     let s = at-loop .loop .inv .0 .stands in
     (at-if1 .if1 .taken, omega (arith, offset-inside (at-loop .loop .rest) (start .args .old .now) s (at-if1 .if1 .taken), s .short))
 
--- src/rewriter.rt:28:5
 loop-less : tie.Need-loop-less Inv-loop μ-loop
 loop-less c = rw (c .behind .ensures) (omega (arith, (c .before .before .before .before .before .before .before .before .if1 .taken)))
 
--- src/rewriter.rt:28:5
 loop-again : tie.Need-loop-again Inv-loop μ-loop
 loop-again c =
     let at-move-part = c .before .before .before in
@@ -138,11 +114,9 @@ loop-again c =
     let t = moving-turn (l .rest) (start .args .old .now) (f .result) (l .place) _ (l .inv .0) (f .ensures) (at-if1 .if1 .taken) _ (c .behind .ensures) _ (at-due .due .ensures .0) _ _ _ _ (at-move-part .move-part .ensures) (l .inv .1) in
     (t .0, t .1, omega (arith, l .inv .2), (at-move-part .move-part .kept .0) ∙ l .inv .3)
 
--- src/rewriter.rt:20:1
 same-length : tie.Need-same-length Inv-loop μ-loop
 same-length c = c .before .before .loop .inv .3
 
--- src/rewriter.rt:20:1
 returns : tie.Need-returns Inv-loop μ-loop
 returns c =
     let at-loop = c .before .before in

@@ -6,12 +6,6 @@ use native.Mathlib.Omega.{arith}
 use Rattle.editor_basic.proofs.RowLaws.{RowLeft, row-begin, row-most, row-last, row-next}
 use Rattle.editor_basic.proofs.rewriter.move_fields.Statement.{statement}
 use Rattle.editor_basic.proofs.rewriter.move_fields.Tie as tie
-use Rattle.editor_basic.proofs.rewriter.move_fields.Reads as reads
-use Rattle.editor_basic.proofs.rewriter.move_fields.Lts as lts
-use Rattle.editor_basic.proofs.elements.due.Reads as due-reads
-use Rattle.editor_basic.proofs.fields.behind_field.Reads as behind-field-reads
-use Rattle.editor_basic.proofs.fields.first_field.Reads as first-field-reads
-use Rattle.editor_basic.proofs.mover.move_part.Reads as move-part-reads
 
 abbrev Inv-loop : tie.InvT-loop
 Inv-loop text tables old out₀ at to rest₀ next₀ place₀ out rest next place = RowLeft text tables rest₀ old out₀ at to out rest next place
@@ -19,42 +13,33 @@ Inv-loop text tables old out₀ at to rest₀ next₀ place₀ out rest next pla
 abbrev μ-loop : tie.MeasureT-loop
 μ-loop text tables old out₀ at to rest₀ next₀ place₀ out rest next place = 256 - rest .at
 
--- src/rewriter.rt:120:5
 loop-holds : tie.Need-loop-holds Inv-loop μ-loop
 loop-holds c = row-begin _ _ _ _ _ _ _ (c .before .before .before .before .pre .0)
 
--- src/rewriter.rt:121:13
 first-field-requires : tie.Need-first-field-requires Inv-loop μ-loop
 first-field-requires c κs = c .loop .inv .stands
 
--- src/rewriter.rt:125:13
 due-requires : tie.Need-due-requires Inv-loop μ-loop
 due-requires c κs = c .first-field .ensures .aligned
 
--- src/rewriter.rt:126:39
 sub-move-part : tie.Need-sub-move-part Inv-loop μ-loop
 sub-move-part c = omega (arith, (c .before .before .first-field .ensures .order), (c .before .before .first-field .ensures .inside))
 
--- src/rewriter.rt:126:39
 part-move-part-start : tie.Need-part-move-part-start Inv-loop μ-loop
 part-move-part-start c = omega (arith, (c .before .before .first-field .ensures .order), (c .before .before .first-field .ensures .inside))
 
--- src/rewriter.rt:126:39
 part-move-part-end : tie.Need-part-move-part-end Inv-loop μ-loop
 part-move-part-end c = omega (arith, (c .before .before .first-field .ensures .order), (c .before .before .first-field .ensures .inside))
 
--- src/rewriter.rt:126:9
 move-part-requires : tie.Need-move-part-requires Inv-loop μ-loop
 move-part-requires c κs =
     let w = c .before .before .before .before .loop .inv in
     let h = row-most w (c .before .before .before .first-field .ensures) _ (c .before .before .due .ensures .0) in
     omega (arith, h, w .even, (c .before .before .before .first-field .ensures .order), (c .before .before .before .before .before .before .before .before .before .pre .1))
 
--- src/rewriter.rt:127:32
 sub-moved : tie.Need-sub-moved Inv-loop μ-loop
 sub-moved c = omega (arith, (c .before .before .before .before .before .before .first-field .ensures .order), (c .before .before .before .before .before .before .first-field .ensures .inside))
 
--- src/rewriter.rt:127:21
 add-moved : tie.Need-add-moved Inv-loop μ-loop
 add-moved c =
     let at-due = c .before .before .before .before .before in
@@ -65,7 +50,6 @@ add-moved c =
     let h = row-most w (at-first-field .first-field .ensures) _ (at-due .due .ensures .0) in
     omega (arith, h, w .even, (at-first-field .first-field .ensures .order), (start .pre .1))
 
--- src/rewriter.rt:128:16
 add-next : tie.Need-add-next Inv-loop μ-loop
 add-next c =
     let at-due = c .before .before .before .before .before in
@@ -76,7 +60,6 @@ add-next c =
     let h = row-most w (at-first-field .first-field .ensures) _ (at-due .due .ensures .0) in
     omega (arith, h, w .even, (at-first-field .first-field .ensures .order), (start .pre .1))
 
--- src/rewriter.rt:129:17
 add-place : tie.Need-add-place Inv-loop μ-loop
 add-place c =
     let at-due = c .before .before .before .before .before in
@@ -87,11 +70,9 @@ add-place c =
     let h = row-most w (at-first-field .first-field .ensures) _ (at-due .due .ensures .0) in
     omega (arith, h, w .even, (at-first-field .first-field .ensures .order), (start .pre .1))
 
--- src/rewriter.rt:131:13
 same-length : tie.Need-same-length Inv-loop μ-loop
 same-length c = (c .before .before .before .move-part .kept .0) ∙ (c .before .before .before .before .before .before .before .before .loop .inv .kept)
 
--- src/rewriter.rt:131:13
 returns : tie.Need-returns Inv-loop μ-loop
 returns c =
     let at-move-part = c .before .before .before in
@@ -101,17 +82,14 @@ returns c =
     let t = row-last (at-loop .loop .inv) (at-first-field .first-field .ensures) _ (at-due .due .ensures .0) _ (at-move-part .move-part .ensures) (c .if1 .taken) in
     (t .0, (t .1, t .2))
 
--- src/rewriter.rt:133:9
 behind-field-requires : tie.Need-behind-field-requires Inv-loop μ-loop
 behind-field-requires c κs = search needs
 
--- src/rewriter.rt:120:5
 loop-less : tie.Need-loop-less Inv-loop μ-loop
 loop-less c =
     let m = c .before .before .before .before .before .before .before .before .first-field .ensures .rest (c .before .if1 .left) in
     rw (c .behind-field .ensures) (omega (arith, m .onward, m .within, (c .before .before .before .before .before .before .before .before .before .loop .inv .stands .rowed .short)))
 
--- src/rewriter.rt:120:5
 loop-again : tie.Need-loop-again Inv-loop μ-loop
 loop-again c =
     let at-if1 = c .before in

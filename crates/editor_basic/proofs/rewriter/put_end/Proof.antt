@@ -5,31 +5,23 @@ use Rattle.editor_basic.proofs.BackLaws.{end-none, end-one, end-room}
 use borrow.Author.Needs.{needs}
 use Rattle.editor_basic.proofs.rewriter.put_end.Statement.{statement}
 use Rattle.editor_basic.proofs.rewriter.put_end.Tie as tie
-use Rattle.editor_basic.proofs.rewriter.put_end.Reads as reads
-use Rattle.editor_basic.proofs.rewriter.put_end.Lts as lts
-use Rattle.editor_basic.proofs.mover.put_low_first.Reads as put-low-first-reads
 
--- src/rewriter.rt:175:9
 returns : tie.Need-returns
 returns c =
     let start = c .before .before in
     end-none (start .args .fixed) (start .args .out .now) (start .args .below) (start .args .width) (start .args .end) (c .if1 .taken)
 
--- src/rewriter.rt:177:17
 sub-first : tie.Need-sub-first
 sub-first c =
     let start = c .before .before in
     omega (arith, end-room (start .args .fixed) (start .args .below) (start .args .width) (start .args .end) (c .if1 .left) (start .pre))
 
--- src/rewriter.rt:178:5
 put-low-first-requires : tie.Need-put-low-first-requires
 put-low-first-requires c κs = search needs
 
--- src/rewriter.rt:169:1
 same-length : tie.Need-same-length
 same-length c = search needs
 
--- src/rewriter.rt:169:1
 returns-2 : tie.Need-returns-2
 returns-2 c =
     let at-put-low-first = c .before .before in

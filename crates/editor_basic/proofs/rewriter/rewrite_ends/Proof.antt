@@ -1,25 +1,18 @@
 -- `rewrite_ends` meets its contract.
 use borrow.Author.Needs.{needs}
-use mathlib.Core.Path.{_≡_, refl, sym, ap, _∙_}
-use mathlib.Core.List.{List}
-use Prim.Native.Nat.{ℕ, _+_, _-_, _*_, _≤_, _<_}
+use mathlib.Core.Path.{_≡_, refl, sym, _∙_}
+use Prim.Native.Nat.{_+_, _-_, _*_, _≤_}
 use native.Mathlib.Omega.{arith}
 use lib.ListN.{length}
 use Rattle.meaning.specs.Offsets.{table}
 use Rattle.meaning.specs.Written.{layout, ends}
 use Rattle.editor_basic.specs.Puts.{over}
-use Rattle.editor_basic.specs.Elements.{elementsIn, behindOf}
+use Rattle.editor_basic.specs.Elements.{elementsIn}
 use Rattle.editor_basic.proofs.PutLaws.{over-beyond}
 use Rattle.editor_basic.proofs.ElementLaws.{few, offset-inside}
-use Rattle.editor_basic.proofs.RewriteLaws.{Reaching, reaching-begin, reaching-most, reaching-next, reaching-step, turn-most, moving-turn, listing-turn, reaching-end, moving-end, listing-end}
+use Rattle.editor_basic.proofs.RewriteLaws.{Reaching, reaching-begin, turn-most, listing-turn, listing-end}
 use Rattle.editor_basic.proofs.rewriter.rewrite_ends.Statement.{statement}
 use Rattle.editor_basic.proofs.rewriter.rewrite_ends.Tie as tie
-use Rattle.editor_basic.proofs.rewriter.rewrite_ends.Reads as reads
-use Rattle.editor_basic.proofs.rewriter.rewrite_ends.Lts as lts
-use Rattle.editor_basic.proofs.elements.behind.Reads as behind-reads
-use Rattle.editor_basic.proofs.elements.due.Reads as due-reads
-use Rattle.editor_basic.proofs.elements.first_element.Reads as first-element-reads
-use Rattle.editor_basic.proofs.mover.put_low_first.Reads as put-low-first-reads
 
 abbrev Inv-loop : tie.InvT-loop
 Inv-loop old width out₀ at to rest₀ next₀ place₀ out rest next place =
@@ -31,27 +24,21 @@ Inv-loop old width out₀ at to rest₀ next₀ place₀ out rest next place =
 abbrev μ-loop : tie.MeasureT-loop
 μ-loop old width out₀ at to rest₀ next₀ place₀ out rest next place = rest .count
 
--- src/rewriter.rt:55:9
 returns : tie.Need-returns Inv-loop μ-loop
 returns c = sym (over-beyond _ _ _ (c .if1 .taken))
 
--- src/rewriter.rt:60:5
 loop-holds : tie.Need-loop-holds Inv-loop μ-loop
 loop-holds c = (reaching-begin _ _ _ (c .before .before .before .pre .0) (omega (arith, (c .before .before .before .pre .1))), refl, omega arith, refl)
 
--- src/rewriter.rt:61:13
 first-element-requires : tie.Need-first-element-requires Inv-loop μ-loop
 first-element-requires c κs = (c .before .before .loop .inv .0 .stands, c .if2 .taken)
 
--- src/rewriter.rt:63:20
 sub-size : tie.Need-sub-size Inv-loop μ-loop
 sub-size c = omega (arith, (c .before .first-element .ensures .order), (c .before .first-element .ensures .inside))
 
--- src/rewriter.rt:64:25
 due-requires : tie.Need-due-requires Inv-loop μ-loop
 due-requires c κs = c .before .before .before .before .loop .inv .0 .stands .aligned
 
--- src/rewriter.rt:64:17
 add-place : tie.Need-add-place Inv-loop μ-loop
 add-place c =
     let at-first-element = c .before .before in
@@ -63,7 +50,6 @@ add-place c =
     let h = turn-most (l .rest) (start .args .old .now) (f .result) (l .place) _ (l .inv .0) (f .ensures) (at-if2 .if2 .taken) _ (c .due .ensures .0) in
     omega (arith, h .0, h .1)
 
--- src/rewriter.rt:64:17
 add-place-2 : tie.Need-add-place-2 Inv-loop μ-loop
 add-place-2 c =
     let at-first-element = c .before .before in
@@ -75,18 +61,15 @@ add-place-2 c =
     let h = turn-most (l .rest) (start .args .old .now) (f .result) (l .place) _ (l .inv .0) (f .ensures) (at-if2 .if2 .taken) _ (c .due .ensures .0) in
     omega (arith, h .0, h .1)
 
--- src/rewriter.rt:65:9
 put-low-first-requires : tie.Need-put-low-first-requires Inv-loop μ-loop
 put-low-first-requires c κs = search needs
 
--- src/rewriter.rt:66:16
 add-next : tie.Need-add-next Inv-loop μ-loop
 add-next c =
     let at-loop = c .before .before .before .before .before .before .before .before .before in
     let start = at-loop .before .before .before .before in
     omega (arith, (at-loop .loop .inv .2), (start .pre .1), (start .pre .2), few (start .args .elements) (start .args .old .now) (start .pre .0))
 
--- src/rewriter.rt:67:9
 behind-requires : tie.Need-behind-requires Inv-loop μ-loop
 behind-requires c κs =
     let at-if2 = c .before .before .before .before .before .before .before in
@@ -95,11 +78,9 @@ behind-requires c κs =
     let s = at-loop .loop .inv .0 .stands in
     (at-if2 .if2 .taken, omega (arith, offset-inside (at-loop .loop .rest) (start .args .old .now) s (at-if2 .if2 .taken), s .short))
 
--- src/rewriter.rt:60:5
 loop-less : tie.Need-loop-less Inv-loop μ-loop
 loop-less c = rw (c .behind .ensures) (omega (arith, (c .before .before .before .before .before .before .before .before .if2 .taken)))
 
--- src/rewriter.rt:60:5
 loop-again : tie.Need-loop-again Inv-loop μ-loop
 loop-again c =
     let at-put-low-first = c .before .before .before in
@@ -113,11 +94,9 @@ loop-again c =
     let t = listing-turn (l .rest) (start .args .old .now) (f .result) (l .place) _ (l .inv .0) (f .ensures) (at-if2 .if2 .taken) _ (c .behind .ensures) _ (at-due .due .ensures .0) _ _ _ _ _ (at-put-low-first .put-low-first .ensures) (l .inv .1) in
     (t .0, t .1, rw (c .behind .ensures) (omega (arith, l .inv .2, (start .pre .2), (at-if2 .if2 .taken))), (at-put-low-first .put-low-first .kept .0) ∙ l .inv .3)
 
--- src/rewriter.rt:43:1
 same-length : tie.Need-same-length Inv-loop μ-loop
 same-length c = c .before .before .loop .inv .3
 
--- src/rewriter.rt:43:1
 returns-2 : tie.Need-returns-2 Inv-loop μ-loop
 returns-2 c =
     let l = c .before .before .loop in

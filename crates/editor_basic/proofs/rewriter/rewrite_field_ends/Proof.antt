@@ -5,12 +5,6 @@ use native.Mathlib.Omega.{arith}
 use Rattle.editor_basic.proofs.BackLaws.{EndsLeft, ends-begin, ends-last, ends-most, ends-room, ends-next}
 use Rattle.editor_basic.proofs.rewriter.rewrite_field_ends.Statement.{statement}
 use Rattle.editor_basic.proofs.rewriter.rewrite_field_ends.Tie as tie
-use Rattle.editor_basic.proofs.rewriter.rewrite_field_ends.Reads as reads
-use Rattle.editor_basic.proofs.rewriter.rewrite_field_ends.Lts as lts
-use Rattle.editor_basic.proofs.elements.due.Reads as due-reads
-use Rattle.editor_basic.proofs.fields.behind_field.Reads as behind-field-reads
-use Rattle.editor_basic.proofs.fields.first_field.Reads as first-field-reads
-use Rattle.editor_basic.proofs.rewriter.put_end.Reads as put-end-reads
 
 abbrev Inv-loop : tie.InvT-loop
 Inv-loop text tables old width out₀ below to rest₀ first₀ place₀ out rest first place = EndsLeft text tables rest₀ old out₀ width below to out rest first place
@@ -18,43 +12,34 @@ Inv-loop text tables old width out₀ below to rest₀ first₀ place₀ out res
 abbrev μ-loop : tie.MeasureT-loop
 μ-loop text tables old width out₀ below to rest₀ first₀ place₀ out rest first place = 256 - rest .at
 
--- src/rewriter.rt:201:5
 loop-holds : tie.Need-loop-holds Inv-loop μ-loop
 loop-holds c = ends-begin _ _ _ _ _ _ _ _ (c .before .before .before .before .pre .0)
 
--- src/rewriter.rt:202:13
 first-field-requires : tie.Need-first-field-requires Inv-loop μ-loop
 first-field-requires c κs = c .loop .inv .stands
 
--- src/rewriter.rt:205:13
 same-length : tie.Need-same-length Inv-loop μ-loop
 same-length c = c .before .before .loop .inv .sinks .kept
 
--- src/rewriter.rt:205:13
 returns : tie.Need-returns Inv-loop μ-loop
 returns c = ends-last (c .before .before .loop .inv) (c .before .first-field .ensures) (c .if1 .taken)
 
--- src/rewriter.rt:207:20
 sub-size : tie.Need-sub-size Inv-loop μ-loop
 sub-size c = omega (arith, (c .before .before .first-field .ensures .order))
 
--- src/rewriter.rt:208:25
 due-requires : tie.Need-due-requires Inv-loop μ-loop
 due-requires c κs = c .before .before .first-field .ensures .aligned
 
--- src/rewriter.rt:208:17
 add-place : tie.Need-add-place Inv-loop μ-loop
 add-place c =
     let h = ends-most (c .before .before .before .before .loop .inv) (c .before .before .before .first-field .ensures) _ (c .due .ensures .0) in
     omega (arith, h, (c .before .before .before .before .before .before .before .before .before .pre .1))
 
--- src/rewriter.rt:208:17
 add-place-2 : tie.Need-add-place-2 Inv-loop μ-loop
 add-place-2 c =
     let h = ends-most (c .before .before .before .before .loop .inv) (c .before .before .before .first-field .ensures) _ (c .due .ensures .0) in
     omega (arith, h, (c .before .before .before .before .before .before .before .before .before .pre .1))
 
--- src/rewriter.rt:209:9
 put-end-requires : tie.Need-put-end-requires Inv-loop μ-loop
 put-end-requires c κs =
     let at-due = c .before in
@@ -65,17 +50,14 @@ put-end-requires c κs =
     let h = ends-room (at-loop .loop .inv) (at-first-field .first-field .ensures) _ (at-due .due .ensures .0) (at-if1 .if1 .left) in
     h (start .pre .2)
 
--- src/rewriter.rt:210:9
 behind-field-requires : tie.Need-behind-field-requires Inv-loop μ-loop
 behind-field-requires c κs = search needs
 
--- src/rewriter.rt:201:5
 loop-less : tie.Need-loop-less Inv-loop μ-loop
 loop-less c =
     let m = c .before .before .before .before .before .before .before .before .first-field .ensures .rest (c .before .before .before .before .before .before .before .if1 .left) in
     rw (c .behind-field .ensures) (omega (arith, m .onward, m .within, (c .before .before .before .before .before .before .before .before .before .loop .inv .stands .rowed .short)))
 
--- src/rewriter.rt:201:5
 loop-again : tie.Need-loop-again Inv-loop μ-loop
 loop-again c =
     let at-put-end = c .before .before .before in

@@ -11,9 +11,9 @@ use Rattle.editor_cycle.proofs.+array-array+array-elements+dictionary-s
 use cycle.Proof.Measures.{array·array-at, array·elements-below}
 use Rattle.container_depths.proofs.ContainerDepths.inc_array.Reads as inc-array-reads
 use cycle.Lts-array-array as array·array-lts
-use Rattle.editor_steps.proofs.answers.counted.Reads as counted-reads
 use of.array.array.Reads as array·array
 use of.array.elements.Reads as array·elements
+use Rattle.editor_steps.proofs.answers.counted.Reads as counted-reads
 use Rattle.editor_steps.proofs.reading.is_slot.Reads as is-slot-reads
 use Rattle.editor_steps.proofs.readings.readings.Reads as readings-reads
 use Rattle.signature.proofs.items.item_of.Reads as item-of-reads

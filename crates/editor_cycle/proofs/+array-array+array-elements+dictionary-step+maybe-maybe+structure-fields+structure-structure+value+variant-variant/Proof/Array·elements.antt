@@ -15,10 +15,10 @@ use cycle.Proof.Measures.{array·elements-at, dictionary·step-below}
 use Rattle.editor_basic.proofs.elements.behind.Reads as behind-reads
 use Rattle.editor_basic.proofs.elements.first_element.Reads as first-element-reads
 use cycle.Lts-array-elements as array·elements-lts
-use Rattle.editor_steps.proofs.answers.counted.Reads as counted-reads
 use of.array.elements.Reads as array·elements
-use Rattle.editor_steps.proofs.closing.close_element.Reads as close-element-reads
 use of.dictionary.step.Reads as dictionary·step
+use Rattle.editor_steps.proofs.answers.counted.Reads as counted-reads
+use Rattle.editor_steps.proofs.closing.close_element.Reads as close-element-reads
 use Rattle.editor_steps.proofs.starts.elements_of.Reads as elements-of-reads
 
 abbrev array·elements-callees : ℕ → array·elements-lts.Claims

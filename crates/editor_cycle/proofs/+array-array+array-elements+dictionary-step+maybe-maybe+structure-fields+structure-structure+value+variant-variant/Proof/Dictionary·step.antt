@@ -11,11 +11,11 @@ use Rattle.editor_cycle.proofs as of
 use Rattle.editor_cycle.proofs.+array-array+array-elements+dictionary-step+maybe-maybe+structure-fields+structure-structure+value+variant-variant as cycle
 use cycle.Proof.Measures.{dictionary·step-at, value-below}
 use cycle.Lts-dictionary-step as dictionary·step-lts
+use of.dictionary.step.Reads as dictionary·step
+use of.value.Reads as value
 use Rattle.editor_steps.proofs.answers.counted.Reads as counted-reads
 use Rattle.editor_steps.proofs.closing.close_last.Reads as close-last-reads
-use of.dictionary.step.Reads as dictionary·step
 use Rattle.editor_steps.proofs.starts.entry_of.Reads as entry-of-reads
-use of.value.Reads as value
 
 abbrev dictionary·step-callees : ℕ → dictionary·step-lts.Claims
 dictionary·step-callees t = (

@@ -12,12 +12,12 @@ use Rattle.editor_cycle.proofs.+array-array+array-elements+dictionary-s
 use cycle.Proof.Measures.{maybe·maybe-at, value-below}
 use Rattle.container_depths.proofs.ContainerDepths.inc_maybe.Reads as inc-maybe-reads
 use cycle.Lts-maybe-maybe as maybe·maybe-lts
+use of.maybe.maybe.Reads as maybe·maybe
+use of.value.Reads as value
 use Rattle.editor_steps.proofs.answers.counted.Reads as counted-reads
 use Rattle.editor_steps.proofs.closing.close_maybe.Reads as close-maybe-reads
-use of.maybe.maybe.Reads as maybe·maybe
 use Rattle.editor_steps.proofs.reading.is_slot.Reads as is-slot-reads
 use Rattle.editor_steps.proofs.reading.reading.Reads as reading-reads
-use of.value.Reads as value
 use Rattle.signature.proofs.shapes.shape_in.Reads as shape-in-reads
 
 abbrev maybe·maybe-callees : ℕ → maybe·maybe-lts.Claims

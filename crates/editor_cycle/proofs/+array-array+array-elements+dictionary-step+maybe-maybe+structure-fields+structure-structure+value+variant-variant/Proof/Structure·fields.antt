@@ -16,10 +16,10 @@ use cycle.Proof.Measures.{structure·fields-at, value-below}
 use Rattle.editor_basic.proofs.fields.behind_field.Reads as behind-field-reads
 use Rattle.editor_basic.proofs.fields.first_field.Reads as first-field-reads
 use cycle.Lts-structure-fields as structure·fields-lts
-use Rattle.editor_steps.proofs.answers.counted.Reads as counted-reads
-use Rattle.editor_steps.proofs.closing.close_field.Reads as close-field-reads
 use of.structure.fields.Reads as structure·fields
 use of.value.Reads as value
+use Rattle.editor_steps.proofs.answers.counted.Reads as counted-reads
+use Rattle.editor_steps.proofs.closing.close_field.Reads as close-field-reads
 use Rattle.signature.proofs.shapes.shape_in.Reads as shape-in-reads
 
 abbrev structure·fields-callees : ℕ → structure·fields-lts.Claims

@@ -11,10 +11,10 @@ use Rattle.editor_cycle.proofs.+array-array+array-elements+dictionary-s
 use cycle.Proof.Measures.{structure·fields-below, structure·structure-at}
 use Rattle.container_depths.proofs.ContainerDepths.inc_structure.Reads as inc-structure-reads
 use cycle.Lts-structure-structure as structure·structure-lts
-use Rattle.editor_steps.proofs.answers.counted.Reads as counted-reads
-use Rattle.editor_steps.proofs.starts.row_of.Reads as row-of-reads
 use of.structure.fields.Reads as structure·fields
 use of.structure.structure.Reads as structure·structure
+use Rattle.editor_steps.proofs.answers.counted.Reads as counted-reads
+use Rattle.editor_steps.proofs.starts.row_of.Reads as row-of-reads
 use Rattle.strict_basic.proofs.sizes.offsets_in.Reads as offsets-in-reads
 
 abbrev structure·structure-callees : ℕ → structure·structure-lts.Claims

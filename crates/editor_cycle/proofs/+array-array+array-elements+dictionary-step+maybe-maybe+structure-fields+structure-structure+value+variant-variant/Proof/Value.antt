@@ -10,12 +10,12 @@ use Rattle.editor_cycle.proofs as of
 use Rattle.editor_cycle.proofs.+array-array+array-elements+dictionary-step+maybe-maybe+structure-fields+structure-structure+value+variant-variant as cycle
 use cycle.Proof.Measures.{array·array-below, maybe·maybe-below, structure·structure-below, value-at, variant·variant-below}
 use cycle.Lts-value as value-lts
-use Rattle.editor_steps.proofs.answers.counted.Reads as counted-reads
 use of.array.array.Reads as array·array
 use of.maybe.maybe.Reads as maybe·maybe
 use of.structure.structure.Reads as structure·structure
 use of.value.Reads as value
 use of.variant.variant.Reads as variant·variant
+use Rattle.editor_steps.proofs.answers.counted.Reads as counted-reads
 
 abbrev value-callees : ℕ → value-lts.Claims
 value-callees t = (

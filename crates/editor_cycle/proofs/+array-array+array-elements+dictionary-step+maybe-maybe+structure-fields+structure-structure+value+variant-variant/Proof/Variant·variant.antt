@@ -7,6 +7,7 @@ use Rattle.reader_basic.proofs.Answers.{denied, granted}
 use Rattle.reader_basic.proofs.Loops.{tail}
 use Rattle.signature.proofs.TreeLaws.{described-kind, front}
 use Rattle.signature.specs.declared.shapes.Shape.{Shape}
+use Rattle.strict_basic.proofs.TableLaws.{front-placed}
 use borrow.Author.Needs.{needs}
 use lib.ListN.{length-take}
 use mathlib.Core.Path.{_∙_, ap, refl, sym}
@@ -16,14 +17,13 @@ use Rattle.editor_cycle.proofs.+array-array+array-elements+dictionary-s
 use cycle.Proof.Measures.{value-below, variant·variant-at, variant·variant-below}
 use Rattle.container_depths.proofs.ContainerDepths.inc_variant.Reads as inc-variant-reads
 use cycle.Lts-variant-variant as variant·variant-lts
-use Rattle.editor_steps.proofs.answers.counted.Reads as counted-reads
-use Rattle.editor_steps.proofs.closing.close_variant.Reads as close-variant-reads
 use of.value.Reads as value
 use of.variant.variant.Reads as variant·variant
+use Rattle.editor_steps.proofs.answers.counted.Reads as counted-reads
+use Rattle.editor_steps.proofs.closing.close_variant.Reads as close-variant-reads
 use Rattle.reader_basic.proofs.basic.separator.Reads as separator-reads
 use Rattle.signature.proofs.shapes.shape_in.Reads as shape-in-reads
 use Rattle.strict_basic.proofs.sizes.tables_of.Reads as tables-of-reads
-use Rattle.strict_basic.proofs.TableLaws.{front-placed}
 
 abbrev variant·variant-callees : ℕ → variant·variant-lts.Claims
 variant·variant-callees t = (

@@ -4,12 +4,10 @@ use borrow.Author.Needs.{needs}
 use Rattle.editor_steps.proofs.answers.edits.Statement.{statement}
 use Rattle.editor_steps.proofs.answers.edits.Tie as tie
 
--- src/answers.rt:64:9
 returns : tie.Need-returns
 returns c =
     edits-by (c .before .before .args .walked) (c .before .if1 .taken)
 
--- src/answers.rt:59:1
 returns-2 : tie.Need-returns-2
 returns-2 c = search needs
 

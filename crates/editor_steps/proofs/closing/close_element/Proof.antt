@@ -8,49 +8,40 @@ use borrow.Author.Needs.{needs}
 use Rattle.editor_steps.proofs.closing.close_element.Statement.{statement}
 use Rattle.editor_steps.proofs.closing.close_element.Tie as tie
 
--- src/closing.rt:91:9
 edits-requires : tie.Need-edits-requires
 edits-requires c κs = search needs
 
--- src/closing.rt:92:9
 returns : tie.Need-returns
 returns c =
     let start = c .before .before .before .before in
     closes-same _ _ _ _ (start .args .walked) _ (sym (c .before .edits .ensures) ∙ denied (c .if1 .taken))
 
--- src/closing.rt:94:14
 add-to : tie.Need-add-to
 add-to c =
     let start = c .before .before .before .before .before in
     let fits-of = start .pre .0 (sym (c .before .before .edits .ensures) ∙ granted (c .before .if1 .left)) in omega (arith, fits-of .after, fits-of .inside, fits-of .short)
 
--- src/closing.rt:95:20
 sub-at : tie.Need-sub-at
 sub-at c =
     let at-edits = c .before .before .before in
     let start = c .before .before .before .before .before .before in
     let fits-of = start .pre .0 (sym (at-edits .edits .ensures) ∙ granted (c .before .before .if1 .left)) in omega (arith, fits-of .after, fits-of .inside, fits-of .short)
 
--- src/closing.rt:95:14
 sub-at-2 : tie.Need-sub-at-2
 sub-at-2 c =
     let at-edits = c .before .before .before in
     let start = c .before .before .before .before .before .before in
     let fits-of = start .pre .0 (sym (at-edits .edits .ensures) ∙ granted (c .before .before .if1 .left)) in omega (arith, fits-of .after, fits-of .inside, fits-of .short)
 
--- src/closing.rt:96:31
 sub-first-of : tie.Need-sub-first-of
 sub-first-of c = search needs
 
--- src/closing.rt:96:9
 first-of-requires : tie.Need-first-of-requires
 first-of-requires c κs = search needs
 
--- src/closing.rt:97:44
 behind-requires : tie.Need-behind-requires
 behind-requires c κs = search needs
 
--- src/closing.rt:97:9
 finish-array-requires : tie.Need-finish-array-requires
 finish-array-requires c κs =
     let at-if1 = c .before .before .before .before .before .before .before in
@@ -64,15 +55,12 @@ finish-array-requires c κs =
           (arith, fits-of .after, fits-of .inside, fits-of .short),
     )
 
--- src/closing.rt:98:5
 edited-requires : tie.Need-edited-requires
 edited-requires c κs = search needs
 
--- src/closing.rt:78:1
 same-length : tie.Need-same-length
 same-length c = search needs
 
--- src/closing.rt:78:1
 returns-2 : tie.Need-returns-2
 returns-2 c =
     let at-finish-array = c .before .before .before in

@@ -7,56 +7,46 @@ use borrow.Author.Needs.{needs}
 use Rattle.editor_steps.proofs.closing.close_field.Statement.{statement}
 use Rattle.editor_steps.proofs.closing.close_field.Tie as tie
 
--- src/closing.rt:139:9
 close-last-requires : tie.Need-close-last-requires
 close-last-requires c κs = search needs
 
--- src/closing.rt:139:9
 same-length : tie.Need-same-length
 same-length c = search needs
 
--- src/closing.rt:139:9
 returns : tie.Need-returns
 returns c =
     let at-if1 = c .before .before .before .before in
     let start = c .before .before .before .before .before .before .before .before .before in
     closes-as (sym (rest-last (start .args .text .now) (start .args .row) (start .args .field) (start .args .part .now) _ (at-if1 .if1 .taken))) (omega arith) (c .before .before .close-last .ensures)
 
--- src/closing.rt:141:9
 edits-requires : tie.Need-edits-requires
 edits-requires c κs = search needs
 
--- src/closing.rt:142:9
 returns-2 : tie.Need-returns-2
 returns-2 c =
     let start = c .before .before .before .before .before .before .before in
     closes-same _ _ _ _ (start .args .walked) _ (sym (c .before .edits .ensures) ∙ denied (c .if2 .taken))
 
--- src/closing.rt:144:14
 add-to : tie.Need-add-to
 add-to c =
     let start = c .before .before .before .before .before .before .before .before in
     let fits-of = start .pre .0 (sym (c .before .before .edits .ensures) ∙ granted (c .before .if2 .left)) in omega (arith, fits-of .after, fits-of .inside, fits-of .short)
 
--- src/closing.rt:145:20
 sub-at : tie.Need-sub-at
 sub-at c =
     let at-edits = c .before .before .before in
     let start = c .before .before .before .before .before .before .before .before .before in
     let fits-of = start .pre .0 (sym (at-edits .edits .ensures) ∙ granted (c .before .before .if2 .left)) in omega (arith, fits-of .after, fits-of .inside, fits-of .short)
 
--- src/closing.rt:145:14
 sub-at-2 : tie.Need-sub-at-2
 sub-at-2 c =
     let at-edits = c .before .before .before in
     let start = c .before .before .before .before .before .before .before .before .before in
     let fits-of = start .pre .0 (sym (at-edits .edits .ensures) ∙ granted (c .before .before .if2 .left)) in omega (arith, fits-of .after, fits-of .inside, fits-of .short)
 
--- src/closing.rt:146:9
 behind-field-requires : tie.Need-behind-field-requires
 behind-field-requires c κs = search needs
 
--- src/closing.rt:147:9
 finish-structure-requires : tie.Need-finish-structure-requires
 finish-structure-requires c κs =
     let at-if2 = c .before .before .before .before in
@@ -65,15 +55,12 @@ finish-structure-requires c κs =
     let start = c .before .before .before .before .before .before .before .before .before .before .before in
     let fits-of = start .pre .0 (sym (at-edits .edits .ensures) ∙ granted (at-if2 .if2 .left)) in row-asked (start .args .row) (start .args .field) _ _ (c .before .behind-field .ensures) (start .pre .1) (at-if1 .if1 .left) (omega (arith, fits-of .after, fits-of .inside, fits-of .short))
 
--- src/closing.rt:148:5
 edited-requires : tie.Need-edited-requires
 edited-requires c κs = search needs
 
--- src/closing.rt:123:1
 same-length-2 : tie.Need-same-length-2
 same-length-2 c = search needs
 
--- src/closing.rt:123:1
 returns-3 : tie.Need-returns-3
 returns-3 c =
     let at-finish-structure = c .before .before .before in

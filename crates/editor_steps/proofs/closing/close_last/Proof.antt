@@ -8,37 +8,31 @@ use borrow.Author.Needs.{needs}
 use Rattle.editor_steps.proofs.closing.close_last.Statement.{statement}
 use Rattle.editor_steps.proofs.closing.close_last.Tie as tie
 
--- src/closing.rt:113:9
 edits-requires : tie.Need-edits-requires
 edits-requires c κs = search needs
 
--- src/closing.rt:114:9
 returns : tie.Need-returns
 returns c =
     let start = c .before .before .before .before in
     closes-same _ _ _ _ (start .args .walked) _ (sym (c .before .edits .ensures) ∙ denied (c .if1 .taken))
 
--- src/closing.rt:116:14
 add-to : tie.Need-add-to
 add-to c =
     let start = c .before .before .before .before .before in
     let fits-of = start .pre .0 (sym (c .before .before .edits .ensures) ∙ granted (c .before .if1 .left)) in omega (arith, fits-of .after, fits-of .inside, fits-of .short)
 
--- src/closing.rt:117:20
 sub-at : tie.Need-sub-at
 sub-at c =
     let at-edits = c .before .before .before in
     let start = c .before .before .before .before .before .before in
     let fits-of = start .pre .0 (sym (at-edits .edits .ensures) ∙ granted (c .before .before .if1 .left)) in omega (arith, fits-of .after, fits-of .inside, fits-of .short)
 
--- src/closing.rt:117:14
 sub-at-2 : tie.Need-sub-at-2
 sub-at-2 c =
     let at-edits = c .before .before .before in
     let start = c .before .before .before .before .before .before in
     let fits-of = start .pre .0 (sym (at-edits .edits .ensures) ∙ granted (c .before .before .if1 .left)) in omega (arith, fits-of .after, fits-of .inside, fits-of .short)
 
--- src/closing.rt:118:9
 finish-last-requires : tie.Need-finish-last-requires
 finish-last-requires c κs =
     let at-if1 = c .before .before .before in
@@ -46,15 +40,12 @@ finish-last-requires c κs =
     let start = c .before .before .before .before .before .before .before in
     let fits-of = start .pre .0 (sym (at-edits .edits .ensures) ∙ granted (at-if1 .if1 .left)) in (start .pre .1, start .pre .2, start .pre .3, omega (arith, fits-of .after, fits-of .inside, fits-of .short))
 
--- src/closing.rt:119:5
 edited-requires : tie.Need-edited-requires
 edited-requires c κs = search needs
 
--- src/closing.rt:101:1
 same-length : tie.Need-same-length
 same-length c = search needs
 
--- src/closing.rt:101:1
 returns-2 : tie.Need-returns-2
 returns-2 c =
     let at-finish-last = c .before .before .before in

@@ -8,33 +8,27 @@ use borrow.Author.Needs.{needs}
 use Rattle.editor_steps.proofs.closing.close_maybe.Statement.{statement}
 use Rattle.editor_steps.proofs.closing.close_maybe.Tie as tie
 
--- src/closing.rt:35:9
 edits-requires : tie.Need-edits-requires
 edits-requires c κs = search needs
 
--- src/closing.rt:36:9
 returns : tie.Need-returns
 returns c =
     let start = c .before .before .before in
     closes-same _ _ _ _ (start .args .walked) _ (sym (c .before .edits .ensures) ∙ denied (c .if1 .taken))
 
--- src/closing.rt:39:20
 sub-at : tie.Need-sub-at
 sub-at c =
     let start = c .before .before .before .before in
     let fits-of = start .pre (sym (c .before .before .edits .ensures) ∙ granted (c .before .if1 .left)) in omega (arith, fits-of .after, fits-of .inside, fits-of .short)
 
--- src/closing.rt:39:14
 sub-at-2 : tie.Need-sub-at-2
 sub-at-2 c =
     let start = c .before .before .before .before in
     let fits-of = start .pre (sym (c .before .before .edits .ensures) ∙ granted (c .before .if1 .left)) in omega (arith, fits-of .after, fits-of .inside, fits-of .short)
 
--- src/closing.rt:40:5
 put-zeros-requires : tie.Need-put-zeros-requires
 put-zeros-requires c κs = search needs
 
--- src/closing.rt:41:26
 add-edited : tie.Need-add-edited
 add-edited c =
     let at-if1 = c .before .before .before .before .before in
@@ -42,15 +36,12 @@ add-edited c =
     let start = c .before .before .before .before .before .before .before .before in
     let fits-of = start .pre (sym (at-edits .edits .ensures) ∙ granted (at-if1 .if1 .left)) in omega (arith, fits-of .after, fits-of .inside, fits-of .short)
 
--- src/closing.rt:41:5
 edited-requires : tie.Need-edited-requires
 edited-requires c κs = search needs
 
--- src/closing.rt:31:1
 same-length : tie.Need-same-length
 same-length c = search needs
 
--- src/closing.rt:31:1
 returns-2 : tie.Need-returns-2
 returns-2 c =
     let at-put-zeros = c .before .before .before in

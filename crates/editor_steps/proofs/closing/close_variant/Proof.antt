@@ -8,36 +8,30 @@ use borrow.Author.Needs.{needs}
 use Rattle.editor_steps.proofs.closing.close_variant.Statement.{statement}
 use Rattle.editor_steps.proofs.closing.close_variant.Tie as tie
 
--- src/closing.rt:54:9
 edits-requires : tie.Need-edits-requires
 edits-requires c κs = search needs
 
--- src/closing.rt:55:9
 returns : tie.Need-returns
 returns c =
     let start = c .before .before .before .before in
     closes-same _ _ _ _ (start .args .walked) _ (sym (c .before .edits .ensures) ∙ denied (c .if1 .taken))
 
--- src/closing.rt:58:20
 sub-at : tie.Need-sub-at
 sub-at c =
     let start = c .before .before .before .before .before in
     let fits-of = start .pre .0 (sym (c .before .before .edits .ensures) ∙ granted (c .before .if1 .left)) in omega (arith, fits-of .after, fits-of .inside, fits-of .short)
 
--- src/closing.rt:58:14
 sub-at-2 : tie.Need-sub-at-2
 sub-at-2 c =
     let start = c .before .before .before .before .before in
     let fits-of = start .pre .0 (sym (c .before .before .edits .ensures) ∙ granted (c .before .if1 .left)) in omega (arith, fits-of .after, fits-of .inside, fits-of .short)
 
--- src/closing.rt:59:5
 move-part-requires : tie.Need-move-part-requires
 move-part-requires c κs =
     let at-edits = c .before .before .before in
     let start = c .before .before .before .before .before .before in
     let fits-of = start .pre .0 (sym (at-edits .edits .ensures) ∙ granted (c .before .before .if1 .left)) in omega (arith, fits-of .after, fits-of .inside, fits-of .short, start .pre .1)
 
--- src/closing.rt:60:26
 add-edited : tie.Need-add-edited
 add-edited c =
     let at-if1 = c .before .before .before .before .before in
@@ -45,7 +39,6 @@ add-edited c =
     let start = c .before .before .before .before .before .before .before .before .before in
     let fits-of = start .pre .0 (sym (at-edits .edits .ensures) ∙ granted (at-if1 .if1 .left)) in omega (arith, fits-of .after, fits-of .inside, fits-of .short, start .pre .1)
 
--- src/closing.rt:60:26
 add-edited-2 : tie.Need-add-edited-2
 add-edited-2 c =
     let at-if1 = c .before .before .before .before .before in
@@ -53,15 +46,12 @@ add-edited-2 c =
     let start = c .before .before .before .before .before .before .before .before .before in
     let fits-of = start .pre .0 (sym (at-edits .edits .ensures) ∙ granted (at-if1 .if1 .left)) in omega (arith, fits-of .after, fits-of .inside, fits-of .short, start .pre .1)
 
--- src/closing.rt:60:5
 edited-requires : tie.Need-edited-requires
 edited-requires c κs = search needs
 
--- src/closing.rt:45:1
 same-length : tie.Need-same-length
 same-length c = search needs
 
--- src/closing.rt:45:1
 returns-2 : tie.Need-returns-2
 returns-2 c =
     let at-move-part = c .before .before .before in

@@ -4,23 +4,18 @@ use borrow.Author.Needs.{needs}
 use Rattle.editor_steps.proofs.reading.is_slot.Statement.{statement}
 use Rattle.editor_steps.proofs.reading.is_slot.Tie as tie
 
--- src/reading.rt:27:28
 enum-told : tie.Need-enum-told
 enum-told c = search needs
 
--- src/reading.rt:28:49
 enum-told-2 : tie.Need-enum-told-2
 enum-told-2 c = search needs
 
--- src/reading.rt:23:1
 returns : tie.Need-returns
 returns c = search needs
 
--- src/reading.rt:23:1
 returns-2 : tie.Need-returns-2
 returns-2 c = search needs
 
--- src/reading.rt:23:1
 returns-3 : tie.Need-returns-3
 returns-3 c =
     slot-not (c .before .args .kind) (c .match .keys3)

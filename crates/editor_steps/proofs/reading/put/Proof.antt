@@ -7,29 +7,23 @@ use borrow.Author.Needs.{needs}
 use Rattle.editor_steps.proofs.reading.put.Statement.{statement}
 use Rattle.editor_steps.proofs.reading.put.Tie as tie
 
--- src/reading.rt:68:9
 spells-requires : tie.Need-spells-requires
 spells-requires c κs = search needs
 
--- src/reading.rt:69:9
 refused-requires : tie.Need-refused-requires
 refused-requires c κs = search needs
 
--- src/reading.rt:69:9
 returns : tie.Need-returns
 returns c =
     let start = c .before .before .before .before in
     record { is = λ u s q l a fx t. slot-refused (start .args .big) s a fx t _ _ l _ _ _ _ _ 17 (omega arith) (c .refused .ensures) (λ z. absurd (omega arith)) (bars-value s _ _ (start .args .kind) (start .args .bits) q (sym (c .before .before .spells .ensures) ∙ denied (c .before .if1 .taken))) }
 
--- src/reading.rt:71:9
 inc-maybe-requires : tie.Need-inc-maybe-requires
 inc-maybe-requires c κs = search needs
 
--- src/reading.rt:74:9
 refused-requires-2 : tie.Need-refused-requires-2
 refused-requires-2 c κs = search needs
 
--- src/reading.rt:74:9
 returns-2 : tie.Need-returns-2
 returns-2 c =
     let at-if1 = c .before .before .before in
@@ -41,25 +35,20 @@ returns-2 c =
           (c .before .before .inc-maybe .ensures .refusal ∙ z)));
     }
 
--- src/reading.rt:76:9
 extent-of-requires : tie.Need-extent-of-requires
 extent-of-requires c κs = search needs
 
--- src/reading.rt:78:5
 put-number-requires : tie.Need-put-number-requires
 put-number-requires c κs =
     let start = c .before .before .before .before .before .before .before in
     width-small (start .args .kind) (start .pre) _ (c .before .extent-of .ensures)
 
--- src/reading.rt:79:5
 edited-requires : tie.Need-edited-requires
 edited-requires c κs = search needs
 
--- src/reading.rt:57:1
 same-length : tie.Need-same-length
 same-length c = search needs
 
--- src/reading.rt:57:1
 returns-3 : tie.Need-returns-3
 returns-3 c =
     let at-put-number = c .before .before .before in

@@ -5,44 +5,35 @@ use borrow.Author.Needs.{needs}
 use Rattle.editor_steps.proofs.reading.reading.Statement.{statement}
 use Rattle.editor_steps.proofs.reading.reading.Tie as tie
 
--- src/reading.rt:95:9
 counted-requires : tie.Need-counted-requires
 counted-requires c κs = search needs
 
--- src/reading.rt:95:9
 returns : tie.Need-returns
 returns c =
     let start = c .before .before .before in
     record { is = λ u s q l a fx t. slot-past (start .args .aim .big) s a fx t _ _ l _ _ _ _ _ (c .counted .ensures) (c .before .if1 .taken) }
 
--- src/reading.rt:99:25
 enum-told : tie.Need-enum-told
 enum-told c = search needs
 
--- src/reading.rt:99:25
 edited-requires : tie.Need-edited-requires
 edited-requires c κs = search needs
 
--- src/reading.rt:100:23
 enum-known-new : tie.Need-enum-known-new
 enum-known-new c = search needs
 
--- src/reading.rt:100:33
 put-requires : tie.Need-put-requires
 put-requires c κs = search needs
 
--- src/reading.rt:83:1
 returns-2 : tie.Need-returns-2
 returns-2 c =
     let at-if1 = c .before .before .before in
     let start = c .before .before .before .before .before in
     record { is = λ u s q l a fx t. nothing-put (start .args .aim) s a fx t _ _ l _ _ _ _ _ (at-if1 .if1 .left) (c .edited .ensures) (c .before .enum-told .given .1) refl }
 
--- src/reading.rt:83:1
 same-length : tie.Need-same-length
 same-length c = search needs
 
--- src/reading.rt:83:1
 returns-3 : tie.Need-returns-3
 returns-3 c =
     let at-new = c .before .before .before .before .before in

@@ -9,23 +9,19 @@ use borrow.Author.Needs.{needs}
 use Rattle.editor_steps.proofs.reading.spells.Statement.{statement}
 use Rattle.editor_steps.proofs.reading.spells.Tie as tie
 
--- src/reading.rt:52:35
 enum-known-kind : tie.Need-enum-known-kind
 enum-known-kind c = search needs
 
--- src/reading.rt:52:46
 suits-requires : tie.Need-suits-requires
 suits-requires c κs =
     let start = c .before .before .before in
     subst (λ (k : Letter). Aligns (letterExtent k .alignment)) (c .before .kind .given .1) (start .pre .aligned)
 
--- src/reading.rt:47:1
 returns : tie.Need-returns
 returns c =
     let start = c .before .before .before .before in
     c .suits .ensures ∙ ap (λ (k : Letter). letterSpells k (start .args .bits)) (sym (c .before .before .kind .given .1))
 
--- src/reading.rt:47:1
 returns-2 : tie.Need-returns-2
 returns-2 c =
     spells-bool (c .before .args .kind) (c .before .args .bits) (c .match .keys2)

@@ -5,19 +5,15 @@ use Rattle.editor_steps.proofs.reading.suits.Tie as tie
 use Rattle.meaning.proofs.PaddingLaws.{eight-left}
 use Rattle.meaning.proofs.NumberLaws.{eight-fits}
 
--- src/reading.rt:34:1
 returns : tie.Need-returns
 returns c = rw (c .match .keys1)
 
--- src/reading.rt:34:1
 returns-2 : tie.Need-returns-2
 returns-2 c = rw (c .match .keys2)
 
--- src/reading.rt:34:1
 returns-3 : tie.Need-returns-3
 returns-3 c = rw (c .match .keys3)
 
--- src/reading.rt:34:1
 returns-4 : tie.Need-returns-4
 returns-4 c =
     eight-fits _ _ (eight-left (c .before .pre) (c .match .rest .0 .0 .1) (c .match .rest .0 .1) (c .match .rest .1)) (omega arith)

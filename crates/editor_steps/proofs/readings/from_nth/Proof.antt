@@ -7,31 +7,22 @@ use Rattle.editor_steps.proofs.ReadingsLaws.{nth-inside, nth-first, nth
 use borrow.Author.Needs.{needs}
 use Rattle.editor_steps.proofs.readings.from_nth.Statement.{statement}
 use Rattle.editor_steps.proofs.readings.from_nth.Tie as tie
-use Rattle.editor_steps.proofs.readings.from_nth.Reads as reads
-use Rattle.editor_steps.proofs.readings.from_nth.Lts as lts
-use Rattle.framing_offset_size.proofs.FramingOffsetSize.width.Reads as width-reads
-use Rattle.strict_basic.proofs.ends.offset_at.Reads as offset-at-reads
 
--- src/readings.rt:24:9
 returns : tie.Need-returns
 returns c = nth-first (c .before .before .args .all) (c .before .before .args .number) (c .before .before .args .part .now) (c .if1 .taken)
 
--- src/readings.rt:27:9
 width-requires : tie.Need-width-requires
 width-requires c κs = search needs
 
--- src/readings.rt:28:30
 sub-before : tie.Need-sub-before
 sub-before c = search needs
 
--- src/readings.rt:28:29
 mul-before : tie.Need-mul-before
 mul-before c =
     let at-if1 = c .before in
     let start = at-if1 .before .before in
     let near = nth-inside (start .args .all) (start .args .part .now) (start .args .number) (c .width .result) (start .pre .0) (start .pre .1) (at-if1 .if1 .left) (c .width .ensures) in omega arith
 
--- src/readings.rt:28:18
 add-before : tie.Need-add-before
 add-before c =
     let at-width = c .before in
@@ -39,7 +30,6 @@ add-before c =
     let start = at-if1 .before .before in
     let near = nth-inside (start .args .all) (start .args .part .now) (start .args .number) (at-width .width .result) (start .pre .0) (start .pre .1) (at-if1 .if1 .left) (at-width .width .ensures) in omega arith
 
--- src/readings.rt:29:9
 offset-at-requires : tie.Need-offset-at-requires
 offset-at-requires c κs =
     let at-width = c .before in
@@ -47,11 +37,9 @@ offset-at-requires c κs =
     let start = at-if1 .before .before in
     (nth-inside (start .args .all) (start .args .part .now) (start .args .number) (at-width .width .result) (start .pre .0) (start .pre .1) (at-if1 .if1 .left) (at-width .width .ensures) .0, subst Aligns (sym (at-width .width .ensures)) (width-aligns (start .args .all .size)))
 
--- src/readings.rt:33:16
 sub-t9 : tie.Need-sub-t9
 sub-t9 c = search needs
 
--- src/readings.rt:34:15
 add-t10 : tie.Need-add-t10
 add-t10 c =
     let at-width = c .before .before .before in
@@ -59,7 +47,6 @@ add-t10 c =
     let start = at-if1 .before .before in
     let near = nth-inside (start .args .all) (start .args .part .now) (start .args .number) (at-width .width .result) (start .pre .0) (start .pre .1) (at-if1 .if1 .left) (at-width .width .ensures) in omega arith
 
--- src/readings.rt:19:1
 returns-2 : tie.Need-returns-2
 returns-2 c =
     let at-offset-at = c .before in

@@ -5,24 +5,13 @@ use Rattle.editor_steps.proofs.ReadingsLaws.{each-laid, each-body, each
 use borrow.Author.Needs.{needs}
 use Rattle.editor_steps.proofs.readings.readings.Statement.{statement}
 use Rattle.editor_steps.proofs.readings.readings.Tie as tie
-use Rattle.editor_steps.proofs.readings.readings.Reads as reads
-use Rattle.editor_steps.proofs.readings.readings.Lts as lts
-use Rattle.editor_basic.proofs.elements.first_element.Reads as first-element-reads
-use Rattle.editor_steps.proofs.answers.counted.Reads as counted-reads
-use Rattle.editor_steps.proofs.closing.close_element.Reads as close-element-reads
-use Rattle.editor_steps.proofs.reading.reading.Reads as reading-reads
-use Rattle.editor_steps.proofs.readings.from_nth.Reads as from-nth-reads
-use Rattle.editor_steps.proofs.starts.elements_of.Reads as elements-of-reads
 
--- src/readings.rt:53:9
 elements-of-requires : tie.Need-elements-of-requires
 elements-of-requires c κs = each-body (c .before .before .pre)
 
--- src/readings.rt:56:9
 counted-requires : tie.Need-counted-requires
 counted-requires c κs = search needs
 
--- src/readings.rt:56:9
 returns : tie.Need-returns
 returns c =
     let at-if1 = c .before in
@@ -30,15 +19,12 @@ returns c =
     let start = at-elements-of .before .before .before in
     record { is = λ u s k fx t. each-counted (start .pre) (at-elements-of .elements-of .ensures) (start .args .aim .big) s fx t _ _ _ _ _ _ (at-if1 .if1 .taken) (c .counted .ensures) refl }
 
--- src/readings.rt:58:9
 from-nth-requires : tie.Need-from-nth-requires
 from-nth-requires c κs = (each-whole (c .before .before .before .before .pre) (c .before .elements-of .ensures) (c .if1 .left), omega (arith, c .if1 .left))
 
--- src/readings.rt:59:9
 first-element-requires : tie.Need-first-element-requires
 first-element-requires c κs = each-stands (c .before .before .before .before .before .pre) (c .before .before .elements-of .ensures) (c .before .if1 .left) (c .from-nth .ensures)
 
--- src/readings.rt:62:32
 add-reading : tie.Need-add-reading
 add-reading c =
     let at-from-nth = c .before in
@@ -47,11 +33,9 @@ add-reading c =
     let start = at-elements-of .before .before .before in
     omega (arith, each-near (start .pre) (at-elements-of .elements-of .ensures) (at-if1 .if1 .left) (at-from-nth .from-nth .ensures) (c .first-element .ensures))
 
--- src/readings.rt:62:9
 reading-requires : tie.Need-reading-requires
 reading-requires c κs = each-laid (c .before .before .before .before .before .before .before .pre)
 
--- src/readings.rt:63:5
 close-element-requires : tie.Need-close-element-requires
 close-element-requires c κs =
     let at-reading = c .before .before .before in
@@ -62,11 +46,9 @@ close-element-requires c κs =
     let start = at-elements-of .before .before .before in
     each-closes (start .pre) (at-elements-of .elements-of .ensures) (at-if1 .if1 .left) (at-from-nth .from-nth .ensures) (at-first-element .first-element .ensures) (start .args .aim) _ _ _ (at-reading .reading .ensures)
 
--- src/readings.rt:40:1
 same-length : tie.Need-same-length
 same-length c = search needs
 
--- src/readings.rt:40:1
 returns-2 : tie.Need-returns-2
 returns-2 c =
     let at-close-element = c .before .before in

@@ -6,29 +6,23 @@ use borrow.Author.Needs.{needs}
 use Rattle.editor_steps.proofs.starts.elements_of.Statement.{statement}
 use Rattle.editor_steps.proofs.starts.elements_of.Tie as tie
 
--- src/starts.rt:49:9
 for-encoded-container-requires : tie.Need-for-encoded-container-requires
 for-encoded-container-requires c κs = search needs
 
--- src/starts.rt:50:9
 last-in-requires : tie.Need-last-in-requires
 last-in-requires c κs = search needs
 
--- src/starts.rt:52:31
 sub-count-in : tie.Need-sub-count-in
 sub-count-in c =
     let start = c .before .before .before in
     omega (arith, (last-offset-is (start .args .part .now) _ _ (c .before .for-encoded-container .ensures) (c .last-in .ensures)), start .pre)
 
--- src/starts.rt:52:9
 count-in-requires : tie.Need-count-in-requires
 count-in-requires c κs = search needs
 
--- src/starts.rt:53:5
 elements-as-requires : tie.Need-elements-as-requires
 elements-as-requires c κs = search needs
 
--- src/starts.rt:44:1
 returns : tie.Need-returns
 returns c =
     let at-for-encoded-container = c .before .before .before in

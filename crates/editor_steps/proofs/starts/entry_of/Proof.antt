@@ -4,34 +4,28 @@ use borrow.Author.Needs.{needs}
 use Rattle.editor_steps.proofs.starts.entry_of.Statement.{statement}
 use Rattle.editor_steps.proofs.starts.entry_of.Tie as tie
 
--- src/starts.rt:83:9
 extent-of-requires : tie.Need-extent-of-requires
 extent-of-requires c κs = search needs
 
--- src/starts.rt:84:31
 one-more-requires : tie.Need-one-more-requires
 one-more-requires c κs = search needs
 
--- src/starts.rt:84:9
 table-of-requires : tie.Need-table-of-requires
 table-of-requires c κs =
     let start = c .before .before .before in
     entry-room (start .args .key) (start .args .part .now) (start .pre .0) (start .pre .1) _ (c .before .extent-of .ensures) _ (c .one-more .ensures)
 
--- src/starts.rt:85:9
 field-end-requires : tie.Need-field-end-requires
 field-end-requires c κs =
     let start = c .before .before .before .before in
     entry-asks (start .args .key) (start .args .part .now) (start .pre .0) (start .pre .1) _ (c .before .before .extent-of .ensures) _ (c .before .one-more .ensures) _ (c .table-of .ensures)
 
--- src/starts.rt:86:9
 aligned-requires : tie.Need-aligned-requires
 aligned-requires c κs =
     let at-extent-of = c .before .before .before in
     let start = c .before .before .before .before .before in
     (entry-stop (start .args .key) (start .args .part .now) (start .pre .0) (start .pre .1) _ (at-extent-of .extent-of .ensures) _ (c .before .before .one-more .ensures) _ (c .before .table-of .ensures) _ (c .field-end .ensures), start .pre .2)
 
--- src/starts.rt:78:1
 returns : tie.Need-returns
 returns c =
     let at-one-more = c .before .before .before in

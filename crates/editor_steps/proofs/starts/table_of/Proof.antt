@@ -6,25 +6,20 @@ use borrow.Author.Needs.{needs}
 use Rattle.editor_steps.proofs.starts.table_of.Statement.{statement}
 use Rattle.editor_steps.proofs.starts.table_of.Tie as tie
 
--- src/starts.rt:54:9
 for-encoded-container-requires : tie.Need-for-encoded-container-requires
 for-encoded-container-requires c κs = search needs
 
--- src/starts.rt:55:9
 width-requires : tie.Need-width-requires
 width-requires c κs = search needs
 
--- src/starts.rt:57:21
 mul-t5 : tie.Need-mul-t5
 mul-t5 c =
     omega (arith, c .before .before .pre, ap (λ (i : ℕ). c .before .before .args .count * i) (c .width .ensures ∙ c .before .for-encoded-container .ensures))
 
--- src/starts.rt:57:15
 sub-t6 : tie.Need-sub-t6
 sub-t6 c =
     omega (arith, c .before .before .pre, ap (λ (i : ℕ). c .before .before .args .count * i) (c .width .ensures ∙ c .before .for-encoded-container .ensures))
 
--- src/starts.rt:50:1
 returns : tie.Need-returns
 returns c =
     rw (c .width .ensures ∙ c .before .for-encoded-container .ensures)

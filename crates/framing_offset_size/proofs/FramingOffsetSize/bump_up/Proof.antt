@@ -4,8 +4,6 @@ use Rattle.framing_offset_size.proofs.FramingOffsetSize.bump_up.Stateme
   statement,
 }
 use Rattle.framing_offset_size.proofs.FramingOffsetSize.bump_up.Tie as tie
-use Rattle.framing_offset_size.proofs.FramingOffsetSize.bump_up.Reads as reads
-use Rattle.framing_offset_size.proofs.FramingOffsetSize.bump_up.Lts as lts
 
 enum-told : tie.Need-enum-told
 enum-told c = search needs

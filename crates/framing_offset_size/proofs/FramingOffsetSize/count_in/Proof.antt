@@ -5,8 +5,6 @@ use Rattle.framing_offset_size.proofs.FramingOffsetSize.count_in.Statem
   statement,
 }
 use Rattle.framing_offset_size.proofs.FramingOffsetSize.count_in.Tie as tie
-use Rattle.framing_offset_size.proofs.FramingOffsetSize.count_in.Reads as reads
-use Rattle.framing_offset_size.proofs.FramingOffsetSize.count_in.Lts as lts
 
 enum-told : tie.Need-enum-told
 enum-told c = search needs

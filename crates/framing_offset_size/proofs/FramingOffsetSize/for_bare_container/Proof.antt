@@ -1,17 +1,13 @@
 -- `framing_offset_size::FramingOffsetSize::for_bare_container` meets its contract. Assumes nothing.
 use Rattle.framing_offset_size.specs.Widths.{widthOf}
 use Rattle.framing_offset_size.proofs.WidthLaws.{Trying, trying-begin, trying-done, trying-next, trying-none, bumped-above, fitted}
-use mathlib.Core.Path.{_≡_, refl, sym, _∙_}
+use mathlib.Core.Path.{sym, _∙_}
 use borrow.Author.Needs.{needs}
 use Prim.Native.Nat.{_-_}
 use Rattle.framing_offset_size.proofs.FramingOffsetSize.for_bare_container.Statement.{
   statement,
 }
 use Rattle.framing_offset_size.proofs.FramingOffsetSize.for_bare_container.Tie as tie
-use Rattle.framing_offset_size.proofs.FramingOffsetSize.for_bare_container.Reads as reads
-use Rattle.framing_offset_size.proofs.FramingOffsetSize.for_bare_container.Lts as lts
-use Rattle.framing_offset_size.proofs.FramingOffsetSize.bump_up.Reads as bump-up-reads
-use Rattle.framing_offset_size.proofs.FramingOffsetSize.holds.Reads as holds-reads
 
 abbrev Inv-loop : tie.InvT-loop
 Inv-loop len count size₀ size = Trying size len count

@@ -7,9 +7,6 @@ use Rattle.framing_offset_size.proofs.FramingOffsetSize.for_encoded_con
   statement,
 }
 use Rattle.framing_offset_size.proofs.FramingOffsetSize.for_encoded_container.Tie as tie
-use Rattle.framing_offset_size.proofs.FramingOffsetSize.for_encoded_container.Reads as reads
-use Rattle.framing_offset_size.proofs.FramingOffsetSize.for_encoded_container.Lts as lts
-use Rattle.framing_offset_size.proofs.FramingOffsetSize.max.Reads as max-reads
 
 max-requires : tie.Need-max-requires
 max-requires c κs = search needs

@@ -6,10 +6,6 @@ use mathlib.Core.Path.{sym}
 use borrow.Author.Needs.{needs}
 use Rattle.framing_offset_size.proofs.FramingOffsetSize.holds.Statement.{statement}
 use Rattle.framing_offset_size.proofs.FramingOffsetSize.holds.Tie as tie
-use Rattle.framing_offset_size.proofs.FramingOffsetSize.holds.Reads as reads
-use Rattle.framing_offset_size.proofs.FramingOffsetSize.holds.Lts as lts
-use Rattle.framing_offset_size.proofs.FramingOffsetSize.count_in.Reads as count-in-reads
-use Rattle.framing_offset_size.proofs.FramingOffsetSize.max.Reads as max-reads
 
 max-requires : tie.Need-max-requires
 max-requires c κs = search needs

@@ -2,8 +2,6 @@
 use borrow.Author.Needs.{needs}
 use Rattle.framing_offset_size.proofs.FramingOffsetSize.max.Statement.{statement}
 use Rattle.framing_offset_size.proofs.FramingOffsetSize.max.Tie as tie
-use Rattle.framing_offset_size.proofs.FramingOffsetSize.max.Reads as reads
-use Rattle.framing_offset_size.proofs.FramingOffsetSize.max.Lts as lts
 
 enum-told : tie.Need-enum-told
 enum-told c = search needs

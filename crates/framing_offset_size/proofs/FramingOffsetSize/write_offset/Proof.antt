@@ -5,14 +5,10 @@ use Rattle.framing_offset_size.specs.Widths.{widthOf}
 use native.Mathlib.Omega.{arith}
 use borrow.Author.Needs.{needs}
 use Prim.Native.Nat.{_-_}
-use mathlib.Core.Path.{_≡_, refl, sym, _∙_}
 use Rattle.framing_offset_size.proofs.FramingOffsetSize.write_offset.Statement.{
   statement,
 }
 use Rattle.framing_offset_size.proofs.FramingOffsetSize.write_offset.Tie as tie
-use Rattle.framing_offset_size.proofs.FramingOffsetSize.write_offset.Reads as reads
-use Rattle.framing_offset_size.proofs.FramingOffsetSize.write_offset.Lts as lts
-use Rattle.framing_offset_size.proofs.FramingOffsetSize.width.Reads as width-reads
 
 abbrev Inv-loop : tie.InvT-loop
 Inv-loop buffer₀ offset width rest₀ i₀ buffer rest i = Writing width offset buffer₀ buffer rest i

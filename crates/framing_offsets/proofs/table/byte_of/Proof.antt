@@ -4,11 +4,6 @@ use Rattle.framing_offsets.proofs.HeldLaws.{byte-behind, byte-there}
 use borrow.Author.Needs.{needs}
 use Rattle.framing_offsets.proofs.table.byte_of.Statement.{statement}
 use Rattle.framing_offsets.proofs.table.byte_of.Tie as tie
-use Rattle.framing_offsets.proofs.table.byte_of.Reads as reads
-use Rattle.framing_offsets.proofs.table.byte_of.Lts as lts
-use Rattle.framing_offsets.proofs.table.wide.Reads as wide-reads
-use Rattle.utils.proofs.Checked.failed.Reads as failed-reads
-use Rattle.utils.proofs.Checked.passed.Reads as passed-reads
 
 failed-requires : tie.Need-failed-requires
 failed-requires c κs = search needs

@@ -4,9 +4,6 @@ use Rattle.framing_offsets.proofs.HeldLaws.{count-held}
 use borrow.Author.Needs.{needs}
 use Rattle.framing_offsets.proofs.table.count_of.Statement.{statement}
 use Rattle.framing_offsets.proofs.table.count_of.Tie as tie
-use Rattle.framing_offsets.proofs.table.count_of.Reads as reads
-use Rattle.framing_offsets.proofs.table.count_of.Lts as lts
-use Rattle.framing_offset_size.proofs.FramingOffsetSize.count_in.Reads as count-in-reads
 
 count-in-requires : tie.Need-count-in-requires
 count-in-requires c κs = search needs

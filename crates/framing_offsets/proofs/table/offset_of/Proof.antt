@@ -2,11 +2,6 @@
 use borrow.Author.Needs.{needs}
 use Rattle.framing_offsets.proofs.table.offset_of.Statement.{statement}
 use Rattle.framing_offsets.proofs.table.offset_of.Tie as tie
-use Rattle.framing_offsets.proofs.table.offset_of.Reads as reads
-use Rattle.framing_offsets.proofs.table.offset_of.Lts as lts
-use Rattle.framing_offsets.proofs.table.byte_of.Reads as byte-of-reads
-use Rattle.framing_offsets.proofs.table.two_of.Reads as two-of-reads
-use Rattle.framing_offsets.proofs.table.wider_of.Reads as wider-of-reads
 
 enum-told : tie.Need-enum-told
 enum-told c = search needs

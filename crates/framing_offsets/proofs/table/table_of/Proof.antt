@@ -3,9 +3,6 @@ use Rattle.framing_offsets.proofs.HeldLaws.{start-inside, bytes-there, 
 use borrow.Author.Needs.{needs}
 use Rattle.framing_offsets.proofs.table.table_of.Statement.{statement}
 use Rattle.framing_offsets.proofs.table.table_of.Tie as tie
-use Rattle.framing_offsets.proofs.table.table_of.Reads as reads
-use Rattle.framing_offsets.proofs.table.table_of.Lts as lts
-use Rattle.framing_offsets.proofs.from_encoded_array.Reads as from-encoded-array-reads
 
 from-encoded-array-requires : tie.Need-from-encoded-array-requires
 from-encoded-array-requires c κs = search needs

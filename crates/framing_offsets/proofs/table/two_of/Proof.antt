@@ -5,11 +5,6 @@ use Rattle.framing_offsets.proofs.HeldLaws.{two-behind, two-there}
 use borrow.Author.Needs.{needs}
 use Rattle.framing_offsets.proofs.table.two_of.Statement.{statement}
 use Rattle.framing_offsets.proofs.table.two_of.Tie as tie
-use Rattle.framing_offsets.proofs.table.two_of.Reads as reads
-use Rattle.framing_offsets.proofs.table.two_of.Lts as lts
-use Rattle.framing_offsets.proofs.table.wide.Reads as wide-reads
-use Rattle.utils.proofs.Checked.failed.Reads as failed-reads
-use Rattle.utils.proofs.Checked.passed.Reads as passed-reads
 
 failed-requires : tie.Need-failed-requires
 failed-requires c κs = search needs

@@ -7,12 +7,6 @@ use Rattle.framing_offsets.proofs.HeldLaws.{held-behind, held-inside, h
 use borrow.Author.Needs.{needs}
 use Rattle.framing_offsets.proofs.table.wider_of.Statement.{statement}
 use Rattle.framing_offsets.proofs.table.wider_of.Tie as tie
-use Rattle.framing_offsets.proofs.table.wider_of.Reads as reads
-use Rattle.framing_offsets.proofs.table.wider_of.Lts as lts
-use Rattle.framing_offset_size.proofs.FramingOffsetSize.offset_at.Reads as offset-at-reads
-use Rattle.framing_offset_size.proofs.FramingOffsetSize.width.Reads as width-reads
-use Rattle.framing_offsets.proofs.table.count_of.Reads as count-of-reads
-use Rattle.utils.proofs.Checked.failed.Reads as failed-reads
 
 count-of-requires : tie.Need-count-of-requires
 count-of-requires c κs = search needs

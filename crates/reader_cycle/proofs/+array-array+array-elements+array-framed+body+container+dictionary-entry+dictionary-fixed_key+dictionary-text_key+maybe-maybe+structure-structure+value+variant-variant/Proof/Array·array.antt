@@ -89,11 +89,11 @@ array·array-same-length t c = search needs
 array·array-returns-2 : (t : ℕ) → array·array-lts.Need-returns-2 (array·array-callees t) (array·array-at t) array·array.Post
 array·array-returns-2 t c =
     let at-empty = c .before .before in
-    let at-if2 = c .before .before .before .before in
-    let at-kind = c .before .before .before .before .before in
-    let at-if1 = c .before .before .before .before .before .before .before in
-    let at-in-array = c .before .before .before .before .before .before .before .before in
-    let start = c .before .before .before .before .before .before .before .before .before .before .before .before in
+    let at-if2 = at-empty .before .before in
+    let at-kind = at-if2 .before in
+    let at-if1 = at-kind .before .before in
+    let at-in-array = at-if1 .before in
+    let start = at-in-array .before .before .before .before in
     array-empty (repeats _ _ _ (start .pre .1 .0) (start .pre .1 .1)) _ _ _ _ _ _ (at-in-array .in-array .ensures .deeper (at-if1 .if1 .left)) _ _ _
     (omega (arith, at-if2 .if2 .taken)) (at-kind .kind-by .ensures) (at-empty .empty .ensures)
 

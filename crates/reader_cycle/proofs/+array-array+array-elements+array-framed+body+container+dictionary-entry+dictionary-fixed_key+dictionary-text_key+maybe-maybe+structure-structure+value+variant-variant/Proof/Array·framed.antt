@@ -1,8 +1,8 @@
 -- The needs of `array·framed`, and what answers each.
 use Prim.Native.Nat.{_+_, _-_, ℕ}
 use Rattle.framing_offsets.specs.Tables.{tableIn}
-use Rattle.meaning.specs.Offsets.{endsOf}
 use Rattle.meaning.proofs.Bounds.{length-ends}
+use Rattle.meaning.specs.Offsets.{endsOf}
 use Rattle.reader_basic.proofs.Loops.{FramedLeft, ends-below, framed-begin, framed-end, framed-next, framed-stop, kept, next-end}
 use Rattle.reader_basic.specs.Answers.{Between}
 use Rattle.reader_steps.proofs.Arrays.{offset-told}

@@ -1,6 +1,7 @@
 -- The needs of `dictionary·text_key`, and what answers each.
 use Prim.Native.Nat.{_+_, _-_, ℕ}
 use Rattle.container_depths.specs.Opening.{depthsOf}
+use Rattle.reader_basic.proofs.Leaves.{within-child}
 use Rattle.reader_steps.proofs.Characters.{key-read, part-fits}
 use Rattle.reader_steps.proofs.Deepening.{told}
 use Rattle.reader_steps.proofs.Entries.{key-there, text-key-missing, text-key-narrow, text-key-stop, text-key-value}
@@ -15,7 +16,6 @@ use Rattle.reader_cycle.proofs.+array-array+array-elements+array-framed
 use cycle.Proof.Measures.{dictionary·text-key-at, value-below}
 use Rattle.reader_basic.proofs.behind.Reads as behind-reads
 use Rattle.reader_basic.proofs.refused.Reads as refused-reads
-use Rattle.reader_basic.proofs.Leaves.{within-child}
 use cycle.Lts-dictionary-text_key as dictionary·text-key-lts
 use of.dictionary.text_key.Reads as dictionary·text-key
 use of.value.Reads as value

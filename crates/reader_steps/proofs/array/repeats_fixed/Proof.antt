@@ -5,8 +5,6 @@ use borrow.Author.Needs.{needs}
 use Rattle.reader_steps.proofs.Repeats.{item-within, entry-there, fixed-entry, fixed-text-entry, fixed-element}
 use Rattle.reader_steps.proofs.array.repeats_fixed.Statement.{statement}
 use Rattle.reader_steps.proofs.array.repeats_fixed.Tie as tie
-use Rattle.reader_steps.proofs.codes.is_fixed.Reads as is-fixed-reads
-use Rattle.signature.proofs.shapes.fixed_of.Reads as fixed-of-reads
 
 add-if1 : tie.Need-add-if1
 add-if1 c = omega (arith, item-within _ _ _ _ (c .before .pre), c .before .pre .child .typed .short)

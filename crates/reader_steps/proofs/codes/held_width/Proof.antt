@@ -7,7 +7,6 @@ use Rattle.signature.proofs.Letters.{letter-some}
 use Rattle.reader_steps.proofs.Characters.{code-maybe, number-code}
 use Rattle.reader_steps.proofs.codes.held_width.Statement.{statement}
 use Rattle.reader_steps.proofs.codes.held_width.Tie as tie
-use Rattle.reader_steps.proofs.codes.number_width.Reads as number-width-reads
 
 shared-slice-read-if1 : tie.Need-shared-slice-read-if1
 shared-slice-read-if1 c = search needs

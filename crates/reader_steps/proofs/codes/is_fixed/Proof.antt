@@ -7,7 +7,6 @@ use Rattle.signature.specs.Steps.{keyFixed}
 use Rattle.reader_steps.proofs.Characters.{no-fixed, number-code}
 use Rattle.reader_steps.proofs.codes.is_fixed.Statement.{statement}
 use Rattle.reader_steps.proofs.codes.is_fixed.Tie as tie
-use Rattle.reader_steps.proofs.codes.number_width.Reads as number-width-reads
 
 returns : tie.Need-returns
 unfolding letterBy basicAmong

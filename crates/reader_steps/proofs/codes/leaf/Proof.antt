@@ -5,13 +5,6 @@ use Rattle.reader_steps.proofs.Characters.{byte-code, number-code, code
 use Rattle.reader_steps.proofs.Rides.{inside-as, number-as}
 use Rattle.reader_steps.proofs.codes.leaf.Statement.{statement}
 use Rattle.reader_steps.proofs.codes.leaf.Tie as tie
-use Rattle.reader_basic.proofs.basic.boolean.Reads as boolean-reads
-use Rattle.reader_basic.proofs.basic.byte.Reads as byte-reads
-use Rattle.reader_basic.proofs.basic.number.Reads as number-reads
-use Rattle.reader_basic.proofs.basic.text_value.Reads as text-value-reads
-use Rattle.reader_steps.proofs.codes.is_text.Reads as is-text-reads
-use Rattle.reader_steps.proofs.codes.number_width.Reads as number-width-reads
-use Rattle.reader_steps.proofs.ride.context_of.Reads as context-of-reads
 
 byte-requires : tie.Need-byte-requires
 byte-requires c κs = search needs

@@ -5,13 +5,6 @@ use native.Mathlib.Omega.{arith}
 use borrow.Author.Needs.{needs}
 use Rattle.reader_steps.proofs.dictionary.key_ends.Statement.{statement}
 use Rattle.reader_steps.proofs.dictionary.key_ends.Tie as tie
-use Rattle.reader_steps.proofs.dictionary.key_ends.Reads as reads
-use Rattle.reader_steps.proofs.dictionary.key_ends.Lts as lts
-use Rattle.framing_offset_size.proofs.FramingOffsetSize.for_encoded_container.Reads as for-encoded-container-reads
-use Rattle.framing_offsets.proofs.table.last_in.Reads as last-in-reads
-use Rattle.framing_offset_size.proofs.FramingOffsetSize.width.Reads as width-reads
-use Rattle.reader_steps.proofs.ends.Ends.at.Reads as at-reads
-use Rattle.reader_steps.proofs.ends.Ends.missing.Reads as missing-reads
 
 missing-requires : tie.Need-missing-requires
 missing-requires c κs = search needs

@@ -7,9 +7,6 @@ use Rattle.reader_steps.proofs.Deepening.{told}
 use borrow.Author.Needs.{needs}
 use Rattle.reader_steps.proofs.ends.end_padded.Statement.{statement}
 use Rattle.reader_steps.proofs.ends.end_padded.Tie as tie
-use Rattle.reader_basic.proofs.behind.Reads as behind-reads
-use Rattle.reader_basic.proofs.refused.Reads as refused-reads
-use Rattle.reader_steps.proofs.ends.padded.Reads as padded-reads
 
 add-padded : tie.Need-add-padded
 add-padded c = search needs

@@ -5,12 +5,6 @@ use Rattle.reader_steps.proofs.Paddings.{aligns-some, none-there, too-s
 use borrow.Author.Needs.{needs}
 use Rattle.reader_steps.proofs.ends.padded.Statement.{statement}
 use Rattle.reader_steps.proofs.ends.padded.Tie as tie
-use Rattle.de.proofs.zeros.Reads as zeros-reads
-use Rattle.signature.proofs.shapes.alignment_of.Reads as alignment-of-reads
-use Rattle.std.proofs.num.wrapping_add_usize.Reads as wrapping-add-usize-reads
-use Rattle.std.proofs.num.wrapping_sub_usize.Reads as wrapping-sub-usize-reads
-use Rattle.utils.proofs.Checked.failed.Reads as failed-reads
-use Rattle.utils.proofs.Checked.passed.Reads as passed-reads
 
 alignment-of-requires : tie.Need-alignment-of-requires
 alignment-of-requires c κs = search needs

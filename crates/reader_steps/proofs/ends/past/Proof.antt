@@ -6,9 +6,6 @@ use native.Mathlib.Omega.{arith}
 use borrow.Author.Needs.{needs}
 use Rattle.reader_steps.proofs.ends.past.Statement.{statement}
 use Rattle.reader_steps.proofs.ends.past.Tie as tie
-use Rattle.reader_steps.proofs.ends.past.Reads as reads
-use Rattle.reader_steps.proofs.ends.past.Lts as lts
-use Rattle.reader_basic.proofs.done.Reads as done-reads
 
 returns : tie.Need-returns
 returns c =

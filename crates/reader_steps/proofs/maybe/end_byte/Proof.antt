@@ -5,10 +5,6 @@ use native.Mathlib.Omega.{arith}
 use borrow.Author.Needs.{needs}
 use Rattle.reader_steps.proofs.maybe.end_byte.Statement.{statement}
 use Rattle.reader_steps.proofs.maybe.end_byte.Tie as tie
-use Rattle.reader_steps.proofs.maybe.end_byte.Reads as reads
-use Rattle.reader_steps.proofs.maybe.end_byte.Lts as lts
-use Rattle.reader_basic.proofs.done.Reads as done-reads
-use Rattle.reader_basic.proofs.refused.Reads as refused-reads
 
 returns : tie.Need-returns
 returns c =

@@ -6,9 +6,6 @@ use native.Mathlib.Omega.{arith}
 use borrow.Author.Needs.{needs}
 use Rattle.reader_steps.proofs.opening.in_maybe.Statement.{statement}
 use Rattle.reader_steps.proofs.opening.in_maybe.Tie as tie
-use Rattle.reader_steps.proofs.opening.in_maybe.Reads as reads
-use Rattle.reader_steps.proofs.opening.in_maybe.Lts as lts
-use Rattle.reader_steps.proofs.opening.is_full.Reads as is-full-reads
 
 is-full-requires : tie.Need-is-full-requires
 is-full-requires c κs = search needs

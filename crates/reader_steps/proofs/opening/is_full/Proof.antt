@@ -6,8 +6,6 @@ use Prim.Native.Nat.{ℕ}
 use lib.Dec.{leb}
 use Rattle.reader_steps.proofs.opening.is_full.Statement.{statement}
 use Rattle.reader_steps.proofs.opening.is_full.Tie as tie
-use Rattle.reader_steps.proofs.opening.is_full.Reads as reads
-use Rattle.reader_steps.proofs.opening.is_full.Lts as lts
 
 mul-result : tie.Need-mul-result
 mul-result c = omega arith

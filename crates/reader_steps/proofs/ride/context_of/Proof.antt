@@ -3,9 +3,6 @@ use Rattle.reader_steps.specs.Rides.{contextOf}
 use borrow.Author.Needs.{needs}
 use Rattle.reader_steps.proofs.ride.context_of.Statement.{statement}
 use Rattle.reader_steps.proofs.ride.context_of.Tie as tie
-use Rattle.reader_steps.proofs.ride.context_of.Reads as reads
-use Rattle.reader_steps.proofs.ride.context_of.Lts as lts
-use Rattle.reader_steps.proofs.ride.depths_of.Reads as depths-of-reads
 
 depths-of-requires : tie.Need-depths-of-requires
 depths-of-requires c κs = search needs

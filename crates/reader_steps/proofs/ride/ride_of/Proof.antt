@@ -3,8 +3,6 @@ use Rattle.reader_steps.proofs.Rides.{begins-big, begins-little}
 use borrow.Author.Needs.{needs}
 use Rattle.reader_steps.proofs.ride.ride_of.Statement.{statement}
 use Rattle.reader_steps.proofs.ride.ride_of.Tie as tie
-use Rattle.reader_steps.proofs.ride.ride_of.Reads as reads
-use Rattle.reader_steps.proofs.ride.ride_of.Lts as lts
 
 add-result : tie.Need-add-result
 add-result c = search needs

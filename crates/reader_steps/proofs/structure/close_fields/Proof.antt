@@ -4,11 +4,6 @@ use mathlib.Core.Path.{_∙_, sym}
 use borrow.Author.Needs.{needs}
 use Rattle.reader_steps.proofs.structure.close_fields.Statement.{statement}
 use Rattle.reader_steps.proofs.structure.close_fields.Tie as tie
-use Rattle.reader_steps.proofs.structure.close_fields.Reads as reads
-use Rattle.reader_steps.proofs.structure.close_fields.Lts as lts
-use Rattle.reader_steps.proofs.ends.end_padded.Reads as end-padded-reads
-use Rattle.signature.proofs.shapes.fixed_of.Reads as fixed-of-reads
-use Rattle.reader_steps.proofs.ends.past.Reads as past-reads
 
 fixed-of-requires : tie.Need-fixed-of-requires
 fixed-of-requires c κs = search needs

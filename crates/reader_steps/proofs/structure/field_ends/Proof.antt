@@ -7,14 +7,6 @@ use Prim.Native.Nat.{_-_}
 use borrow.Author.Needs.{needs}
 use Rattle.reader_steps.proofs.structure.field_ends.Statement.{statement}
 use Rattle.reader_steps.proofs.structure.field_ends.Tie as tie
-use Rattle.reader_steps.proofs.structure.field_ends.Reads as reads
-use Rattle.reader_steps.proofs.structure.field_ends.Lts as lts
-use Rattle.framing_offset_size.proofs.FramingOffsetSize.for_encoded_container.Reads as for-encoded-container-reads
-use Rattle.framing_offset_size.proofs.FramingOffsetSize.width.Reads as width-reads
-use Rattle.reader_basic.proofs.basic.offset_before.Reads as offset-before-reads
-use Rattle.reader_steps.proofs.ends.Ends.at.Reads as at-reads
-use Rattle.reader_steps.proofs.ends.Ends.missing.Reads as missing-reads
-use Rattle.signature.proofs.shapes.fixed_of.Reads as fixed-of-reads
 
 fixed-of-requires : tie.Need-fixed-of-requires
 fixed-of-requires c κs = search needs

@@ -9,15 +9,7 @@ use native.Mathlib.Omega.{arith}
 use borrow.Author.Needs.{needs}
 use Rattle.reader_steps.proofs.variant.basic_variant.Statement.{statement}
 use Rattle.reader_steps.proofs.variant.basic_variant.Tie as tie
-use Rattle.reader_steps.proofs.variant.basic_variant.Reads as reads
-use Rattle.reader_steps.proofs.variant.basic_variant.Lts as lts
-use Rattle.events.proofs.emit.Reads as emit-reads
-use Rattle.reader_steps.proofs.codes.leaf.Reads as leaf-reads
-use Rattle.reader_basic.proofs.refused.Reads as refused-reads
 use Rattle.reader_basic.proofs.Leaves.{within-child}
-use Rattle.reader_steps.proofs.opening.in_variant.Reads as in-variant-reads
-use Rattle.reader_steps.proofs.variant.close_variant.Reads as close-variant-reads
-use Rattle.reader_steps.proofs.codes.leaf.Reads as leaf-reads
 
 add-emit : tie.Need-add-emit
 add-emit c = search needs

@@ -4,10 +4,6 @@ use Rattle.reader_steps.proofs.Deepening.{told}
 use borrow.Author.Needs.{needs}
 use Rattle.reader_steps.proofs.variant.close_variant.Statement.{statement}
 use Rattle.reader_steps.proofs.variant.close_variant.Tie as tie
-use Rattle.reader_steps.proofs.variant.close_variant.Reads as reads
-use Rattle.reader_steps.proofs.variant.close_variant.Lts as lts
-use Rattle.events.proofs.emit.Reads as emit-reads
-use Rattle.reader_basic.proofs.done.Reads as done-reads
 
 returns : tie.Need-returns
 returns c =

@@ -7,8 +7,6 @@ use Rattle.reader_steps.proofs.Characters.{fixed-key, text-key}
 use Rattle.reader_steps.proofs.Variants.{only-one}
 use Rattle.reader_steps.proofs.variant.only_basic.Statement.{statement}
 use Rattle.reader_steps.proofs.variant.only_basic.Tie as tie
-use Rattle.reader_steps.proofs.codes.is_fixed.Reads as is-fixed-reads
-use Rattle.reader_steps.proofs.codes.is_text.Reads as is-text-reads
 
 returns : tie.Need-returns
 returns c = λ z. absurd (z refl)

@@ -6,13 +6,6 @@ use mathlib.Core.Path.{_∙_, ap, sym}
 use borrow.Author.Needs.{needs}
 use Rattle.reader_steps.proofs.variant.type_text.Statement.{statement}
 use Rattle.reader_steps.proofs.variant.type_text.Tie as tie
-use Rattle.reader_steps.proofs.variant.type_text.Reads as reads
-use Rattle.reader_steps.proofs.variant.type_text.Lts as lts
-use Rattle.events.proofs.emit.Reads as emit-reads
-use Rattle.reader_basic.proofs.done.Reads as done-reads
-use Rattle.reader_basic.proofs.refused.Reads as refused-reads
-use Rattle.texts.proofs.text.Reads as text-reads
-use Rattle.texts.proofs.text_refusal.Reads as text-refusal-reads
 
 emit-requires : tie.Need-emit-requires
 emit-requires c κs = search needs

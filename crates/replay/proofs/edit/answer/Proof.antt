@@ -5,168 +5,118 @@ use lib.Seq.{length-take-le}
 use borrow.Author.Needs.{needs}
 use Rattle.replay.proofs.edit.answer.Statement.{statement}
 use Rattle.replay.proofs.edit.answer.Tie as tie
-use Rattle.replay.proofs.edit.answer.Reads as reads
-use Rattle.replay.proofs.edit.answer.Lts as lts
-use Rattle.lines.proofs.find.Reads as find-reads
-use Rattle.lines.proofs.front.Reads as front-reads
-use Rattle.replay.proofs.edit.all_there.Reads as all-there-reads
-use Rattle.replay.proofs.edit.edit.Reads as edit-reads
-use Rattle.replay.proofs.edit.numbers_in.Reads as numbers-in-reads
-use Rattle.replay.proofs.print.not_understood.Reads as not-understood-reads
-use Rattle.replay.proofs.print.understood.Reads as understood-reads
-use Rattle.replay.proofs.words.bytes.Reads as bytes-reads
-use Rattle.replay.proofs.words.numbers.Reads as numbers-reads
-use Rattle.replay.proofs.words.understand.Reads as understand-reads
 
--- src/edit.rt:67:9
 understand-requires : tie.Need-understand-requires
 understand-requires c κs = search needs
 
--- src/edit.rt:71:9
 not-understood-requires : tie.Need-not-understood-requires
 not-understood-requires c κs = search needs
 
--- src/edit.rt:71:9
 returns : tie.Need-returns
 returns c = search needs
 
--- src/edit.rt:73:28
 sub-find : tie.Need-sub-find
 sub-find c = search needs
 
--- src/edit.rt:73:28
 part-find-start : tie.Need-part-find-start
 part-find-start c = search needs
 
--- src/edit.rt:73:28
 part-find-end : tie.Need-part-find-end
 part-find-end c = search needs
 
--- src/edit.rt:73:23
 find-requires : tie.Need-find-requires
 find-requires c κs = search needs
 
--- src/edit.rt:73:15
 add-end : tie.Need-add-end
 add-end c = search needs
 
--- src/edit.rt:74:30
 sub-bytes : tie.Need-sub-bytes
 sub-bytes c = search needs
 
--- src/edit.rt:74:30
 part-bytes-start : tie.Need-part-bytes-start
 part-bytes-start c = search needs
 
--- src/edit.rt:74:30
 part-bytes-end : tie.Need-part-bytes-end
 part-bytes-end c = search needs
 
--- src/edit.rt:74:9
 bytes-requires : tie.Need-bytes-requires
 bytes-requires c κs = search needs
 
--- src/edit.rt:77:9
 not-understood-requires-2 : tie.Need-not-understood-requires-2
 not-understood-requires-2 c κs = search needs
 
--- src/edit.rt:77:9
 same-length : tie.Need-same-length
 same-length c = search needs
 
--- src/edit.rt:77:9
 returns-2 : tie.Need-returns-2
 returns-2 c = search needs
 
--- src/edit.rt:80:9
 not-understood-requires-3 : tie.Need-not-understood-requires-3
 not-understood-requires-3 c κs = search needs
 
--- src/edit.rt:80:9
 same-length-2 : tie.Need-same-length-2
 same-length-2 c = search needs
 
--- src/edit.rt:80:9
 returns-3 : tie.Need-returns-3
 returns-3 c = search needs
 
--- src/edit.rt:82:33
 sub-numbers-in : tie.Need-sub-numbers-in
 sub-numbers-in c = search needs
 
--- src/edit.rt:82:33
 part-numbers-in-start : tie.Need-part-numbers-in-start
 part-numbers-in-start c = search needs
 
--- src/edit.rt:82:33
 part-numbers-in-end : tie.Need-part-numbers-in-end
 part-numbers-in-end c = search needs
 
--- src/edit.rt:82:22
 numbers-in-requires : tie.Need-numbers-in-requires
 numbers-in-requires c κs = search needs
 
--- src/edit.rt:82:16
 add-stop : tie.Need-add-stop
 add-stop c = search needs
 
--- src/edit.rt:84:32
 sub-numbers : tie.Need-sub-numbers
 sub-numbers c = search needs
 
--- src/edit.rt:84:32
 part-numbers-start : tie.Need-part-numbers-start
 part-numbers-start c = search needs
 
--- src/edit.rt:84:32
 part-numbers-end : tie.Need-part-numbers-end
 part-numbers-end c = search needs
 
--- src/edit.rt:84:9
 numbers-requires : tie.Need-numbers-requires
 numbers-requires c κs = search needs
 
--- src/edit.rt:85:9
 all-there-requires : tie.Need-all-there-requires
 all-there-requires c κs = search needs
 
--- src/edit.rt:86:9
 not-understood-requires-4 : tie.Need-not-understood-requires-4
 not-understood-requires-4 c κs = search needs
 
--- src/edit.rt:86:9
 same-length-3 : tie.Need-same-length-3
 same-length-3 c = search needs
 
--- src/edit.rt:86:9
 returns-4 : tie.Need-returns-4
 returns-4 c = search needs
 
--- src/edit.rt:89:9
 front-requires : tie.Need-front-requires
 front-requires c κs = search needs
 
--- src/edit.rt:91:9
 slice-relend-prefix-edit : tie.Need-slice-relend-prefix-edit
 slice-relend-prefix-edit c = search needs
 
--- src/edit.rt:91:9
 slice-aggregate-edit : tie.Need-slice-aggregate-edit
 slice-aggregate-edit c = sym (length-take-le _ _ (omega arith))
 
--- src/edit.rt:88:9
 edit-requires : tie.Need-edit-requires
 edit-requires c κs = search needs
 
--- src/edit.rt:97:5
 understood-requires : tie.Need-understood-requires
 understood-requires c κs = search needs
 
--- src/edit.rt:57:1
 same-length-4 : tie.Need-same-length-4
 same-length-4 c = search needs
 
--- src/edit.rt:57:1
 returns-5 : tie.Need-returns-5
 returns-5 c = search needs
 

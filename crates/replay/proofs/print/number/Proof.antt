@@ -4,9 +4,6 @@ use Rattle.lines.proofs.StoringLaws.{stores-within}
 use borrow.Author.Needs.{needs}
 use Rattle.replay.proofs.print.number.Statement.{statement}
 use Rattle.replay.proofs.print.number.Tie as tie
-use Rattle.replay.proofs.print.number.Reads as reads
-use Rattle.replay.proofs.print.number.Lts as lts
-use Rattle.lines.proofs.put_decimal.Reads as put-decimal-reads
 
 put-decimal-requires : tie.Need-put-decimal-requires
 put-decimal-requires c κs = search needs

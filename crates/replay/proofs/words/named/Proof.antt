@@ -1,12 +1,9 @@
 -- `replay::words::named` meets its contract: the name has no more bytes than the line. The measure is what is left of the name. Assumes nothing.
 use Prim.Native.Nat.{_-_, _≤_}
-use native.Mathlib.Omega.{arith}
 use lib.ListN.{length}
 use borrow.Author.Needs.{needs}
 use Rattle.replay.proofs.words.named.Statement.{statement}
 use Rattle.replay.proofs.words.named.Tie as tie
-use Rattle.replay.proofs.words.named.Reads as reads
-use Rattle.replay.proofs.words.named.Lts as lts
 
 abbrev Inv-loop : tie.InvT-loop
 Inv-loop line name i₀ i = (i ≤ length name) × (length name ≤ length line)

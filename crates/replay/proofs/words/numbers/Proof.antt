@@ -1,15 +1,10 @@
 -- `replay::words::numbers` meets its contract: each turn passes a blank, and the row has room for what it counts. The
 -- measure is what is left of the text. Assumes nothing.
 use Prim.Native.Nat.{_-_, _≤_}
-use native.Mathlib.Omega.{arith}
 use lib.ListN.{length}
 use borrow.Author.Needs.{needs}
 use Rattle.replay.proofs.words.numbers.Statement.{statement}
 use Rattle.replay.proofs.words.numbers.Tie as tie
-use Rattle.replay.proofs.words.numbers.Reads as reads
-use Rattle.replay.proofs.words.numbers.Lts as lts
-use Rattle.lines.proofs.decimal.Reads as decimal-reads
-use Rattle.lines.proofs.find.Reads as find-reads
 
 abbrev Inv-loop : tie.InvT-loop
 Inv-loop text row₀ count₀ blank₀ row count blank = (blank ≤ length text) × (count ≤ 221184)

@@ -3,9 +3,6 @@ use Rattle.signature.proofs.ItemLaws.{element-made}
 use borrow.Author.Needs.{needs}
 use Rattle.signature.proofs.items.element_item.Statement.{statement}
 use Rattle.signature.proofs.items.element_item.Tie as tie
-use Rattle.signature.proofs.items.element_item.Reads as reads
-use Rattle.signature.proofs.items.element_item.Lts as lts
-use Rattle.signature.proofs.items.held_number.Reads as held-number-reads
 
 held-number-requires : tie.Need-held-number-requires
 held-number-requires c κs = search needs

@@ -3,10 +3,6 @@ use Rattle.signature.proofs.ItemLaws.{entry-made}
 use borrow.Author.Needs.{needs}
 use Rattle.signature.proofs.items.entry_item.Statement.{statement}
 use Rattle.signature.proofs.items.entry_item.Tie as tie
-use Rattle.signature.proofs.items.entry_item.Reads as reads
-use Rattle.signature.proofs.items.entry_item.Lts as lts
-use Rattle.signature.proofs.key_fixed.Reads as key-fixed-reads
-use Rattle.signature.proofs.shapes.both.Reads as both-reads
 
 key-fixed-requires : tie.Need-key-fixed-requires
 key-fixed-requires c κs = search needs

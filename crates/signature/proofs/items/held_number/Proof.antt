@@ -3,8 +3,6 @@ use Rattle.signature.proofs.ItemLaws.{held-kind}
 use borrow.Author.Needs.{needs}
 use Rattle.signature.proofs.items.held_number.Statement.{statement}
 use Rattle.signature.proofs.items.held_number.Tie as tie
-use Rattle.signature.proofs.items.held_number.Reads as reads
-use Rattle.signature.proofs.items.held_number.Lts as lts
 
 enum-told : tie.Need-enum-told
 enum-told c = search needs

@@ -6,13 +6,6 @@ use Rattle.signature.proofs.ItemLaws.{item-far, item-entry, item-elemen
 use borrow.Author.Needs.{needs}
 use Rattle.signature.proofs.items.item_of.Statement.{statement}
 use Rattle.signature.proofs.items.item_of.Tie as tie
-use Rattle.signature.proofs.items.item_of.Reads as reads
-use Rattle.signature.proofs.items.item_of.Lts as lts
-use Rattle.signature.proofs.items.element_item.Reads as element-item-reads
-use Rattle.signature.proofs.items.entry_item.Reads as entry-item-reads
-use Rattle.signature.proofs.letter_at.Reads as letter-at-reads
-use Rattle.signature.proofs.shapes.shape_in.Reads as shape-in-reads
-use Rattle.signature.proofs.shapes.unpack.Reads as unpack-reads
 
 unpack-requires : tie.Need-unpack-requires
 unpack-requires c κs = search needs

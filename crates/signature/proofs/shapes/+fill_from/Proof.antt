@@ -35,22 +35,18 @@ fill-from-callees t = (
   fill-block-reads.Learnt,
 )
 
--- src/shapes.rt:219:9
 fill-from-returns : (t : ℕ) → fill-from-lts.Need-returns (fill-from-callees t) (fill-from-at t) fill-from.Post
 fill-from-returns t c = filled-none _ _ _ (c .if1 .taken)
 
--- src/shapes.rt:221:9
 fill-from-block-end-requires : (t : ℕ) → fill-from-lts.Need-block-end-requires (fill-from-callees t) (fill-from-at t) fill-from.Post
 fill-from-block-end-requires t c κs = omega arith
 
--- src/shapes.rt:222:5
 fill-from-fill-from-requires : (t : ℕ) → fill-from-lts.Need-fill-from-requires (fill-from-callees t) (fill-from-at t) fill-from.Post
 fill-from-fill-from-requires t c κs =
     let at-end = c .before in
     let start = at-end .before .before .before .before in
     (omega (arith, at-end .block-end .ensures .0, at-end .block-end .ensures .1, start .pre .0), start .pre .1)
 
--- src/shapes.rt:223:5
 fill-from-fill-block-requires : (t : ℕ) → fill-from-lts.Need-fill-block-requires (fill-from-callees t) (fill-from-at t) fill-from.Post
 fill-from-fill-block-requires t c κs =
     let at-fill = c .before .before .before in
@@ -58,11 +54,9 @@ fill-from-fill-block-requires t c κs =
     let start = at-end .before .before .before .before in
     (start .pre .1 .0, omega (arith, start .pre .1 .1, at-fill .fill-from .kept .1 .1 .0), omega (arith, at-end .block-end .ensures .0), at-end .block-end .ensures .1, at-fill .fill-from .ensures .each)
 
--- src/shapes.rt:214:1
 fill-from-same-length : (t : ℕ) → fill-from-lts.Need-same-length (fill-from-callees t) (fill-from-at t) fill-from.Post
 fill-from-same-length t c = c .before .before .fill-block .kept .1 .1 .1 .0 ∙ c .before .before .before .before .before .before .fill-from .kept .1 .1 .0
 
--- src/shapes.rt:214:1
 fill-from-returns-2 : (t : ℕ) → fill-from-lts.Need-returns-2 (fill-from-callees t) (fill-from-at t) fill-from.Post
 fill-from-returns-2 t c =
     let at-block = c .before .before in

@@ -1,21 +1,13 @@
 -- `array_shape` meets its contract. Assumes nothing.
-use mathlib.Core.Path.{_≡_, refl, sym, ap, _∙_}
-use Prim.Native.Nat.{ℕ, _+_, _-_, _*_, _/_, _%_, _≤_, _<_, max}
+use mathlib.Core.Path.{refl, _∙_}
+use Prim.Native.Nat.{_+_, _-_}
 use native.Mathlib.Omega.{arith}
-use lib.ListN.{length, length-set}
-use Rattle.signature.specs.Places.{letterAt, childAt}
 use Rattle.signature.specs.declared.Letter.the-variants.{OpenEntry}
 use Rattle.signature.proofs.Letters.{not-cut, opens-entry}
 use Rattle.signature.proofs.ShapeLaws.{shape-array}
 use borrow.Author.Needs.{needs}
 use Rattle.signature.proofs.shapes.array_shape.Statement.{statement}
 use Rattle.signature.proofs.shapes.array_shape.Tie as tie
-use Rattle.signature.proofs.shapes.array_shape.Reads as reads
-use Rattle.signature.proofs.shapes.array_shape.Lts as lts
-use Rattle.signature.proofs.shapes.dictionary_shape.Reads as dictionary-shape-reads
-use Rattle.signature.proofs.shapes.loosened.Reads as loosened-reads
-use Rattle.signature.proofs.shapes.seen.Reads as seen-reads
-use Rattle.signature.proofs.shapes.stands.Reads as stands-reads
 
 add-stands : tie.Need-add-stands
 add-stands c =

@@ -1,30 +1,17 @@
 -- `dictionary_shape` meets its contract: a law of ShapeLaws or of signature's Children for each way out. Assumes nothing.
-use mathlib.Core.Path.{_≡_, refl, sym, ap, _∙_}
-use Prim.Native.Nat.{ℕ, _+_, _-_, _*_, _/_, _%_, _≤_, _<_, max}
+use mathlib.Core.Path.{refl, sym, ap, _∙_}
+use Prim.Native.Nat.{ℕ, _+_, _-_}
 use native.Mathlib.Omega.{arith}
-use lib.ListN.{length, length-set}
-use Rattle.signature.specs.Places.{letterAt, childAt}
+use Rattle.signature.specs.Places.{letterAt}
 use Rattle.signature.specs.declared.Letter.the-variants.{CloseEntry}
-use mathlib.Core.Bool.{true, false}
 use Rattle.meaning.proofs.TypeLaws.{aligns-most}
 use Rattle.signature.specs.Steps.{keyAlignment}
 use Rattle.signature.proofs.Letters.{not-cut, closes-entry}
 use Rattle.signature.proofs.Children.{entry-no-key, entry-no-value, entry-open}
-use Rattle.signature.specs.Shapes.{packed}
 use Rattle.signature.proofs.ShapeLaws.{known, absent, key-most, fits, no-dictionary, shape-dictionary}
 use borrow.Author.Needs.{needs}
 use Rattle.signature.proofs.shapes.dictionary_shape.Statement.{statement}
 use Rattle.signature.proofs.shapes.dictionary_shape.Tie as tie
-use Rattle.signature.proofs.shapes.dictionary_shape.Reads as reads
-use Rattle.signature.proofs.shapes.dictionary_shape.Lts as lts
-use Rattle.signature.proofs.shapes.alignment_of.Reads as alignment-of-reads
-use Rattle.signature.proofs.shapes.larger.Reads as larger-reads
-use Rattle.signature.proofs.shapes.next_of.Reads as next-of-reads
-use Rattle.signature.proofs.shapes.pack.Reads as pack-reads
-use Rattle.signature.proofs.shapes.seen.Reads as seen-reads
-use Rattle.signature.proofs.key_alignment.Reads as key-alignment-reads
-use Rattle.signature.proofs.letter_at.Reads as letter-at-reads
-use Rattle.signature.proofs.shapes.stands.Reads as stands-reads
 
 add-letter-at : tie.Need-add-letter-at
 add-letter-at c =

@@ -6,9 +6,6 @@ use Rattle.signature.specs.Shapes.{Filled}
 use Rattle.signature.proofs.ShapeLaws.{filled-same, filled-step, filled-at}
 use Rattle.signature.proofs.shapes.fill_block.Statement.{statement}
 use Rattle.signature.proofs.shapes.fill_block.Tie as tie
-use Rattle.signature.proofs.shapes.fill_block.Reads as reads
-use Rattle.signature.proofs.shapes.fill_block.Lts as lts
-use Rattle.signature.proofs.shapes.put_at.Reads as put-at-reads
 
 abbrev Inv-loop : tie.InvT-loop
 Inv-loop text at stop shapes₀ i₀ shapes i = (at ≤ i) × (i ≤ length text) × Filled i text shapes₀ shapes
@@ -16,15 +13,12 @@ Inv-loop text at stop shapes₀ i₀ shapes i = (at ≤ i) × (i ≤ length text
 abbrev μ-loop : tie.MeasureT-loop
 μ-loop text at stop shapes₀ i₀ shapes i = i
 
--- src/shapes.rt:195:5
 loop-holds : tie.Need-loop-holds Inv-loop μ-loop
 loop-holds c = (c .before .before .pre .2, c .before .before .pre .3, filled-same _ _ _ (c .before .before .pre .4))
 
--- src/shapes.rt:196:13
 sub-i : tie.Need-sub-i Inv-loop μ-loop
 sub-i c = omega arith
 
--- src/shapes.rt:197:9
 put-at-requires : tie.Need-put-at-requires Inv-loop μ-loop
 put-at-requires c κs =
     let at-loop = c .before .before in
@@ -36,22 +30,18 @@ put-at-requires c κs =
       table = λ k p q. at-loop .loop .inv .2 .each k (omega arith) q;
     }
 
--- src/shapes.rt:195:5
 loop-less : tie.Need-loop-less Inv-loop μ-loop
 loop-less c = omega arith
 
--- src/shapes.rt:195:5
 loop-again : tie.Need-loop-again Inv-loop μ-loop
 loop-again c =
     let at-loop = c .before .before .before .before .before in
     let start = at-loop .before .before .before in
     (omega arith, omega (arith, at-loop .loop .inv .1), filled-step _ _ (at-loop .loop .shapes) _ _ (omega arith) (at-loop .loop .inv .1) (start .pre .1) (at-loop .loop .inv .2) (c .before .before .put-at .ensures))
 
--- src/shapes.rt:190:1
 same-length : tie.Need-same-length Inv-loop μ-loop
 same-length c = c .before .loop .inv .2 .kept
 
--- src/shapes.rt:190:1
 returns : tie.Need-returns Inv-loop μ-loop
 returns c = filled-at _ _ _ _ _ (omega (arith, c .before .loop .inv .0)) (c .before .loop .inv .2)
 

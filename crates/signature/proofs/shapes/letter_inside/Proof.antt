@@ -4,19 +4,13 @@ use Rattle.signature.proofs.Letters.{letter-some}
 use borrow.Author.Needs.{needs}
 use Rattle.signature.proofs.shapes.letter_inside.Statement.{statement}
 use Rattle.signature.proofs.shapes.letter_inside.Tie as tie
-use Rattle.signature.proofs.shapes.letter_inside.Reads as reads
-use Rattle.signature.proofs.shapes.letter_inside.Lts as lts
-use Rattle.signature.proofs.letter_of.Reads as letter-of-reads
 
--- src/shapes.rt:159:15
 shared-slice-read-letter-of : tie.Need-shared-slice-read-letter-of
 shared-slice-read-letter-of c = search needs
 
--- src/shapes.rt:159:5
 letter-of-requires : tie.Need-letter-of-requires
 letter-of-requires c κs = search needs
 
--- src/shapes.rt:155:1
 returns : tie.Need-returns
 returns c = c .letter-of .ensures ∙ sym (letter-some (c .before .before .before .args .text .now) (c .before .before .before .args .at) (c .before .before .before .pre))
 

@@ -1,14 +1,12 @@
 -- `pack` meets its contract. Assumes nothing.
-use mathlib.Core.Path.{_≡_, refl, sym, ap, _∙_}
+use mathlib.Core.Path.{_≡_, sym, ap, _∙_}
 use mathlib.Core.Bool.{Bool}
-use Prim.Native.Nat.{ℕ, _+_, _*_}
+use Prim.Native.Nat.{_+_, _*_}
 use native.Mathlib.Omega.{arith}
 use Rattle.signature.specs.Shapes.{packed}
 use borrow.Author.Needs.{needs}
 use Rattle.signature.proofs.shapes.pack.Statement.{statement}
 use Rattle.signature.proofs.shapes.pack.Tie as tie
-use Rattle.signature.proofs.shapes.pack.Reads as reads
-use Rattle.signature.proofs.shapes.pack.Lts as lts
 
 mul-result : tie.Need-mul-result
 mul-result c = search needs

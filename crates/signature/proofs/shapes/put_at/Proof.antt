@@ -1,14 +1,10 @@
 -- `put_at` meets its contract. Assumes nothing.
-use mathlib.Core.Path.{_≡_, refl, sym, ap, _∙_}
-use Prim.Native.Nat.{ℕ, _+_, _-_, _≤_, _<_}
-use native.Mathlib.Omega.{arith}
-use lib.ListN.{length, set}
+use mathlib.Core.Path.{ap}
+use Prim.Native.Nat.{ℕ, _-_}
+use lib.ListN.{set}
 use borrow.Author.Needs.{needs}
 use Rattle.signature.proofs.shapes.put_at.Statement.{statement}
 use Rattle.signature.proofs.shapes.put_at.Tie as tie
-use Rattle.signature.proofs.shapes.put_at.Reads as reads
-use Rattle.signature.proofs.shapes.put_at.Lts as lts
-use Rattle.signature.proofs.shapes.shape_at.Reads as shape-at-reads
 
 shape-at-requires : tie.Need-shape-at-requires
 shape-at-requires c κs = search needs

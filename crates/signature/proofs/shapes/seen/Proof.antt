@@ -1,15 +1,9 @@
 -- `seen` meets its contract: behind the text no type begins. Assumes nothing.
-use mathlib.Core.Path.{_≡_, refl, sym, ap, _∙_}
-use Prim.Native.Nat.{ℕ, _+_, _-_, _*_, _/_, _%_, _≤_, _<_, max}
-use native.Mathlib.Omega.{arith}
-use lib.ListN.{length, length-set}
-use Rattle.signature.specs.Places.{letterAt, childAt}
+use Prim.Native.Nat.{_-_}
 use Rattle.signature.proofs.ShapeLaws.{shape-end}
 use borrow.Author.Needs.{needs}
 use Rattle.signature.proofs.shapes.seen.Statement.{statement}
 use Rattle.signature.proofs.shapes.seen.Tie as tie
-use Rattle.signature.proofs.shapes.seen.Reads as reads
-use Rattle.signature.proofs.shapes.seen.Lts as lts
 
 returns : tie.Need-returns
 returns c =

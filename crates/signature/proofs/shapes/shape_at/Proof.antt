@@ -1,5 +1,5 @@
 -- `shape_at` meets its contract: a law for each letter. Assumes nothing.
-use mathlib.Core.Path.{_≡_, refl, sym, _∙_}
+use mathlib.Core.Path.{refl, sym, _∙_}
 use mathlib.Core.Logic.{⊎-elim, inl, inr}
 use Prim.Native.Nat.{_+_}
 use native.Mathlib.Omega.{arith}
@@ -14,87 +14,61 @@ use Rattle.signature.proofs.ShapeLaws.{shape-code, shape-none, shape-ma
 use borrow.Author.Needs.{needs}
 use Rattle.signature.proofs.shapes.shape_at.Statement.{statement}
 use Rattle.signature.proofs.shapes.shape_at.Tie as tie
-use Rattle.signature.proofs.shapes.shape_at.Reads as reads
-use Rattle.signature.proofs.shapes.shape_at.Lts as lts
-use Rattle.signature.proofs.shapes.array_shape.Reads as array-shape-reads
-use Rattle.signature.proofs.shapes.loosened.Reads as loosened-reads
-use Rattle.signature.proofs.shapes.pack.Reads as pack-reads
-use Rattle.signature.proofs.shapes.seen.Reads as seen-reads
-use Rattle.signature.proofs.shapes.structure_shape.Reads as structure-shape-reads
 
--- src/shapes.rt:177:16
 shared-slice-read-code : tie.Need-shared-slice-read-code
 shared-slice-read-code c = search needs
 
--- src/shapes.rt:179:29
 add-pack : tie.Need-add-pack
 add-pack c = search needs
 
--- src/shapes.rt:179:24
 pack-requires : tie.Need-pack-requires
 pack-requires c κs = search needs
 
--- src/shapes.rt:180:29
 add-pack-2 : tie.Need-add-pack-2
 add-pack-2 c = search needs
 
--- src/shapes.rt:180:24
 pack-requires-2 : tie.Need-pack-requires-2
 pack-requires-2 c κs = search needs
 
--- src/shapes.rt:181:29
 add-pack-3 : tie.Need-add-pack-3
 add-pack-3 c = search needs
 
--- src/shapes.rt:181:24
 pack-requires-3 : tie.Need-pack-requires-3
 pack-requires-3 c κs = search needs
 
--- src/shapes.rt:182:36
 add-pack-4 : tie.Need-add-pack-4
 add-pack-4 c = search needs
 
--- src/shapes.rt:182:31
 pack-requires-4 : tie.Need-pack-requires-4
 pack-requires-4 c κs = search needs
 
--- src/shapes.rt:183:36
 add-pack-5 : tie.Need-add-pack-5
 add-pack-5 c = search needs
 
--- src/shapes.rt:183:31
 pack-requires-5 : tie.Need-pack-requires-5
 pack-requires-5 c κs = search needs
 
--- src/shapes.rt:184:22
 add-pack-6 : tie.Need-add-pack-6
 add-pack-6 c = search needs
 
--- src/shapes.rt:184:17
 pack-requires-6 : tie.Need-pack-requires-6
 pack-requires-6 c κs = search needs
 
--- src/shapes.rt:185:45
 add-seen : tie.Need-add-seen
 add-seen c = search needs
 
--- src/shapes.rt:185:26
 seen-requires : tie.Need-seen-requires
 seen-requires c κs = search needs
 
--- src/shapes.rt:185:17
 loosened-requires : tie.Need-loosened-requires
 loosened-requires c κs = search needs
 
--- src/shapes.rt:186:17
 array-shape-requires : tie.Need-array-shape-requires
 array-shape-requires c κs = (c .before .before .before .before .pre, begins-array _ _ (c .before .before .before .before .pre .inside, c .match .keys8))
 
--- src/shapes.rt:187:17
 structure-shape-requires : tie.Need-structure-shape-requires
 structure-shape-requires c κs = (c .before .before .before .before .pre, begins-structure _ _ (c .before .before .before .before .pre .inside, c .match .keys9))
 
--- src/shapes.rt:173:1
 returns : tie.Need-returns
 unfolding shapeOf letterBy basicAmong
 returns c =
@@ -102,7 +76,6 @@ returns c =
     c .pack .ensures ∙ (⊎-elim (λ e. shape-code (start .args .text .now) (start .args .at) 98 Boolean (start .pre .few) (start .pre .inside) e refl refl)
     (λ e. shape-code (start .args .text .now) (start .args .at) 121 (Number 121 1) (start .pre .few) (start .pre .inside) e refl refl) (c .before .match .keys1))
 
--- src/shapes.rt:173:1
 returns-2 : tie.Need-returns-2
 unfolding shapeOf letterBy basicAmong
 returns-2 c =
@@ -110,7 +83,6 @@ returns-2 c =
     c .pack2 .ensures ∙ (⊎-elim (λ e. shape-code (start .args .text .now) (start .args .at) 110 (Number 110 2) (start .pre .few) (start .pre .inside) e refl refl)
     (λ e. shape-code (start .args .text .now) (start .args .at) 113 (Number 113 2) (start .pre .few) (start .pre .inside) e refl refl) (c .before .match .keys2))
 
--- src/shapes.rt:173:1
 returns-3 : tie.Need-returns-3
 unfolding shapeOf letterBy basicAmong
 returns-3 c =
@@ -118,7 +90,6 @@ returns-3 c =
     c .pack3 .ensures ∙ (⊎-elim (λ e. shape-code (start .args .text .now) (start .args .at) 105 (Number 105 4) (start .pre .few) (start .pre .inside) e refl refl)
     (λ e. shape-code (start .args .text .now) (start .args .at) 117 (Number 117 4) (start .pre .few) (start .pre .inside) e refl refl) (c .before .match .keys3))
 
--- src/shapes.rt:173:1
 returns-4 : tie.Need-returns-4
 unfolding shapeOf letterBy basicAmong
 returns-4 c =
@@ -127,7 +98,6 @@ returns-4 c =
     (λ w. ⊎-elim (λ e. shape-code (start .args .text .now) (start .args .at) 116 (Number 116 8) (start .pre .few) (start .pre .inside) e refl refl)
     (λ e. shape-code (start .args .text .now) (start .args .at) 120 (Number 120 8) (start .pre .few) (start .pre .inside) e refl refl) w) (c .before .match .keys4))
 
--- src/shapes.rt:173:1
 returns-5 : tie.Need-returns-5
 unfolding shapeOf letterBy basicAmong
 returns-5 c =
@@ -136,29 +106,24 @@ returns-5 c =
     (λ w. ⊎-elim (λ e. shape-code (start .args .text .now) (start .args .at) 111 (Text 111) (start .pre .few) (start .pre .inside) e refl refl)
     (λ e. shape-code (start .args .text .now) (start .args .at) 115 (Text 115) (start .pre .few) (start .pre .inside) e refl refl) w) (c .before .match .keys5))
 
--- src/shapes.rt:173:1
 returns-6 : tie.Need-returns-6
 unfolding shapeOf letterBy basicAmong
 returns-6 c =
     let start = c .before .before .before .before .before in
     c .pack6 .ensures ∙ shape-code (start .args .text .now) (start .args .at) 118 Variant (start .pre .few) (start .pre .inside) (c .before .match .keys6) refl refl
 
--- src/shapes.rt:173:1
 returns-7 : tie.Need-returns-7
 returns-7 c =
     let start = c .before .before .before .before .before .before in
     c .loosened .ensures ∙ shape-maybe (start .args .text .now) (start .args .at) (c .before .seen .result) (start .pre .few)
     (begins-maybe _ _ (start .pre .inside, c .before .before .match .keys7)) (c .before .seen .ensures (start .args .at + 1) (omega arith) (start .pre .table))
 
--- src/shapes.rt:173:1
 returns-8 : tie.Need-returns-8
 returns-8 c = search needs
 
--- src/shapes.rt:173:1
 returns-9 : tie.Need-returns-9
 returns-9 c = search needs
 
--- src/shapes.rt:173:1
 returns-10 : tie.Need-returns-10
 returns-10 c =
     let start = c .before .before .before .before in

@@ -4,10 +4,6 @@ use Rattle.signature.proofs.ShapeLaws.{look-past, look-here}
 use borrow.Author.Needs.{needs}
 use Rattle.signature.proofs.shapes.shape_in.Statement.{statement}
 use Rattle.signature.proofs.shapes.shape_in.Tie as tie
-use Rattle.signature.proofs.shapes.shape_in.Reads as reads
-use Rattle.signature.proofs.shapes.shape_in.Lts as lts
-use Rattle.signature.proofs.letter_at.Reads as letter-at-reads
-use Rattle.signature.proofs.shapes.unpack.Reads as unpack-reads
 
 letter-at-requires : tie.Need-letter-at-requires
 letter-at-requires c κs = search needs

@@ -4,34 +4,22 @@ use Rattle.signature.proofs.ShapeLaws.{answered-long, answered-small, a
 use borrow.Author.Needs.{needs}
 use Rattle.signature.proofs.shapes.shapes_of.Statement.{statement}
 use Rattle.signature.proofs.shapes.shapes_of.Tie as tie
-use Rattle.signature.proofs.shapes.shapes_of.Reads as reads
-use Rattle.signature.proofs.shapes.shapes_of.Lts as lts
-use Rattle.signature.proofs.shapes.fill.Reads as fill-reads
-use Rattle.signature.proofs.shapes.lone_shape.Reads as lone-shape-reads
-use Rattle.signature.proofs.shapes.next_of.Reads as next-of-reads
-use Rattle.signature.proofs.shapes.seen.Reads as seen-reads
 
--- src/shapes.rt:229:9
 returns : tie.Need-returns
 returns c = answered-long (c .before .before .before .args .text .now) (c .before .before .before .args .shapes .now) (c .if1 .taken)
 
--- src/shapes.rt:232:9
 returns-2 : tie.Need-returns-2
 returns-2 c = answered-small (c .before .before .before .before .args .text .now) (c .before .before .before .before .args .shapes .now) (c .if2 .taken)
 
--- src/shapes.rt:235:13
 lone-shape-requires : tie.Need-lone-shape-requires
 lone-shape-requires c κs = search needs
 
--- src/shapes.rt:236:9
 slice-write-shapes : tie.Need-slice-write-shapes
 slice-write-shapes c = search needs
 
--- src/shapes.rt:238:13
 same-length : tie.Need-same-length
 same-length c = search needs
 
--- src/shapes.rt:238:13
 returns-3 : tie.Need-returns-3
 returns-3 c =
     let at-if3 = c .before .before in
@@ -40,11 +28,9 @@ returns-3 c =
     answered-lone-none (start .args .text .now) (start .args .shapes .now) (c .before .lone-shape .result) (at-if3 .if3 .taken) (at-if2 .if2 .left)
     (c .before .lone-shape .ensures) (c .if4 .taken)
 
--- src/shapes.rt:240:9
 same-length-2 : tie.Need-same-length-2
 same-length-2 c = search needs
 
--- src/shapes.rt:240:9
 returns-4 : tie.Need-returns-4
 returns-4 c =
     let at-if3 = c .before .before in
@@ -53,19 +39,15 @@ returns-4 c =
     answered-lone (start .args .text .now) (start .args .shapes .now) (c .before .lone-shape .result) (at-if3 .if3 .taken) (at-if2 .if2 .left)
     (c .before .lone-shape .ensures) (c .if4 .left)
 
--- src/shapes.rt:242:5
 fill-requires : tie.Need-fill-requires
 fill-requires c κs = search needs
 
--- src/shapes.rt:243:9
 seen-requires : tie.Need-seen-requires
 seen-requires c κs = search needs
 
--- src/shapes.rt:245:9
 same-length-3 : tie.Need-same-length-3
 same-length-3 c = search needs
 
--- src/shapes.rt:245:9
 returns-5 : tie.Need-returns-5
 returns-5 c =
     let at-fill = c .before .before .before .before .before in
@@ -74,15 +56,12 @@ returns-5 c =
     answered-none (start .args .text .now) (start .args .shapes .now) (at-fill .fill .last .1 .0) (c .before .seen .result) (at-if2 .before .if1 .left) (at-if2 .if2 .left)
     (at-fill .fill .ensures) (c .before .seen .ensures 0 (omega arith) (at-fill .fill .ensures .each)) (c .if5 .taken)
 
--- src/shapes.rt:247:5
 next-of-requires : tie.Need-next-of-requires
 next-of-requires c κs = search needs
 
--- src/shapes.rt:225:1
 same-length-4 : tie.Need-same-length-4
 same-length-4 c = search needs
 
--- src/shapes.rt:225:1
 returns-6 : tie.Need-returns-6
 returns-6 c =
     let at-seen = c .before .before in

@@ -5,22 +5,16 @@ use native.Mathlib.Omega.{arith}
 use borrow.Author.Needs.{needs}
 use Rattle.signature.proofs.shapes.stands.Statement.{statement}
 use Rattle.signature.proofs.shapes.stands.Tie as tie
-use Rattle.signature.proofs.shapes.stands.Reads as reads
-use Rattle.signature.proofs.shapes.stands.Lts as lts
 
--- src/shapes.rt:100:9
 returns : tie.Need-returns
 returns c = record { here = λ e. absurd (false≢true e); not = λ e h q. omega arith }
 
--- src/shapes.rt:102:8
 shared-slice-read-if2 : tie.Need-shared-slice-read-if2
 shared-slice-read-if2 c = search needs
 
--- src/shapes.rt:103:9
 returns-2 : tie.Need-returns-2
 returns-2 c = record { here = λ e. (omega arith, c .if2 .taken); not = λ e. absurd (false≢true (sym e)) }
 
--- src/shapes.rt:96:1
 returns-3 : tie.Need-returns-3
 returns-3 c = record { here = λ e. absurd (false≢true e); not = λ e h. c .if2 .left }
 

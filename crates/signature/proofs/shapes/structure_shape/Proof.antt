@@ -1,26 +1,15 @@
 -- `structure_shape` meets its contract. The loop keeps `Fielded`, that what is left answers the whole; the measure is what is left of the text. Assumes nothing.
-use mathlib.Core.Path.{_≡_, refl, sym, ap, _∙_}
-use Prim.Native.Nat.{ℕ, _+_, _-_, _*_, _/_, _%_, _≤_, _<_, max}
+use mathlib.Core.Path.{refl, ap, _∙_}
+use Prim.Native.Nat.{ℕ, _+_, _-_, max}
 use native.Mathlib.Omega.{arith}
-use lib.ListN.{length, length-set}
-use Rattle.signature.specs.Places.{letterAt, childAt}
+use lib.ListN.{length}
 use Rattle.signature.specs.declared.Letter.the-variants.{CloseStructure}
-use mathlib.Core.Bool.{Bool, true, false, _&&_}
+use mathlib.Core.Bool.{Bool, _&&_}
 use borrow.Author.Needs.{needs}
 use Rattle.signature.proofs.Letters.{not-cut, closes-structure}
 use Rattle.signature.proofs.ShapeLaws.{Fielded, fielded-begin, fielded-missing, fielded-next, fielded-last, fielded-most, fielded-onward, known, fits}
 use Rattle.signature.proofs.shapes.structure_shape.Statement.{statement}
 use Rattle.signature.proofs.shapes.structure_shape.Tie as tie
-use Rattle.signature.proofs.shapes.structure_shape.Reads as reads
-use Rattle.signature.proofs.shapes.structure_shape.Lts as lts
-use Rattle.signature.proofs.shapes.alignment_of.Reads as alignment-of-reads
-use Rattle.signature.proofs.shapes.both.Reads as both-reads
-use Rattle.signature.proofs.shapes.fixed_of.Reads as fixed-of-reads
-use Rattle.signature.proofs.shapes.larger.Reads as larger-reads
-use Rattle.signature.proofs.shapes.next_of.Reads as next-of-reads
-use Rattle.signature.proofs.shapes.pack.Reads as pack-reads
-use Rattle.signature.proofs.shapes.seen.Reads as seen-reads
-use Rattle.signature.proofs.shapes.stands.Reads as stands-reads
 
 abbrev Inv-loop : tie.InvT-loop
 Inv-loop text at shapes place₀ alignment₀ fixed₀ place alignment fixed = Fielded text at place alignment fixed

@@ -4,11 +4,6 @@ use Rattle.signature.proofs.ShapeLaws.{same-shape}
 use borrow.Author.Needs.{needs}
 use Rattle.signature.proofs.shapes.unpack.Statement.{statement}
 use Rattle.signature.proofs.shapes.unpack.Tie as tie
-use Rattle.signature.proofs.shapes.unpack.Reads as reads
-use Rattle.signature.proofs.shapes.unpack.Lts as lts
-use Rattle.signature.proofs.shapes.alignment_of.Reads as alignment-of-reads
-use Rattle.signature.proofs.shapes.fixed_of.Reads as fixed-of-reads
-use Rattle.signature.proofs.shapes.next_of.Reads as next-of-reads
 
 next-of-requires : tie.Need-next-of-requires
 next-of-requires c κs = search needs

@@ -3,19 +3,14 @@ use Rattle.strict_basic.proofs.EndLaws.{bool-long, bool-one}
 use borrow.Author.Needs.{needs}
 use Rattle.strict_basic.proofs.basic.boolean_written.Statement.{statement}
 use Rattle.strict_basic.proofs.basic.boolean_written.Tie as tie
-use Rattle.strict_basic.proofs.basic.boolean_written.Reads as reads
-use Rattle.strict_basic.proofs.basic.boolean_written.Lts as lts
 
--- src/basic.rt:23:9
 returns : tie.Need-returns
 returns c =
     bool-long _ (c .if1 .taken)
 
--- src/basic.rt:25:5
 shared-slice-read-result : tie.Need-shared-slice-read-result
 shared-slice-read-result c = search needs
 
--- src/basic.rt:19:1
 returns-2 : tie.Need-returns-2
 returns-2 c =
     bool-one _ (c .before .if1 .left)

@@ -1,45 +1,34 @@
 -- `extent_of` meets its contract. Assumes nothing.
-use mathlib.Core.Path.{_≡_, refl, sym, ap, subst⁻¹, _∙_}
+use mathlib.Core.Path.{sym, ap, _∙_}
 use Rattle.strict_basic.specs.Ends.{letterExtent}
 use Rattle.strict_basic.proofs.EndLaws.{extent-bool}
 use borrow.Author.Needs.{needs}
 use Rattle.strict_basic.proofs.basic.extent_of.Statement.{statement}
 use Rattle.strict_basic.proofs.basic.extent_of.Tie as tie
-use Rattle.strict_basic.proofs.basic.extent_of.Reads as reads
-use Rattle.strict_basic.proofs.basic.extent_of.Lts as lts
-use Rattle.strict_basic.proofs.basic.extent.Reads as extent-reads
 
--- src/basic.rt:68:35
 enum-known-kind : tie.Need-enum-known-kind
 enum-known-kind c = search needs
 
--- src/basic.rt:68:46
 extent-requires : tie.Need-extent-requires
 extent-requires c κs = search needs
 
--- src/basic.rt:69:37
 enum-told : tie.Need-enum-told
 enum-told c = search needs
 
--- src/basic.rt:69:37
 extent-requires-2 : tie.Need-extent-requires-2
 extent-requires-2 c κs = search needs
 
--- src/basic.rt:70:14
 extent-requires-3 : tie.Need-extent-requires-3
 extent-requires-3 c κs = search needs
 
--- src/basic.rt:64:1
 returns : tie.Need-returns
 returns c =
     c .extent .ensures ∙ sym (ap letterExtent (c .before .before .kind .given .1))
 
--- src/basic.rt:64:1
 returns-2 : tie.Need-returns-2
 returns-2 c =
     c .extent2 .ensures ∙ sym (ap letterExtent (c .before .enum-told .given .1))
 
--- src/basic.rt:64:1
 returns-3 : tie.Need-returns-3
 returns-3 c =
     c .extent3 .ensures ∙ extent-bool (c .before .before .args .kind) (c .before .match .keys3)

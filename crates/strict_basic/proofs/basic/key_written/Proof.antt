@@ -5,46 +5,33 @@ use Rattle.strict_basic.proofs.ItemLaws.{laid-as, key-not, key-on}
 use borrow.Author.Needs.{needs}
 use Rattle.strict_basic.proofs.basic.key_written.Statement.{statement}
 use Rattle.strict_basic.proofs.basic.key_written.Tie as tie
-use Rattle.strict_basic.proofs.basic.key_written.Reads as reads
-use Rattle.strict_basic.proofs.basic.key_written.Lts as lts
-use Rattle.strict_basic.proofs.basic.extent_of.Reads as extent-of-reads
-use Rattle.strict_basic.proofs.basic.letter_written.Reads as letter-written-reads
-use Rattle.strict_basic.proofs.ends.start_of.Reads as start-of-reads
 
--- src/basic.rt:79:9
 extent-of-requires : tie.Need-extent-of-requires
 extent-of-requires c κs = search needs
 
--- src/basic.rt:80:9
 start-of-requires : tie.Need-start-of-requires
 start-of-requires c κs =
     (omega arith, c .before .before .pre .0, c .before .before .pre .1, laid-as (c .extent-of .ensures) (c .before .before .pre .2) .aligned)
 
--- src/basic.rt:84:9
 returns : tie.Need-returns
 returns c =
     key-not (c .before .before .before .before .args .key) _ _ _ _ (c .before .before .extent-of .ensures) _ (c .before .start-of .ensures) (denied (c .if1 .taken))
 
--- src/basic.rt:86:25
 sub-letter-written : tie.Need-sub-letter-written
 sub-letter-written c =
     omega (arith, c .before .start-of .ensures .before (granted (c .if1 .left)), c .before .start-of .ensures .within (granted (c .if1 .left)), c .before .before .before .before .pre .0)
 
--- src/basic.rt:86:25
 part-letter-written-start : tie.Need-part-letter-written-start
 part-letter-written-start c =
     omega (arith, c .before .start-of .ensures .before (granted (c .if1 .left)), c .before .start-of .ensures .within (granted (c .if1 .left)), c .before .before .before .before .pre .0)
 
--- src/basic.rt:86:25
 part-letter-written-end : tie.Need-part-letter-written-end
 part-letter-written-end c =
     omega (arith, c .before .start-of .ensures .before (granted (c .if1 .left)), c .before .start-of .ensures .within (granted (c .if1 .left)), c .before .before .before .before .pre .0)
 
--- src/basic.rt:86:5
 letter-written-requires : tie.Need-letter-written-requires
 letter-written-requires c κs = search needs
 
--- src/basic.rt:75:1
 returns-2 : tie.Need-returns-2
 returns-2 c =
     key-on (c .before .before .before .before .before .before .args .key) _ _ _ _ (c .before .before .before .before .extent-of .ensures) _ (c .before .before .before .start-of .ensures) _

@@ -1,43 +1,32 @@
 -- `letter_written` meets its contract. Assumes nothing.
-use mathlib.Core.Path.{_≡_, refl, sym, ap, subst⁻¹, _∙_}
+use mathlib.Core.Path.{sym, ap, _∙_}
 use Rattle.signature.specs.declared.Letter.{Letter}
 use Rattle.strict_basic.specs.Ends.{letterWritten}
 use Rattle.strict_basic.proofs.EndLaws.{letter-bool}
 use borrow.Author.Needs.{needs}
 use Rattle.strict_basic.proofs.basic.letter_written.Statement.{statement}
 use Rattle.strict_basic.proofs.basic.letter_written.Tie as tie
-use Rattle.strict_basic.proofs.basic.letter_written.Reads as reads
-use Rattle.strict_basic.proofs.basic.letter_written.Lts as lts
-use Rattle.strict_basic.proofs.basic.boolean_written.Reads as boolean-written-reads
-use Rattle.strict_basic.proofs.basic.text_written.Reads as text-written-reads
 
--- src/basic.rt:47:35
 enum-known-kind : tie.Need-enum-known-kind
 enum-known-kind c = search needs
 
--- src/basic.rt:48:37
 enum-told : tie.Need-enum-told
 enum-told c = search needs
 
--- src/basic.rt:48:37
 text-written-requires : tie.Need-text-written-requires
 text-written-requires c κs = search needs
 
--- src/basic.rt:49:14
 boolean-written-requires : tie.Need-boolean-written-requires
 boolean-written-requires c κs = search needs
 
--- src/basic.rt:43:1
 returns : tie.Need-returns
 returns c =
     ap (λ (k : Letter). letterWritten k (c .before .before .before .before .args .part .now)) (sym (c .before .kind .given .1))
 
--- src/basic.rt:43:1
 returns-2 : tie.Need-returns-2
 returns-2 c =
     c .text-written .ensures ∙ ap (λ (k : Letter). letterWritten k (c .before .before .before .before .args .part .now)) (sym (c .before .enum-told .given .1))
 
--- src/basic.rt:43:1
 returns-3 : tie.Need-returns-3
 returns-3 c =
     c .boolean-written .ensures ∙ letter-bool (c .before .before .before .args .kind) _ (c .before .match .keys3)

@@ -1,57 +1,42 @@
 -- `lone_basic` meets its contract. Assumes nothing.
-use mathlib.Core.Path.{_≡_, refl, sym, ap, subst⁻¹, _∙_}
+use mathlib.Core.Path.{sym, _∙_}
 use mathlib.Core.Bool.{false≢true}
 use Rattle.strict_basic.proofs.ItemLaws.{lone-bool, lone-number, lone-text}
 use borrow.Author.Needs.{needs}
 use Rattle.strict_basic.proofs.basic.lone_basic.Statement.{statement}
 use Rattle.strict_basic.proofs.basic.lone_basic.Tie as tie
-use Rattle.strict_basic.proofs.basic.lone_basic.Reads as reads
-use Rattle.strict_basic.proofs.basic.lone_basic.Lts as lts
-use Rattle.signature.proofs.letter_at.Reads as letter-at-reads
-use Rattle.strict_basic.proofs.basic.lone_if.Reads as lone-if-reads
 
--- src/basic.rt:133:9
 letter-at-requires : tie.Need-letter-at-requires
 letter-at-requires c κs = search needs
 
--- src/basic.rt:135:9
 lone-if-requires : tie.Need-lone-if-requires
 lone-if-requires c κs = search needs
 
--- src/basic.rt:135:9
 returns : tie.Need-returns
 returns c =
     record { lone = λ z. absurd (false≢true (sym (c .lone-if .ensures .0) ∙ z)) }
 
--- src/basic.rt:138:28
 enum-told : tie.Need-enum-told
 enum-told c = search needs
 
--- src/basic.rt:138:28
 lone-if-requires-2 : tie.Need-lone-if-requires-2
 lone-if-requires-2 c κs = search needs
 
--- src/basic.rt:139:49
 enum-told-2 : tie.Need-enum-told-2
 enum-told-2 c = search needs
 
--- src/basic.rt:139:49
 lone-if-requires-3 : tie.Need-lone-if-requires-3
 lone-if-requires-3 c κs = search needs
 
--- src/basic.rt:140:37
 enum-told-3 : tie.Need-enum-told-3
 enum-told-3 c = search needs
 
--- src/basic.rt:140:37
 lone-if-requires-4 : tie.Need-lone-if-requires-4
 lone-if-requires-4 c κs = search needs
 
--- src/basic.rt:141:14
 lone-if-requires-5 : tie.Need-lone-if-requires-5
 lone-if-requires-5 c κs = search needs
 
--- src/basic.rt:130:1
 returns-2 : tie.Need-returns-2
 returns-2 c =
     record {
@@ -59,7 +44,6 @@ returns-2 c =
           ∙ c .before .enum-told .given .1);
     }
 
--- src/basic.rt:130:1
 returns-3 : tie.Need-returns-3
 returns-3 c =
     record {
@@ -67,7 +51,6 @@ returns-3 c =
           ∙ c .before .enum-told2 .given .1);
     }
 
--- src/basic.rt:130:1
 returns-4 : tie.Need-returns-4
 returns-4 c =
     record {
@@ -75,7 +58,6 @@ returns-4 c =
           ∙ c .before .enum-told3 .given .1);
     }
 
--- src/basic.rt:130:1
 returns-5 : tie.Need-returns-5
 returns-5 c =
     record { lone = λ z. absurd (false≢true (sym (c .lone-if5 .ensures .0) ∙ z)) }

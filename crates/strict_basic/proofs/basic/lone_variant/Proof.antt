@@ -3,18 +3,13 @@ use Rattle.strict_basic.proofs.ItemLaws.{lone-more, lone-one}
 use borrow.Author.Needs.{needs}
 use Rattle.strict_basic.proofs.basic.lone_variant.Statement.{statement}
 use Rattle.strict_basic.proofs.basic.lone_variant.Tie as tie
-use Rattle.strict_basic.proofs.basic.lone_variant.Reads as reads
-use Rattle.strict_basic.proofs.basic.lone_variant.Lts as lts
 
--- src/basic.rt:203:9
 returns : tie.Need-returns
 returns c = lone-more (c .before .args .text .now) (c .if1 .taken)
 
--- src/basic.rt:205:5
 shared-slice-read-result : tie.Need-shared-slice-read-result
 shared-slice-read-result c = search needs
 
--- src/basic.rt:199:1
 returns-2 : tie.Need-returns-2
 returns-2 c = lone-one (c .before .before .args .text .now) (c .before .if1 .left)
 

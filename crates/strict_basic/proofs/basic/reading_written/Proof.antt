@@ -2,8 +2,6 @@
 use Rattle.strict_basic.proofs.ElementLaws.{reading-held, reading-left}
 use Rattle.strict_basic.proofs.basic.reading_written.Statement.{statement}
 use Rattle.strict_basic.proofs.basic.reading_written.Tie as tie
-use Rattle.strict_basic.proofs.basic.reading_written.Reads as reads
-use Rattle.strict_basic.proofs.basic.reading_written.Lts as lts
 
 returns : tie.Need-returns
 returns c = λ room width held. reading-held width _ room held (c .if1 .taken)

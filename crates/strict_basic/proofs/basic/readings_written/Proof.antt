@@ -1,5 +1,5 @@
 -- `readings_written` meets its contract: the loop keeps what is left of the elements. Assumes nothing.
-use mathlib.Core.Path.{_≡_, refl, sym, ap, subst⁻¹, _∙_}
+use mathlib.Core.Path.{refl}
 use native.Mathlib.Omega.{arith}
 use borrow.Author.Needs.{needs}
 use Rattle.reader_basic.proofs.Answers.{granted, denied}
@@ -8,12 +8,6 @@ use Rattle.strict_basic.proofs.EndLaws.{element-other}
 use Rattle.strict_basic.proofs.ElementLaws.{ReadingsLeft, readings-begin, readings-room, readings-stop, readings-next, readings-end, reading-absent, reading-there}
 use Rattle.strict_basic.proofs.basic.readings_written.Statement.{statement}
 use Rattle.strict_basic.proofs.basic.readings_written.Tie as tie
-use Rattle.strict_basic.proofs.basic.readings_written.Reads as reads
-use Rattle.strict_basic.proofs.basic.readings_written.Lts as lts
-use Rattle.strict_basic.proofs.basic.reading_written.Reads as reading-written-reads
-use Rattle.strict_basic.proofs.ends.offset_at.Reads as offset-at-reads
-use Rattle.strict_basic.proofs.ends.start_of.Reads as start-of-reads
-use Rattle.strict_basic.proofs.basic.bytes_held.Reads as bytes-held-reads
 
 abbrev Inv-loop : tie.InvT-loop
 Inv-loop part number room limit width many held i₀ from₀ place₀ i from place =
@@ -23,42 +17,34 @@ abbrev μ-loop : tie.MeasureT-loop
 μ-loop part number room limit width many held i₀ from₀ place₀ i from place =
     many - i
 
--- src/basic.rt:158:9
 bytes-held-requires : tie.Need-bytes-held-requires Inv-loop μ-loop
 bytes-held-requires c κs = search needs
 
--- src/basic.rt:162:5
 loop-holds : tie.Need-loop-holds Inv-loop μ-loop
 loop-holds c =
     readings-begin _ _ _ _ _ _ _ (c .before .before .pre .2)
 
--- src/basic.rt:163:13
 offset-at-requires : tie.Need-offset-at-requires Inv-loop μ-loop
 offset-at-requires c κs =
     (omega (arith, readings-room _ _ _ _ _ _ _ (c .before .loop .inv) (c .loop-test .taken)), c .before .before .before .before .pre .3)
 
--- src/basic.rt:164:13
 start-of-requires : tie.Need-start-of-requires Inv-loop μ-loop
 start-of-requires c κs =
     (c .before .before .loop .inv .place, c .before .before .before .before .before .pre .1, c .before .before .before .before .before .pre .0, c .before .before .before .before .before .pre .4)
 
--- src/basic.rt:167:13
 returns : tie.Need-returns Inv-loop μ-loop
 returns c =
     readings-stop _ _ _ _ _ _ _ (c .before .before .before .before .loop .inv) (c .before .before .before .loop-test .taken) _ (element-other _ _ _ _ _ _ refl (c .before .before .offset-at .ensures)) _
     (reading-absent _ _ _ _ _ _ (c .before .start-of .ensures) (denied (c .if1 .taken)) _) refl
 
--- src/basic.rt:169:29
 sub-reading-written : tie.Need-sub-reading-written Inv-loop μ-loop
 sub-reading-written c =
     c .before .before .start-of .ensures .before (granted (c .before .if1 .left))
 
--- src/basic.rt:169:13
 reading-written-requires : tie.Need-reading-written-requires Inv-loop μ-loop
 reading-written-requires c κs =
     search needs
 
--- src/basic.rt:170:13
 returns-2 : tie.Need-returns-2 Inv-loop μ-loop
 returns-2 c =
     let start = c .before .before .before .before .before .before .before .before .before .before in
@@ -72,7 +58,6 @@ returns-2 c =
     let there = reading-there _ _ _ _ _ _ (at-start-of .start-of .ensures) _ _ (granted (at-if1 .if1 .left)) (start .pre .1) written in
     readings-stop _ _ _ _ _ _ _ (at-loop .loop .inv) (at-loop-test .loop-test .taken) _ (element-other _ _ _ _ _ _ refl (at-offset-at .offset-at .ensures)) _ there (denied (c .if2 .taken))
 
--- src/basic.rt:173:16
 add-from : tie.Need-add-from Inv-loop μ-loop
 add-from c =
     omega (
@@ -81,17 +66,14 @@ add-from c =
       c .before .before .before .before .before .before .before .before .before .before .pre .0,
     )
 
--- src/basic.rt:174:13
 add-i : tie.Need-add-i Inv-loop μ-loop
 add-i c =
     omega arith
 
--- src/basic.rt:162:5
 loop-less : tie.Need-loop-less Inv-loop μ-loop
 loop-less c =
     omega arith
 
--- src/basic.rt:162:5
 loop-again : tie.Need-loop-again Inv-loop μ-loop
 loop-again c =
     let start = c .before .before .before .before .before .before .before .before .before .before in
@@ -105,7 +87,6 @@ loop-again c =
     let there = reading-there _ _ _ _ _ _ (at-start-of .start-of .ensures) _ _ (granted (at-if1 .if1 .left)) (start .pre .1) written in
     readings-next _ _ _ _ _ _ _ (at-loop .loop .inv) (at-loop-test .loop-test .taken) _ (element-other _ _ _ _ _ _ refl (at-offset-at .offset-at .ensures)) _ there (granted (c .if2 .left)) (at-start-of .start-of .ensures .within (granted (at-if1 .if1 .left)))
 
--- src/basic.rt:151:1
 returns-3 : tie.Need-returns-3 Inv-loop μ-loop
 returns-3 c =
     readings-end _ _ _ _ _ _ _ (c .before .loop .inv) (c .loop-test .left)

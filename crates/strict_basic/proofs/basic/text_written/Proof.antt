@@ -5,38 +5,28 @@ use Rattle.strict_basic.proofs.EndLaws.{text-empty, text-open, text-end
 use borrow.Author.Needs.{needs}
 use Rattle.strict_basic.proofs.basic.text_written.Statement.{statement}
 use Rattle.strict_basic.proofs.basic.text_written.Tie as tie
-use Rattle.strict_basic.proofs.basic.text_written.Reads as reads
-use Rattle.strict_basic.proofs.basic.text_written.Lts as lts
-use Rattle.texts.proofs.text_refusal.Reads as text-refusal-reads
 
--- src/basic.rt:32:9
 returns : tie.Need-returns
 returns c =
     text-empty _ (c .if1 .taken)
 
--- src/basic.rt:34:15
 sub-end : tie.Need-sub-end
 sub-end c = search needs
 
--- src/basic.rt:35:8
 shared-slice-read-if2 : tie.Need-shared-slice-read-if2
 shared-slice-read-if2 c = search needs
 
--- src/basic.rt:36:9
 returns-2 : tie.Need-returns-2
 returns-2 c =
     text-open _ (c .before .before .if1 .left) (c .if2 .taken)
 
--- src/basic.rt:38:32
 slice-aggregate-text-refusal : tie.Need-slice-aggregate-text-refusal
 slice-aggregate-text-refusal c =
     simp length-take (omega arith)
 
--- src/basic.rt:38:9
 text-refusal-requires : tie.Need-text-refusal-requires
 text-refusal-requires c κs = search needs
 
--- src/basic.rt:28:1
 returns-3 : tie.Need-returns-3
 returns-3 c =
     text-ends _ _ (c .before .before .before .before .if1 .left) (c .before .before .if2 .left) (c .text-refusal .ensures)

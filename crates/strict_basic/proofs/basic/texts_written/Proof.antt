@@ -1,5 +1,5 @@
 -- `texts_written` meets its contract: the loop keeps what is left of the elements. Assumes nothing.
-use mathlib.Core.Path.{_≡_, refl, sym, ap, subst⁻¹, _∙_}
+use mathlib.Core.Path.{refl}
 use native.Mathlib.Omega.{arith}
 use borrow.Author.Needs.{needs}
 use Rattle.reader_basic.proofs.Answers.{granted, denied}
@@ -9,10 +9,6 @@ use Rattle.strict_basic.proofs.EndLaws.{element-other}
 use Rattle.strict_basic.proofs.ElementLaws.{TextsLeft, texts-begin, texts-room, texts-stop, texts-next, texts-end, text-below, text-past, text-here}
 use Rattle.strict_basic.proofs.basic.texts_written.Statement.{statement}
 use Rattle.strict_basic.proofs.basic.texts_written.Tie as tie
-use Rattle.strict_basic.proofs.basic.texts_written.Reads as reads
-use Rattle.strict_basic.proofs.basic.texts_written.Lts as lts
-use Rattle.strict_basic.proofs.basic.text_written.Reads as text-written-reads
-use Rattle.strict_basic.proofs.ends.offset_at.Reads as offset-at-reads
 
 abbrev Inv-loop : tie.InvT-loop
 Inv-loop part limit width many i₀ from₀ place₀ i from place =
@@ -22,50 +18,41 @@ abbrev μ-loop : tie.MeasureT-loop
 μ-loop part limit width many i₀ from₀ place₀ i from place =
     many - i
 
--- src/basic.rt:100:5
 loop-holds : tie.Need-loop-holds Inv-loop μ-loop
 loop-holds c =
     texts-begin _ _ _ _ _ noneOpen (c .before .pre .2)
 
--- src/basic.rt:101:13
 offset-at-requires : tie.Need-offset-at-requires Inv-loop μ-loop
 offset-at-requires c κs =
     (omega (arith, texts-room _ _ _ _ _ (c .before .loop .inv) (c .loop-test .taken)), c .before .before .before .pre .3)
 
--- src/basic.rt:103:13
 returns : tie.Need-returns Inv-loop μ-loop
 returns c =
     texts-stop _ _ _ _ _ (c .before .before .before .loop .inv) (c .before .before .loop-test .taken) _ (element-other _ _ _ _ _ _ refl (c .before .offset-at .ensures)) _ (text-below _ _ _ _ (c .if1 .taken)) refl
 
--- src/basic.rt:106:13
 returns-2 : tie.Need-returns-2 Inv-loop μ-loop
 returns-2 c =
     texts-stop _ _ _ _ _ (c .before .before .before .before .loop .inv) (c .before .before .before .loop-test .taken) _ (element-other _ _ _ _ _ _ refl (c .before .before .offset-at .ensures)) _
     (text-past _ _ _ _ (c .before .if1 .left) (c .if2 .taken)) refl
 
--- src/basic.rt:108:26
 part-text-written-start : tie.Need-part-text-written-start Inv-loop μ-loop
 part-text-written-start c =
     c .before .if1 .left
 
--- src/basic.rt:108:26
 part-text-written-end : tie.Need-part-text-written-end Inv-loop μ-loop
 part-text-written-end c =
     omega (arith, c .if2 .left, c .before .before .before .before .before .before .pre .1)
 
--- src/basic.rt:108:13
 text-written-requires : tie.Need-text-written-requires Inv-loop μ-loop
 text-written-requires c κs =
     search needs
 
--- src/basic.rt:109:13
 returns-3 : tie.Need-returns-3 Inv-loop μ-loop
 returns-3 c =
     texts-stop _ _ _ _ _ (c .before .before .before .before .before .before .before .loop .inv) (c .before .before .before .before .before .before .loop-test .taken) _
     (element-other _ _ _ _ _ _ refl (c .before .before .before .before .before .offset-at .ensures)) _ (text-here _ _ _ _ _ (c .before .before .before .before .if1 .left) (c .before .before .before .if2 .left)
     (c .before .text-written .ensures)) (denied (c .if3 .taken))
 
--- src/basic.rt:112:16
 add-from : tie.Need-add-from Inv-loop μ-loop
 add-from c =
     omega (
@@ -74,24 +61,20 @@ add-from c =
       c .before .before .before .before .before .before .before .before .before .pre .0,
     )
 
--- src/basic.rt:113:13
 add-i : tie.Need-add-i Inv-loop μ-loop
 add-i c =
     omega arith
 
--- src/basic.rt:100:5
 loop-less : tie.Need-loop-less Inv-loop μ-loop
 loop-less c =
     omega arith
 
--- src/basic.rt:100:5
 loop-again : tie.Need-loop-again Inv-loop μ-loop
 loop-again c =
     texts-next _ _ _ _ _ (c .before .before .before .before .before .before .before .loop .inv) (c .before .before .before .before .before .before .loop-test .taken) _
     (element-other _ _ _ _ _ _ refl (c .before .before .before .before .before .offset-at .ensures)) _ (text-here _ _ _ _ _ (c .before .before .before .before .if1 .left) (c .before .before .before .if2 .left)
     (c .before .text-written .ensures)) (granted (c .if3 .left))
 
--- src/basic.rt:90:1
 returns-4 : tie.Need-returns-4 Inv-loop μ-loop
 returns-4 c =
     texts-end _ _ _ _ _ (c .before .loop .inv) (c .loop-test .left)

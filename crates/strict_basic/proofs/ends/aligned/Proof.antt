@@ -1,5 +1,5 @@
 -- `aligned` meets its contract. Assumes nothing.
-use mathlib.Core.Path.{_≡_, refl, sym, ap, subst⁻¹, _∙_}
+use mathlib.Core.Path.{ap}
 use native.Mathlib.Omega.{arith}
 use Prim.Native.Nat.{ℕ, _+_}
 use Rattle.meaning.proofs.PaddingLaws.{padding-below}
@@ -8,20 +8,14 @@ use Rattle.strict_basic.proofs.EndLaws.{due-is}
 use borrow.Author.Needs.{needs}
 use Rattle.strict_basic.proofs.ends.aligned.Statement.{statement}
 use Rattle.strict_basic.proofs.ends.aligned.Tie as tie
-use Rattle.strict_basic.proofs.ends.aligned.Reads as reads
-use Rattle.strict_basic.proofs.ends.aligned.Lts as lts
-use Rattle.utils.proofs.padding_for_n_bytes.Reads as padding-for-n-bytes-reads
 
--- src/ends.rt:78:9
 padding-for-n-bytes-requires : tie.Need-padding-for-n-bytes-requires
 padding-for-n-bytes-requires c κs = search needs
 
--- src/ends.rt:79:5
 add-result : tie.Need-add-result
 add-result c =
     let h = due-is (c .before .before .pre .1) _ _ (c .before .padding-for-n-bytes .ensures) in omega (arith, padding-below (c .before .before .pre .1) (c .before .before .args .place), aligns-most (c .before .before .pre .1))
 
--- src/ends.rt:74:1
 returns : tie.Need-returns
 returns c =
     ap (λ (x : ℕ). c .before .before .args .place + x) (due-is (c .before .before .pre .1) _ _ (c .before .padding-for-n-bytes .ensures))

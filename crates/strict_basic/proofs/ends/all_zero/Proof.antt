@@ -1,5 +1,5 @@
 -- `all_zero` meets its contract. Assumes nothing.
-use mathlib.Core.Path.{_≡_, refl, sym, ap, subst⁻¹, _∙_}
+use mathlib.Core.Path.{_≡_, refl, sym, _∙_}
 use native.Mathlib.Omega.{arith}
 use Prim.Native.Nat.{_-_, _≤_}
 use lib.ListN.{length, drop}
@@ -7,8 +7,6 @@ use Rattle.meaning_writing.specs.Strict.{allZero}
 use Rattle.strict_basic.proofs.EndLaws.{run-on, run-stop, run-end}
 use Rattle.strict_basic.proofs.ends.all_zero.Statement.{statement}
 use Rattle.strict_basic.proofs.ends.all_zero.Tie as tie
-use Rattle.strict_basic.proofs.ends.all_zero.Reads as reads
-use Rattle.strict_basic.proofs.ends.all_zero.Lts as lts
 
 abbrev Inv-loop : tie.InvT-loop
 Inv-loop part i₀ i =
@@ -18,37 +16,30 @@ abbrev μ-loop : tie.MeasureT-loop
 μ-loop part i₀ i =
     length part - i
 
--- src/ends.rt:64:5
 loop-holds : tie.Need-loop-holds Inv-loop μ-loop
 loop-holds c =
     (omega arith, refl)
 
--- src/ends.rt:65:12
 shared-slice-read-if1 : tie.Need-shared-slice-read-if1 Inv-loop μ-loop
 shared-slice-read-if1 c =
     omega arith
 
--- src/ends.rt:66:13
 returns : tie.Need-returns Inv-loop μ-loop
 returns c =
     sym (c .before .before .before .loop .inv .1 ∙ run-stop _ (c .before .before .before .loop .i) (c .before .before .loop-test .taken) (c .if1 .taken))
 
--- src/ends.rt:68:9
 add-i : tie.Need-add-i Inv-loop μ-loop
 add-i c =
     omega arith
 
--- src/ends.rt:64:5
 loop-less : tie.Need-loop-less Inv-loop μ-loop
 loop-less c =
     omega arith
 
--- src/ends.rt:64:5
 loop-again : tie.Need-loop-again Inv-loop μ-loop
 loop-again c =
     (omega arith, c .before .before .before .loop .inv .1 ∙ run-on _ (c .before .before .before .loop .i) (c .before .before .loop-test .taken) (c .if1 .left))
 
--- src/ends.rt:60:1
 returns-2 : tie.Need-returns-2 Inv-loop μ-loop
 returns-2 c =
     sym (c .before .loop .inv .1 ∙ run-end _ (c .before .loop .i) (c .loop-test .left))

@@ -3,26 +3,18 @@ use Rattle.strict_basic.proofs.EndLaws.{element-fixed, element-other}
 use borrow.Author.Needs.{needs}
 use Rattle.strict_basic.proofs.ends.element_end.Statement.{statement}
 use Rattle.strict_basic.proofs.ends.element_end.Tie as tie
-use Rattle.strict_basic.proofs.ends.element_end.Reads as reads
-use Rattle.strict_basic.proofs.ends.element_end.Lts as lts
-use Rattle.strict_basic.proofs.ends.fixed_end.Reads as fixed-end-reads
-use Rattle.strict_basic.proofs.ends.offset_at.Reads as offset-at-reads
 
--- src/ends.rt:122:9
 fixed-end-requires : tie.Need-fixed-end-requires
 fixed-end-requires c κs = search needs
 
--- src/ends.rt:122:9
 returns : tie.Need-returns
 returns c =
     element-fixed _ _ _ _ _ _ (c .before .if1 .taken) (c .fixed-end .ensures)
 
--- src/ends.rt:124:5
 offset-at-requires : tie.Need-offset-at-requires
 offset-at-requires c κs =
     c .before .before .pre .2 (c .if1 .left)
 
--- src/ends.rt:116:1
 returns-2 : tie.Need-returns-2
 returns-2 c =
     element-other _ _ _ _ _ _ (c .before .if1 .left) (c .offset-at .ensures)

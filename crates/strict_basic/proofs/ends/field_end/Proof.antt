@@ -4,31 +4,22 @@ use Rattle.strict_basic.proofs.EndLaws.{field-fixed, field-other}
 use borrow.Author.Needs.{needs}
 use Rattle.strict_basic.proofs.ends.field_end.Statement.{statement}
 use Rattle.strict_basic.proofs.ends.field_end.Tie as tie
-use Rattle.strict_basic.proofs.ends.field_end.Reads as reads
-use Rattle.strict_basic.proofs.ends.field_end.Lts as lts
-use Rattle.strict_basic.proofs.ends.fixed_end.Reads as fixed-end-reads
-use Rattle.strict_basic.proofs.ends.offset_at.Reads as offset-at-reads
 
--- src/ends.rt:134:9
 fixed-end-requires : tie.Need-fixed-end-requires
 fixed-end-requires c κs = search needs
 
--- src/ends.rt:134:9
 returns : tie.Need-returns
 returns c =
     field-fixed _ _ _ _ _ _ (c .before .if1 .taken) (c .fixed-end .ensures)
 
--- src/ends.rt:136:21
 sub-offset-at : tie.Need-sub-offset-at
 sub-offset-at c =
     c .before .before .pre .4 (c .if1 .left)
 
--- src/ends.rt:136:5
 offset-at-requires : tie.Need-offset-at-requires
 offset-at-requires c κs =
     (omega (arith, c .before .before .pre .4 (c .if1 .left), c .before .before .pre .2), c .before .before .pre .3)
 
--- src/ends.rt:128:1
 returns-2 : tie.Need-returns-2
 returns-2 c =
     field-other _ _ _ _ _ _ (c .before .if1 .left) (c .before .before .before .pre .4 (c .before .if1 .left)) (c .offset-at .ensures)

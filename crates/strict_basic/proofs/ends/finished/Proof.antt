@@ -4,42 +4,30 @@ use Rattle.strict_basic.proofs.EndLaws.{finished-other, finished-short,
 use borrow.Author.Needs.{needs}
 use Rattle.strict_basic.proofs.ends.finished.Statement.{statement}
 use Rattle.strict_basic.proofs.ends.finished.Tie as tie
-use Rattle.strict_basic.proofs.ends.finished.Reads as reads
-use Rattle.strict_basic.proofs.ends.finished.Lts as lts
-use Rattle.strict_basic.proofs.ends.aligned.Reads as aligned-reads
-use Rattle.strict_basic.proofs.ends.all_zero.Reads as all-zero-reads
 
--- src/ends.rt:240:9
 returns : tie.Need-returns
 returns c =
     finished-other _ _ _ _ _ (denied (c .if1 .taken))
 
--- src/ends.rt:242:9
 aligned-requires : tie.Need-aligned-requires
 aligned-requires c κs = search needs
 
--- src/ends.rt:244:9
 returns-2 : tie.Need-returns-2
 returns-2 c =
     finished-short _ _ _ _ _ _ (granted (c .before .before .if1 .left)) (c .before .aligned .ensures) (c .if2 .taken)
 
--- src/ends.rt:246:14
 sub-all-zero : tie.Need-sub-all-zero
 sub-all-zero c = search needs
 
--- src/ends.rt:246:14
 part-all-zero-start : tie.Need-part-all-zero-start
 part-all-zero-start c = search needs
 
--- src/ends.rt:246:14
 part-all-zero-end : tie.Need-part-all-zero-end
 part-all-zero-end c = search needs
 
--- src/ends.rt:246:5
 all-zero-requires : tie.Need-all-zero-requires
 all-zero-requires c κs = search needs
 
--- src/ends.rt:235:1
 returns-3 : tie.Need-returns-3
 returns-3 c =
     finished-whole _ _ _ _ _ _ _ (granted (c .before .before .before .before .if1 .left)) (c .before .before .before .aligned .ensures) (c .before .before .if2 .left) (c .all-zero .ensures)

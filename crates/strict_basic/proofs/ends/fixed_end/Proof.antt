@@ -5,20 +5,14 @@ use Rattle.meaning.proofs.TypeLaws.{aligns-most}
 use borrow.Author.Needs.{needs}
 use Rattle.strict_basic.proofs.ends.fixed_end.Statement.{statement}
 use Rattle.strict_basic.proofs.ends.fixed_end.Tie as tie
-use Rattle.strict_basic.proofs.ends.fixed_end.Reads as reads
-use Rattle.strict_basic.proofs.ends.fixed_end.Lts as lts
-use Rattle.strict_basic.proofs.ends.aligned.Reads as aligned-reads
 
--- src/ends.rt:103:5
 aligned-requires : tie.Need-aligned-requires
 aligned-requires c κs = search needs
 
--- src/ends.rt:103:5
 add-result : tie.Need-add-result
 add-result c =
     omega (arith, padding-below (c .before .before .pre .1 .aligned) (c .before .before .args .place), aligns-most (c .before .before .pre .1 .aligned), c .before .before .pre .1 .small)
 
--- src/ends.rt:99:1
 returns : tie.Need-returns
 returns c = search needs
 

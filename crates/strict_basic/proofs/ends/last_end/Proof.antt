@@ -3,20 +3,14 @@ use Rattle.strict_basic.proofs.EndLaws.{last-fixed, last-other}
 use borrow.Author.Needs.{needs}
 use Rattle.strict_basic.proofs.ends.last_end.Statement.{statement}
 use Rattle.strict_basic.proofs.ends.last_end.Tie as tie
-use Rattle.strict_basic.proofs.ends.last_end.Reads as reads
-use Rattle.strict_basic.proofs.ends.last_end.Lts as lts
-use Rattle.strict_basic.proofs.ends.fixed_end.Reads as fixed-end-reads
 
--- src/ends.rt:146:9
 fixed-end-requires : tie.Need-fixed-end-requires
 fixed-end-requires c κs = search needs
 
--- src/ends.rt:146:9
 returns : tie.Need-returns
 returns c =
     last-fixed _ _ _ _ (c .before .if1 .taken) (c .fixed-end .ensures)
 
--- src/ends.rt:140:1
 returns-2 : tie.Need-returns-2
 returns-2 c =
     last-other _ _ _ (c .if1 .left)

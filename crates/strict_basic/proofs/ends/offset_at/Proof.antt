@@ -6,11 +6,6 @@ use Rattle.strict_basic.proofs.EndLaws.{offset-is}
 use borrow.Author.Needs.{needs}
 use Rattle.strict_basic.proofs.ends.offset_at.Statement.{statement}
 use Rattle.strict_basic.proofs.ends.offset_at.Tie as tie
-use Rattle.strict_basic.proofs.ends.offset_at.Reads as reads
-use Rattle.strict_basic.proofs.ends.offset_at.Lts as lts
-use Rattle.framing_offset_size.proofs.FramingOffsetSize.width.Reads as width-reads
-use Rattle.framing_offsets.proofs.table.next_in.Reads as next-in-reads
-use Rattle.strict_basic.proofs.ends.size_of.Reads as size-of-reads
 
 size-of-requires : tie.Need-size-of-requires
 size-of-requires c κs = search needs

@@ -3,18 +3,13 @@ use Rattle.strict_basic.proofs.EndLaws.{more-other}
 use borrow.Author.Needs.{needs}
 use Rattle.strict_basic.proofs.ends.one_more.Statement.{statement}
 use Rattle.strict_basic.proofs.ends.one_more.Tie as tie
-use Rattle.strict_basic.proofs.ends.one_more.Reads as reads
-use Rattle.strict_basic.proofs.ends.one_more.Lts as lts
 
--- src/ends.rt:167:9
 returns : tie.Need-returns
 returns c = search needs
 
--- src/ends.rt:169:5
 add-result : tie.Need-add-result
 add-result c = search needs
 
--- src/ends.rt:162:1
 returns-2 : tie.Need-returns-2
 returns-2 c =
     more-other _ _ (c .if1 .left)

@@ -4,30 +4,21 @@ use Rattle.strict_basic.proofs.EndLaws.{rows-by, rows-fixed, rows-other
 use borrow.Author.Needs.{needs}
 use Rattle.strict_basic.proofs.ends.rows_of.Statement.{statement}
 use Rattle.strict_basic.proofs.ends.rows_of.Tie as tie
-use Rattle.strict_basic.proofs.ends.rows_of.Reads as reads
-use Rattle.strict_basic.proofs.ends.rows_of.Lts as lts
-use Rattle.strict_basic.proofs.ends.rows_if.Reads as rows-if-reads
-use Rattle.strict_basic.proofs.ends.table_of.Reads as table-of-reads
 
--- src/ends.rt:213:35
 div-rows-if : tie.Need-div-rows-if
 div-rows-if c =
     omega (arith, c .before .before .before .pre .1 (c .before .if1 .taken))
 
--- src/ends.rt:213:9
 rows-if-requires : tie.Need-rows-if-requires
 rows-if-requires c κs = search needs
 
--- src/ends.rt:213:9
 returns : tie.Need-returns
 returns c =
     rows-by (c .rows-if .ensures) (rows-fixed _ _ _ (c .before .before .if1 .taken))
 
--- src/ends.rt:215:5
 table-of-requires : tie.Need-table-of-requires
 table-of-requires c κs = search needs
 
--- src/ends.rt:206:1
 returns-2 : tie.Need-returns-2
 returns-2 c =
     rows-other _ _ _ _ (c .before .if1 .left) (c .table-of .ensures)

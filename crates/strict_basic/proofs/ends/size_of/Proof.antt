@@ -2,8 +2,6 @@
 use Rattle.strict_basic.proofs.EndLaws.{width-is}
 use Rattle.strict_basic.proofs.ends.size_of.Statement.{statement}
 use Rattle.strict_basic.proofs.ends.size_of.Tie as tie
-use Rattle.strict_basic.proofs.ends.size_of.Reads as reads
-use Rattle.strict_basic.proofs.ends.size_of.Lts as lts
 
 returns : tie.Need-returns
 returns c = width-is (c .before .pre) .0 (c .if1 .taken)

@@ -1,5 +1,5 @@
 -- `table_of` meets its contract. Assumes nothing.
-use mathlib.Core.Path.{_≡_, refl, sym, ap, subst⁻¹, _∙_}
+use mathlib.Core.Path.{sym, ap, _∙_}
 use native.Mathlib.Omega.{arith}
 use Prim.Native.Nat.{ℕ, _-_, _/_}
 use lib.ListN.{length}
@@ -7,42 +7,27 @@ use Rattle.strict_basic.proofs.EndLaws.{rows-by, last-offset-is, table-
 use borrow.Author.Needs.{needs}
 use Rattle.strict_basic.proofs.ends.table_of.Statement.{statement}
 use Rattle.strict_basic.proofs.ends.table_of.Tie as tie
-use Rattle.strict_basic.proofs.ends.table_of.Reads as reads
-use Rattle.strict_basic.proofs.ends.table_of.Lts as lts
-use Rattle.framing_offset_size.proofs.FramingOffsetSize.count_in.Reads as count-in-reads
-use Rattle.framing_offset_size.proofs.FramingOffsetSize.for_encoded_container.Reads as for-encoded-container-reads
-use Rattle.framing_offsets.proofs.table.last_in.Reads as last-in-reads
-use Rattle.framing_offset_size.proofs.FramingOffsetSize.width.Reads as width-reads
-use Rattle.strict_basic.proofs.ends.rows_if.Reads as rows-if-reads
-use Rattle.strict_basic.proofs.ends.smallest.Reads as smallest-reads
 
--- src/ends.rt:211:9
 for-encoded-container-requires : tie.Need-for-encoded-container-requires
 for-encoded-container-requires c κs = search needs
 
--- src/ends.rt:212:9
 width-requires : tie.Need-width-requires
 width-requires c κs = search needs
 
--- src/ends.rt:213:9
 last-in-requires : tie.Need-last-in-requires
 last-in-requires c κs = search needs
 
--- src/ends.rt:216:9
 rows-if-requires : tie.Need-rows-if-requires
 rows-if-requires c κs = search needs
 
--- src/ends.rt:216:9
 returns : tie.Need-returns
 returns c =
     rows-by (c .rows-if .ensures) (table-past _ _ _ (c .before .before .before .width .ensures ∙ c .before .before .before .before .for-encoded-container .ensures)
     (last-offset-is _ _ _ (c .before .before .before .before .for-encoded-container .ensures) (c .before .before .last-in .ensures)) (c .before .if1 .taken))
 
--- src/ends.rt:218:9
 count-in-requires : tie.Need-count-in-requires
 count-in-requires c κs = search needs
 
--- src/ends.rt:219:15
 mul-if2 : tie.Need-mul-if2
 mul-if2 c =
     let h = count-small (c .before .before .before .before .before .before .args .part .now) _ _ (c .before .before .before .width .ensures ∙ c .before .before .before .before .for-encoded-container .ensures)
@@ -50,7 +35,6 @@ mul-if2 c =
     ∙ ap (λ (w : ℕ). (length (c .before .before .before .before .before .before .args .part .now) - c .before .before .last-in .result .value) / w) (sym
     (c .before .before .before .width .ensures))) (c .before .if1 .left) in omega (arith, h .0, h .1, c .before .before .before .before .before .before .pre)
 
--- src/ends.rt:219:8
 add-if2 : tie.Need-add-if2
 add-if2 c =
     let h = count-small (c .before .before .before .before .before .before .args .part .now) _ _ (c .before .before .before .width .ensures ∙ c .before .before .before .before .for-encoded-container .ensures)
@@ -58,11 +42,9 @@ add-if2 c =
     ∙ ap (λ (w : ℕ). (length (c .before .before .before .before .before .before .args .part .now) - c .before .before .last-in .result .value) / w) (sym
     (c .before .before .before .width .ensures))) (c .before .if1 .left) in omega (arith, h .0, h .1, c .before .before .before .before .before .before .pre)
 
--- src/ends.rt:220:9
 rows-if-requires-2 : tie.Need-rows-if-requires-2
 rows-if-requires-2 c κs = search needs
 
--- src/ends.rt:220:9
 returns-2 : tie.Need-returns-2
 returns-2 c =
     rows-by (c .rows-if2 .ensures) (table-odd _ _ _ (c .before .before .before .before .before .width .ensures ∙ c .before .before .before .before .before .before .for-encoded-container .ensures)
@@ -70,7 +52,6 @@ returns-2 c =
     (c .before .before .count-in .ensures ∙ ap (λ (w : ℕ). (length (c .before .before .before .before .before .before .before .before .args .part .now) - c .before .before .before .before .last-in .result .value) / w)
     (sym (c .before .before .before .before .before .width .ensures))) (c .before .if2 .taken))
 
--- src/ends.rt:222:9
 smallest-requires : tie.Need-smallest-requires
 smallest-requires c κs = (
   omega (arith, c .if2 .left, c .before .before .before .before .before .before .before .pre),
@@ -78,11 +59,9 @@ smallest-requires c κs = (
       (c .if2 .left),
 )
 
--- src/ends.rt:223:5
 rows-if-requires-3 : tie.Need-rows-if-requires-3
 rows-if-requires-3 c κs = search needs
 
--- src/ends.rt:206:1
 returns-3 : tie.Need-returns-3
 returns-3 c =
     rows-by (c .rows-if3 .ensures) (table-stands _ _ _ (c .before .before .before .before .before .before .width .ensures ∙ c .before .before .before .before .before .before .before .for-encoded-container .ensures)

@@ -1,5 +1,5 @@
 -- `entry_size` meets its contract. Assumes nothing.
-use mathlib.Core.Path.{_≡_, refl, sym, ap, subst⁻¹, _∙_}
+use mathlib.Core.Path.{ap, _∙_}
 use native.Mathlib.Omega.{arith}
 use Prim.Native.Nat.{ℕ, _+_}
 use Rattle.meaning.specs.Padding.{padding}
@@ -9,27 +9,18 @@ use Rattle.strict_basic.proofs.ItemLaws.{laid-as, end-most}
 use borrow.Author.Needs.{needs}
 use Rattle.strict_basic.proofs.items.entry_size.Statement.{statement}
 use Rattle.strict_basic.proofs.items.entry_size.Tie as tie
-use Rattle.strict_basic.proofs.items.entry_size.Reads as reads
-use Rattle.strict_basic.proofs.items.entry_size.Lts as lts
-use Rattle.strict_basic.proofs.basic.extent_of.Reads as extent-of-reads
-use Rattle.strict_basic.proofs.ends.aligned.Reads as aligned-reads
-use Rattle.strict_basic.proofs.ends.fixed_end.Reads as fixed-end-reads
 
--- src/items.rt:45:27
 extent-of-requires : tie.Need-extent-of-requires
 extent-of-requires c κs = search needs
 
--- src/items.rt:45:9
 fixed-end-requires : tie.Need-fixed-end-requires
 fixed-end-requires c κs =
     (omega arith, laid-as (c .extent-of .ensures) (c .before .pre .0))
 
--- src/items.rt:46:9
 fixed-end-requires-2 : tie.Need-fixed-end-requires-2
 fixed-end-requires-2 c κs =
     (omega (arith, c .fixed-end .ensures, end-most _ (laid-as (c .before .extent-of .ensures) (c .before .before .pre .0)) 0, ap (λ (x : Extent). x .size) (c .before .extent-of .ensures), c .before .before .pre .1), c .before .before .pre .2)
 
--- src/items.rt:47:5
 aligned-requires : tie.Need-aligned-requires
 aligned-requires c κs = (
   omega (
@@ -46,7 +37,6 @@ aligned-requires c κs = (
   c .before .before .before .pre .4,
 )
 
--- src/items.rt:41:1
 returns : tie.Need-returns
 returns c =
     c .aligned .ensures ∙ ap (λ (m : ℕ). m + padding m (c .before .before .before .before .args .alignment)) (c .before .fixed-end2 .ensures ∙ ap (λ (m : ℕ). endOf (c .before .before .before .before .args .value) m)

@@ -6,24 +6,18 @@ use Rattle.strict_basic.proofs.ItemLaws.{number-not}
 use borrow.Author.Needs.{needs}
 use Rattle.strict_basic.proofs.items.held_width.Statement.{statement}
 use Rattle.strict_basic.proofs.items.held_width.Tie as tie
-use Rattle.strict_basic.proofs.items.held_width.Reads as reads
-use Rattle.strict_basic.proofs.items.held_width.Lts as lts
 
--- src/items.rt:46:9
 returns : tie.Need-returns
 returns c =
     sym (ap (heldWidth (c .before .args .number)) (c .if1 .taken))
 
--- src/items.rt:49:35
 enum-known-number : tie.Need-enum-known-number
 enum-known-number c = search needs
 
--- src/items.rt:42:1
 returns-2 : tie.Need-returns-2
 returns-2 c =
     sym (ap (heldWidth (c .before .before .before .before .args .number)) (c .before .before .before .if1 .left) ∙ ap widthBy (c .before .number .given .1))
 
--- src/items.rt:42:1
 returns-3 : tie.Need-returns-3
 returns-3 c =
     number-not (c .before .before .args .number) (c .match .keys2) ∙ sym (ap (heldWidth (c .before .before .args .number)) (c .before .if1 .left))

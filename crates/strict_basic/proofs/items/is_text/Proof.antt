@@ -3,18 +3,13 @@ use Rattle.strict_basic.proofs.ItemLaws.{text-not}
 use borrow.Author.Needs.{needs}
 use Rattle.strict_basic.proofs.items.is_text.Statement.{statement}
 use Rattle.strict_basic.proofs.items.is_text.Tie as tie
-use Rattle.strict_basic.proofs.items.is_text.Reads as reads
-use Rattle.strict_basic.proofs.items.is_text.Lts as lts
 
--- src/items.rt:35:37
 enum-told : tie.Need-enum-told
 enum-told c = search needs
 
--- src/items.rt:31:1
 returns : tie.Need-returns
 returns c = search needs
 
--- src/items.rt:31:1
 returns-2 : tie.Need-returns-2
 returns-2 c =
     text-not (c .before .args .kind) (c .match .keys2)

@@ -1,5 +1,5 @@
 -- `repeated` meets its contract. Assumes nothing.
-use mathlib.Core.Path.{_≡_, refl, sym, ap, subst⁻¹, _∙_}
+use mathlib.Core.Path.{ap, _∙_}
 use native.Mathlib.Omega.{arith}
 use Rattle.strict_basic.proofs.TableLaws.{placed-at}
 use Rattle.strict_basic.proofs.ItemLaws.{found-placed, found-entry, found-element, entry-keyed, entry-is, element-is}
@@ -7,22 +7,10 @@ use Rattle.strict_basic.specs.Items.{entryItem}
 use borrow.Author.Needs.{needs}
 use Rattle.strict_basic.proofs.items.repeated.Statement.{statement}
 use Rattle.strict_basic.proofs.items.repeated.Tie as tie
-use Rattle.strict_basic.proofs.items.repeated.Reads as reads
-use Rattle.strict_basic.proofs.items.repeated.Lts as lts
-use Rattle.signature.proofs.items.item_of.Reads as item-of-reads
-use Rattle.strict_basic.proofs.basic.extent.Reads as extent-reads
-use Rattle.strict_basic.proofs.items.element_item.Reads as element-item-reads
-use Rattle.strict_basic.proofs.items.entry_item.Reads as entry-item-reads
-use Rattle.strict_basic.proofs.items.entry_size.Reads as entry-size-reads
-use Rattle.strict_basic.proofs.items.held_width.Reads as held-width-reads
-use Rattle.strict_basic.proofs.sizes.any_in.Reads as any-in-reads
-use Rattle.strict_basic.proofs.sizes.extent_in.Reads as extent-in-reads
 
--- src/items.rt:99:9
 item-of-requires : tie.Need-item-of-requires
 item-of-requires c κs = search needs
 
--- src/items.rt:101:9
 extent-in-requires : tie.Need-extent-in-requires
 extent-in-requires c κs = (
   c .before .before .before .before .pre .0 .table .room,
@@ -30,7 +18,6 @@ extent-in-requires c κs = (
       (c .before .before .before .before .args .array) (c .before .before .before .before .pre .0) (c .before .before .before .before .pre .1) _ (c .before .item-of .ensures)),
 )
 
--- src/items.rt:105:13
 entry-size-requires : tie.Need-entry-size-requires
 entry-size-requires c κs =
     let k = (entry-keyed _ (c .before .before .before .before .before .before .pre .0 .table) (found-entry (c .before .before .before .before .before .before .args .text .now)
@@ -43,15 +30,12 @@ entry-size-requires c κs =
       k .aligned,
     )
 
--- src/items.rt:106:39
 extent-requires : tie.Need-extent-requires
 extent-requires c κs = search needs
 
--- src/items.rt:106:9
 entry-item-requires : tie.Need-entry-item-requires
 entry-item-requires c κs = search needs
 
--- src/items.rt:106:9
 returns : tie.Need-returns
 returns c =
     entry-is _ (c .before .before .before .before .before .before .before .before .before .pre .0 .table) (found-entry (c .before .before .before .before .before .before .before .before .before .args .text .now)
@@ -60,7 +44,6 @@ returns c =
     (c .before .before .before .before .before .before .item-of .ensures) (c .before .before .before .if1 .taken)) _ (c .before .before .before .before .extent-in .ensures) _
     (c .before .before .entry-size .ensures) _ (c .entry-item .ensures ∙ ap (entryItem _ _) (c .before .extent .ensures))
 
--- src/items.rt:108:9
 any-in-requires : tie.Need-any-in-requires
 any-in-requires c κs = (
   c .before .before .before .before .before .before .pre .0 .table .room,
@@ -69,15 +52,12 @@ any-in-requires c κs = (
       (c .before .before .before .item-of .ensures)),
 )
 
--- src/items.rt:110:9
 held-width-requires : tie.Need-held-width-requires
 held-width-requires c κs = search needs
 
--- src/items.rt:111:5
 element-item-requires : tie.Need-element-item-requires
 element-item-requires c κs = search needs
 
--- src/items.rt:95:1
 returns-2 : tie.Need-returns-2
 returns-2 c =
     element-is _ (c .before .before .before .before .before .before .before .before .before .pre .0 .table) (found-element (c .before .before .before .before .before .before .before .before .before .args .text .now)

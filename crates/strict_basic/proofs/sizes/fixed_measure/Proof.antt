@@ -1,5 +1,5 @@
 -- `fixed_measure` meets its contract: the loop keeps what is left of the size. Assumes nothing.
-use mathlib.Core.Path.{_≡_, refl, sym, ap, subst⁻¹, _∙_}
+use mathlib.Core.Path.{refl}
 use native.Mathlib.Omega.{arith}
 use borrow.Author.Needs.{needs}
 use Prim.Native.Nat.{_-_}
@@ -12,14 +12,6 @@ use Rattle.strict_basic.proofs.TableLaws.{SizeLeft, size-begin, size-la
 use Rattle.signature.proofs.TreeLaws.{last-field-of, next-field-of}
 use Rattle.strict_basic.proofs.sizes.fixed_measure.Statement.{statement}
 use Rattle.strict_basic.proofs.sizes.fixed_measure.Tie as tie
-use Rattle.strict_basic.proofs.sizes.fixed_measure.Reads as reads
-use Rattle.strict_basic.proofs.sizes.fixed_measure.Lts as lts
-use Rattle.signature.proofs.shapes.shape_in.Reads as shape-in-reads
-use Rattle.strict_basic.proofs.ends.aligned.Reads as aligned-reads
-use Rattle.strict_basic.proofs.sizes.both.Reads as both-reads
-use Rattle.strict_basic.proofs.sizes.measure_at.Reads as measure-at-reads
-use Rattle.strict_basic.proofs.sizes.pack.Reads as pack-reads
-use Rattle.signature.proofs.closes_at.Reads as closes-at-reads
 
 abbrev Inv-loop : tie.InvT-loop
 Inv-loop text tables at alignment i₀ end₀ any₀ i end any =
@@ -29,39 +21,32 @@ abbrev μ-loop : tie.MeasureT-loop
 μ-loop text tables at alignment i₀ end₀ any₀ i end any =
     length text - i
 
--- src/sizes.rt:80:5
 loop-holds : tie.Need-loop-holds Inv-loop μ-loop
 loop-holds c =
     size-begin _ _ (c .before .before .pre .0) (c .before .before .pre .2)
 
--- src/sizes.rt:81:13
 shape-in-requires : tie.Need-shape-in-requires Inv-loop μ-loop
 shape-in-requires c κs =
     search needs
 
--- src/sizes.rt:82:13
 measure-at-requires : tie.Need-measure-at-requires Inv-loop μ-loop
 measure-at-requires c κs =
     (c .before .before .before .before .pre .1 .room, field-place _ _ _ (c .before .loop .inv .rowed) (c .before .before .before .before .pre .1 .shapes))
 
--- src/sizes.rt:83:13
 aligned-requires : tie.Need-aligned-requires Inv-loop μ-loop
 aligned-requires c κs = (
   omega (arith, c .before .before .loop .inv .small, field-place _ _ _ (c .before .before .loop .inv .rowed) (c .before .before .before .before .before .pre .1 .shapes)),
   described-aligned (field-described _ _ _ (c .before .before .loop .inv .rowed) (c .before .before .before .before .before .pre .1 .shapes) _ (c .before .shape-in .ensures)),
 )
 
--- src/sizes.rt:86:25
 both-requires : tie.Need-both-requires Inv-loop μ-loop
 both-requires c κs =
     search needs
 
--- src/sizes.rt:86:9
 both-requires-2 : tie.Need-both-requires-2 Inv-loop μ-loop
 both-requires-2 c κs =
     search needs
 
--- src/sizes.rt:87:15
 add-end : tie.Need-add-end Inv-loop μ-loop
 add-end c =
     omega (
@@ -70,11 +55,9 @@ add-end c =
           (c .before .before .before .measure-at .ensures) _ (c .before .before .aligned .ensures),
     )
 
--- src/sizes.rt:88:12
 closes-at-requires : tie.Need-closes-at-requires Inv-loop μ-loop
 closes-at-requires c κs = search needs
 
--- src/sizes.rt:89:17
 aligned-requires-2 : tie.Need-aligned-requires-2 Inv-loop μ-loop
 aligned-requires-2 c κs = (
   omega (
@@ -85,12 +68,10 @@ aligned-requires-2 c κs = (
   aligned-by _ (c .before .before .before .before .before .before .before .before .before .before .pre .3),
 )
 
--- src/sizes.rt:91:31
 both-requires-3 : tie.Need-both-requires-3 Inv-loop μ-loop
 both-requires-3 c κs =
     search needs
 
--- src/sizes.rt:91:13
 pack-requires : tie.Need-pack-requires Inv-loop μ-loop
 pack-requires c κs =
     let a = aligned-by _ (c .before .before .before .before .before .before .before .before .before .before .before .before .pre .3) in omega (
@@ -103,7 +84,6 @@ pack-requires c κs =
       aligns-most a,
     )
 
--- src/sizes.rt:91:13
 returns : tie.Need-returns Inv-loop μ-loop
 returns c =
     size-last (c .before .before .before .before .before .before .before .before .before .before .before .before .before .pre .1) (c .before .before .before .before .before .before .before .before .before .before .loop .inv) _
@@ -115,14 +95,12 @@ returns c =
     (c .before .before .before .before .before .before .before .before .before .before .before .before .before .pre .3) (c .before .before .aligned2 .ensures) (c .before .both3 .ensures)
     (c .pack .ensures)
 
--- src/sizes.rt:80:5
 loop-less : tie.Need-loop-less Inv-loop μ-loop
 loop-less c =
     let g = (next-field-of _ _ _ (c .before .before .before .before .before .before .before .loop .inv .rowed) (c .before .before .before .before .before .before .before .before .before .before .pre .1 .shapes) _
     (c .before .before .before .before .before .before .shape-in .ensures) _ refl (c .before .closes-at .ensures .missing (c .if1 .left))) in omega
     (arith, g .onward, g .within)
 
--- src/sizes.rt:80:5
 loop-again : tie.Need-loop-again Inv-loop μ-loop
 loop-again c =
     size-next (c .before .before .before .before .before .before .before .before .before .before .pre .1) (c .before .before .before .before .before .before .before .loop .inv) _

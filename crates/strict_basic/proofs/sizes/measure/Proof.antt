@@ -1,34 +1,24 @@
 -- `measure` meets its contract. Assumes nothing.
-use mathlib.Core.Path.{_≡_, refl, sym, ap, subst⁻¹, _∙_}
+use mathlib.Core.Path.{sym, _∙_}
 use native.Mathlib.Omega.{arith}
 use Rattle.signature.proofs.ShapeLaws.{number-most}
 use Rattle.strict_basic.proofs.TableLaws.{measure-bool, measure-number, measure-none}
 use borrow.Author.Needs.{needs}
 use Rattle.strict_basic.proofs.sizes.measure.Statement.{statement}
 use Rattle.strict_basic.proofs.sizes.measure.Tie as tie
-use Rattle.strict_basic.proofs.sizes.measure.Reads as reads
-use Rattle.strict_basic.proofs.sizes.measure.Lts as lts
-use Rattle.signature.proofs.letter_at.Reads as letter-at-reads
-use Rattle.strict_basic.proofs.sizes.pack.Reads as pack-reads
-use Rattle.strict_basic.proofs.sizes.structure_measure.Reads as structure-measure-reads
 
--- src/sizes.rt:127:9
 letter-at-requires : tie.Need-letter-at-requires
 letter-at-requires c κs = search needs
 
--- src/sizes.rt:129:28
 enum-told : tie.Need-enum-told
 enum-told c = search needs
 
--- src/sizes.rt:129:28
 pack-requires : tie.Need-pack-requires
 pack-requires c κs = search needs
 
--- src/sizes.rt:130:35
 enum-known-kind : tie.Need-enum-known-kind
 enum-known-kind c = search needs
 
--- src/sizes.rt:130:46
 pack-requires-2 : tie.Need-pack-requires-2
 pack-requires-2 c κs =
     omega (
@@ -37,32 +27,26 @@ pack-requires-2 c κs =
           (sym (c .before .before .before .letter-at .ensures) ∙ c .before .kind .given .1),
     )
 
--- src/sizes.rt:131:34
 enum-told-2 : tie.Need-enum-told-2
 enum-told-2 c = search needs
 
--- src/sizes.rt:131:34
 structure-measure-requires : tie.Need-structure-measure-requires
 structure-measure-requires c κs =
     (c .before .before .before .before .before .pre .0, c .before .before .before .before .before .pre .1, sym (c .before .before .letter-at .ensures) ∙ c .enum-told2 .given .1)
 
--- src/sizes.rt:123:1
 returns : tie.Need-returns
 returns c =
     measure-bool _ _ _ (sym (c .before .before .before .letter-at .ensures) ∙ c .before .enum-told .given .1) (c .pack .ensures)
 
--- src/sizes.rt:123:1
 returns-2 : tie.Need-returns-2
 returns-2 c =
     measure-number _ _ _ _ _ (sym (c .before .before .before .before .letter-at .ensures) ∙ c .before .before .kind .given .1) (number-most (c .before .before .before .before .before .before .before .args .text .now)
     (c .before .before .before .before .before .before .before .args .at) _ _ (c .before .before .before .before .before .before .before .pre .0 .shapes .few) (sym (c .before .before .before .before .letter-at .ensures)
     ∙ c .before .before .kind .given .1)) (c .pack2 .ensures)
 
--- src/sizes.rt:123:1
 returns-3 : tie.Need-returns-3
 returns-3 c = search needs
 
--- src/sizes.rt:123:1
 returns-4 : tie.Need-returns-4
 returns-4 c =
     measure-none _ _ _ (c .before .letter-at .ensures) (c .match .keys4)

@@ -1,26 +1,20 @@
 -- `offsets_in` meets its contract. Assumes nothing.
-use mathlib.Core.Path.{_≡_, refl, sym, ap, subst⁻¹, _∙_}
-use Prim.Native.Nat.{ℕ, _+_}
+use mathlib.Core.Path.{sym, ap, _∙_}
+use Prim.Native.Nat.{_+_}
 use lib.ListN.{getD}
 use mathlib.Core.Bool.{Bool}
 use Rattle.meaning.specs.Choice.{pick}
 use borrow.Author.Needs.{needs}
 use Rattle.strict_basic.proofs.sizes.offsets_in.Statement.{statement}
 use Rattle.strict_basic.proofs.sizes.offsets_in.Tie as tie
-use Rattle.strict_basic.proofs.sizes.offsets_in.Reads as reads
-use Rattle.strict_basic.proofs.sizes.offsets_in.Lts as lts
-use Rattle.strict_basic.proofs.sizes.measure_at.Reads as measure-at-reads
 
--- src/sizes.rt:173:9
 returns : tie.Need-returns
 returns c =
     sym (ap (λ (b : Bool). pick b 0 (getD (c .before .before .args .tables .now) (255 + c .before .before .args .shape .at) 0)) (c .if1 .taken))
 
--- src/sizes.rt:175:5
 measure-at-requires : tie.Need-measure-at-requires
 measure-at-requires c κs = search needs
 
--- src/sizes.rt:167:1
 returns-2 : tie.Need-returns-2
 returns-2 c =
     c .measure-at .ensures ∙ sym (ap (λ (b : Bool). pick b 0 (getD (c .before .before .before .args .tables .now) (255 + c .before .before .before .args .shape .at) 0)) (c .before .if1 .left))

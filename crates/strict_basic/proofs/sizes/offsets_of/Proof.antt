@@ -1,5 +1,5 @@
 -- `offsets_of` meets its contract: the loop keeps what is left to count. Assumes nothing.
-use mathlib.Core.Path.{_≡_, refl, sym, ap, subst⁻¹, _∙_}
+use mathlib.Core.Path.{refl}
 use native.Mathlib.Omega.{arith}
 use borrow.Author.Needs.{needs}
 use Prim.Native.Nat.{_-_}
@@ -8,11 +8,6 @@ use Rattle.strict_basic.proofs.TableLaws.{CountLeft, count-begin, count
 use Rattle.signature.proofs.TreeLaws.{last-field-of, next-field-of}
 use Rattle.strict_basic.proofs.sizes.offsets_of.Statement.{statement}
 use Rattle.strict_basic.proofs.sizes.offsets_of.Tie as tie
-use Rattle.strict_basic.proofs.sizes.offsets_of.Reads as reads
-use Rattle.strict_basic.proofs.sizes.offsets_of.Lts as lts
-use Rattle.signature.proofs.shapes.shape_in.Reads as shape-in-reads
-use Rattle.strict_basic.proofs.ends.one_more.Reads as one-more-reads
-use Rattle.signature.proofs.closes_at.Reads as closes-at-reads
 
 abbrev Inv-loop : tie.InvT-loop
 Inv-loop text tables at i₀ count₀ i count =
@@ -22,21 +17,17 @@ abbrev μ-loop : tie.MeasureT-loop
 μ-loop text tables at i₀ count₀ i count =
     length text - i
 
--- src/sizes.rt:104:5
 loop-holds : tie.Need-loop-holds Inv-loop μ-loop
 loop-holds c =
     count-begin _ _ (c .before .before .pre .0)
 
--- src/sizes.rt:105:13
 shape-in-requires : tie.Need-shape-in-requires Inv-loop μ-loop
 shape-in-requires c κs =
     search needs
 
--- src/sizes.rt:106:12
 closes-at-requires : tie.Need-closes-at-requires Inv-loop μ-loop
 closes-at-requires c κs = search needs
 
--- src/sizes.rt:107:13
 returns : tie.Need-returns Inv-loop μ-loop
 returns c = (
   count-last (c .before .before .before .loop .inv) _ (last-field-of _ _ _ (c .before .before .before .loop .inv .rowed) (c .before .before .before .before .before .before .pre .1 .shapes) _
@@ -48,18 +39,15 @@ returns c = (
   ),
 )
 
--- src/sizes.rt:109:9
 one-more-requires : tie.Need-one-more-requires Inv-loop μ-loop
 one-more-requires c κs =
     omega (arith, c .before .before .before .loop .inv .most, c .before .before .before .loop .inv .rowed .short)
 
--- src/sizes.rt:104:5
 loop-less : tie.Need-loop-less Inv-loop μ-loop
 loop-less c =
     let g = (next-field-of _ _ _ (c .before .before .before .before .loop .inv .rowed) (c .before .before .before .before .before .before .before .pre .1 .shapes) _ (c .before .before .before .shape-in .ensures) _
     refl (c .before .before .closes-at .ensures .missing (c .before .if1 .left))) in omega (arith, g .onward, g .within)
 
--- src/sizes.rt:104:5
 loop-again : tie.Need-loop-again Inv-loop μ-loop
 loop-again c =
     count-next (c .before .before .before .before .loop .inv) _ (next-field-of _ _ _ (c .before .before .before .before .loop .inv .rowed) (c .before .before .before .before .before .before .before .pre .1 .shapes) _

@@ -1,36 +1,25 @@
 -- `structure_measure` meets its contract. Assumes nothing.
-use mathlib.Core.Path.{_≡_, refl, sym, ap, subst⁻¹, _∙_}
 use native.Mathlib.Omega.{arith}
 use Rattle.strict_basic.proofs.TableLaws.{no-structure, structure-there}
 use borrow.Author.Needs.{needs}
 use Rattle.strict_basic.proofs.sizes.structure_measure.Statement.{statement}
 use Rattle.strict_basic.proofs.sizes.structure_measure.Tie as tie
-use Rattle.strict_basic.proofs.sizes.structure_measure.Reads as reads
-use Rattle.strict_basic.proofs.sizes.structure_measure.Lts as lts
-use Rattle.signature.proofs.shapes.shape_in.Reads as shape-in-reads
-use Rattle.strict_basic.proofs.sizes.fixed_measure.Reads as fixed-measure-reads
-use Rattle.strict_basic.proofs.sizes.offsets_of.Reads as offsets-of-reads
 
--- src/sizes.rt:110:9
 shape-in-requires : tie.Need-shape-in-requires
 shape-in-requires c κs = search needs
 
--- src/sizes.rt:114:9
 returns : tie.Need-returns
 returns c =
     ((λ t. absurd (no-structure _ _ _ (c .before .before .before .before .pre .0 .shapes) (c .before .before .before .before .pre .1) _ (c .before .shape-in .ensures) (c .if1 .taken) t)), omega arith)
 
--- src/sizes.rt:117:44
 add-fixed-measure : tie.Need-add-fixed-measure
 add-fixed-measure c = search needs
 
--- src/sizes.rt:117:9
 fixed-measure-requires : tie.Need-fixed-measure-requires
 fixed-measure-requires c κs =
     let d = (structure-there _ _ _ (c .before .before .before .before .before .pre .0 .shapes) (c .before .before .before .before .before .pre .1) (c .before .before .before .before .before .pre .2) _
     (c .before .before .shape-in .ensures) (c .before .if1 .left)) in (d .rowed, c .before .before .before .before .before .pre .0, d .all (c .if2 .taken), d .aligned)
 
--- src/sizes.rt:117:9
 returns-2 : tie.Need-returns-2
 returns-2 c =
     let d = (structure-there _ _ _ (c .before .before .before .before .before .before .pre .0 .shapes) (c .before .before .before .before .before .before .pre .1) (c .before .before .before .before .before .before .pre .2) _
@@ -39,17 +28,14 @@ returns-2 c =
       m .1,
     )
 
--- src/sizes.rt:119:30
 add-offsets-of : tie.Need-add-offsets-of
 add-offsets-of c = search needs
 
--- src/sizes.rt:119:5
 offsets-of-requires : tie.Need-offsets-of-requires
 offsets-of-requires c κs =
     let d = (structure-there _ _ _ (c .before .before .before .before .before .pre .0 .shapes) (c .before .before .before .before .before .pre .1) (c .before .before .before .before .before .pre .2) _
     (c .before .before .shape-in .ensures) (c .before .if1 .left)) in (d .rowed, c .before .before .before .before .before .pre .0)
 
--- src/sizes.rt:106:1
 returns-3 : tie.Need-returns-3
 returns-3 c =
     let d = (structure-there _ _ _ (c .before .before .before .before .before .before .pre .0 .shapes) (c .before .before .before .before .before .before .pre .1) (c .before .before .before .before .before .before .pre .2) _

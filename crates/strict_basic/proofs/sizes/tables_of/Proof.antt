@@ -2,21 +2,17 @@
 use mathlib.Core.Bool.{false≢true}
 use Prim.Native.Nat.{_≤_}
 use Rattle.strict_basic.proofs.TableLaws.{table-judges, table-begin, table-turn, table-next, table-end}
-use mathlib.Core.Path.{_≡_, refl, sym, ap, subst⁻¹, _∙_}
+use mathlib.Core.Path.{sym, _∙_}
 use native.Mathlib.Omega.{arith}
 use borrow.Author.Needs.{needs}
 use Rattle.reader_basic.proofs.Answers.{granted, denied}
 use mathlib.Core.Bool.{true, false}
-use Prim.Native.Nat.{_≤_, _+_}
-use lib.ListN.{length, length-set}
+use Prim.Native.Nat.{_≤_}
+use lib.ListN.{length}
 use Rattle.strict_basic.specs.Sizes.{Behind}
 use Rattle.strict_basic.proofs.TableLaws.{table-judges, table-begin, table-next}
 use Rattle.strict_basic.proofs.sizes.tables_of.Statement.{statement}
 use Rattle.strict_basic.proofs.sizes.tables_of.Tie as tie
-use Rattle.strict_basic.proofs.sizes.tables_of.Reads as reads
-use Rattle.strict_basic.proofs.sizes.tables_of.Lts as lts
-use Rattle.signature.proofs.shapes.shapes_of.Reads as shapes-of-reads
-use Rattle.strict_basic.proofs.sizes.measure.Reads as measure-reads
 
 abbrev Inv-loop : tie.InvT-loop
 Inv-loop text tables₀ i₀ tables i =
@@ -26,62 +22,50 @@ abbrev μ-loop : tie.MeasureT-loop
 μ-loop text tables₀ i₀ tables i =
     i
 
--- src/sizes.rt:134:9
 shapes-of-requires : tie.Need-shapes-of-requires Inv-loop μ-loop
 shapes-of-requires c κs =
     search needs
 
--- src/sizes.rt:135:9
 same-length : tie.Need-same-length Inv-loop μ-loop
 same-length c =
     search needs
 
--- src/sizes.rt:135:9
 returns : tie.Need-returns Inv-loop μ-loop
 returns c =
     record { judged = sym (denied (c .if1 .taken)) ∙ table-judges _ _ _ _ (c .before .before .before .before .before .before .before .pre) (c .before .before .before .shapes-of .ensures); filled = λ z. absurd (false≢true z) }
 
--- src/sizes.rt:138:5
 loop-holds : tie.Need-loop-holds Inv-loop μ-loop
 loop-holds c =
     (omega arith, table-begin _ _ _ _ (c .before .before .before .before .before .before .before .pre) (c .before .before .before .shapes-of .ensures) (granted (c .if1 .left)))
 
--- src/sizes.rt:139:13
 sub-i : tie.Need-sub-i Inv-loop μ-loop
 sub-i c =
     omega arith
 
--- src/sizes.rt:140:13
 measure-requires : tie.Need-measure-requires Inv-loop μ-loop
 measure-requires c κs =
     (table-turn (c .before .loop-test .taken) (c .before .before .loop .inv .1), omega (arith, c .before .before .loop .inv .0, c .before .loop-test .taken))
 
--- src/sizes.rt:141:21
 add-place : tie.Need-add-place Inv-loop μ-loop
 add-place c =
     omega (arith, c .before .before .before .loop .inv .0, c .before .before .before .loop .inv .1 .shapes .few)
 
--- src/sizes.rt:142:25
 cast-tables : tie.Need-cast-tables Inv-loop μ-loop
 cast-tables c =
     omega (arith, c .measure .ensures .1)
 
--- src/sizes.rt:142:9
 mul-tables : tie.Need-mul-tables Inv-loop μ-loop
 mul-tables c =
     search needs
 
--- src/sizes.rt:142:9
 slice-write-tables : tie.Need-slice-write-tables Inv-loop μ-loop
 slice-write-tables c =
     omega (arith, c .before .before .before .loop .inv .0, c .before .before .loop-test .taken, c .before .before .before .loop .inv .1 .shapes .few, c .before .before .before .loop .inv .1 .room)
 
--- src/sizes.rt:138:5
 loop-less : tie.Need-loop-less Inv-loop μ-loop
 loop-less c =
     omega arith
 
--- src/sizes.rt:138:5
 loop-again : tie.Need-loop-again Inv-loop μ-loop
 loop-again c = (
   omega (arith, c .before .before .before .loop .inv .0),
@@ -89,12 +73,10 @@ loop-again c = (
       (omega (arith, c .before .before .before .loop .inv .0, c .before .before .loop-test .taken)) (c .measure .ensures .0),
 )
 
--- src/sizes.rt:130:1
 same-length-2 : tie.Need-same-length-2 Inv-loop μ-loop
 same-length-2 c =
     search needs
 
--- src/sizes.rt:130:1
 returns-2 : tie.Need-returns-2 Inv-loop μ-loop
 returns-2 c =
     record {

@@ -15,11 +15,11 @@ use native.Mathlib.Omega.{arith}
 use Rattle.strict_cycle.proofs as of
 use Rattle.strict_cycle.proofs.+array-array+array-elements+array-first+child+dictionary-entries+dictionary-pair+maybe-maybe+structure-fields+structure-last_field+structure-structure+value+variant-variant as cycle
 use cycle.Proof.Measures.{child-below, structure·fields-at, structure·last-field-below}
+use Rattle.signature.proofs.closes_at.Reads as closes-at-reads
 use Rattle.signature.proofs.shapes.shape_in.Reads as shape-in-reads
 use Rattle.strict_basic.proofs.ends.field_end.Reads as field-end-reads
 use Rattle.strict_basic.proofs.ends.offsets_left.Reads as offsets-left-reads
 use Rattle.strict_basic.proofs.ends.start_of.Reads as start-of-reads
-use Rattle.signature.proofs.closes_at.Reads as closes-at-reads
 use Rattle.strict_basic.proofs.sizes.extent_in.Reads as extent-in-reads
 use cycle.Lts-structure-fields as structure·fields-lts
 use of.child.Reads as child

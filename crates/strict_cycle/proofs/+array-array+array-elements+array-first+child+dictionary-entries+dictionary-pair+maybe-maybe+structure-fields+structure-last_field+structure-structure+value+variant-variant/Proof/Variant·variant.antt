@@ -6,6 +6,7 @@ use Rattle.reader_basic.proofs.Loops.{tail}
 use Rattle.signature.proofs.TreeLaws.{front}
 use Rattle.signature.specs.declared.shapes.Shape.{Shape}
 use Rattle.strict_basic.proofs.ItemLaws.{lone-variant}
+use Rattle.strict_basic.proofs.TableLaws.{front-placed}
 use Rattle.strict_cycle.proofs.Values.{inside-deeper, inside-take}
 use Rattle.strict_cycle.proofs.Variants.{variant-deep, variant-lone, variant-nested, variant-none, variant-on, variant-untyped}
 use borrow.Author.Needs.{needs}
@@ -23,7 +24,6 @@ use Rattle.strict_basic.proofs.basic.letter_written.Reads as letter-written-rea
 use Rattle.strict_basic.proofs.basic.lone_basic.Reads as lone-basic-reads
 use Rattle.strict_basic.proofs.basic.lone_variant.Reads as lone-variant-reads
 use Rattle.strict_basic.proofs.sizes.tables_of.Reads as tables-of-reads
-use Rattle.strict_basic.proofs.TableLaws.{front-placed}
 use cycle.Lts-variant-variant as variant·variant-lts
 use of.value.Reads as value
 use of.variant.variant.Reads as variant·variant

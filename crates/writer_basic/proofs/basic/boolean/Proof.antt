@@ -4,77 +4,55 @@ use native.Mathlib.Omega.{arith}
 use borrow.Author.Needs.{needs}
 use Rattle.writer_basic.proofs.basic.boolean.Statement.{statement}
 use Rattle.writer_basic.proofs.basic.boolean.Tie as tie
-use Rattle.writer_basic.proofs.basic.boolean.Reads as reads
-use Rattle.writer_basic.proofs.basic.boolean.Lts as lts
-use Rattle.writer_basic.proofs.refused.Reads as refused-reads
-use Rattle.writer_store.proofs.number_bytes.Reads as number-bytes-reads
-use Rattle.writer_basic.proofs.wrote.Reads as wrote-reads
 
--- src/basic.rt:111:8
 sub-if1 : tie.Need-sub-if1
 sub-if1 c = search needs
 
--- src/basic.rt:112:9
 refused-requires : tie.Need-refused-requires
 refused-requires c κs = search needs
 
--- src/basic.rt:112:9
 returns : tie.Need-returns
 returns c = λ texts big d top s. rw (c .refused .ensures) (bool-short texts big d _ _ _ top _ s _ (omega arith))
 
--- src/basic.rt:114:8
 mul-if2 : tie.Need-mul-if2
 mul-if2 c = search needs
 
--- src/basic.rt:114:8
 shared-slice-read-if2 : tie.Need-shared-slice-read-if2
 shared-slice-read-if2 c = search needs
 
--- src/basic.rt:115:9
 refused-requires-2 : tie.Need-refused-requires-2
 refused-requires-2 c κs = search needs
 
--- src/basic.rt:115:9
 returns-2 : tie.Need-returns-2
 returns-2 c = λ texts big d top s. rw (c .refused2 .ensures) (bool-other texts big d _ _ _ top _ s _ (omega arith) (c .before .if2 .taken))
 
--- src/basic.rt:117:20
 add-x : tie.Need-add-x
 add-x c = search needs
 
--- src/basic.rt:117:13
 mul-x : tie.Need-mul-x
 mul-x c = search needs
 
--- src/basic.rt:117:13
 shared-slice-read-x : tie.Need-shared-slice-read-x
 shared-slice-read-x c = search needs
 
--- src/basic.rt:119:9
 refused-requires-3 : tie.Need-refused-requires-3
 refused-requires-3 c κs = search needs
 
--- src/basic.rt:119:9
 returns-3 : tie.Need-returns-3
 returns-3 c = λ texts big d top s. rw (c .refused3 .ensures) (bool-large texts big d _ _ _ top _ s _ (omega arith) (c .before .before .before .if2 .left) (c .before .if3 .taken))
 
--- src/basic.rt:121:5
 number-bytes-requires : tie.Need-number-bytes-requires
 number-bytes-requires c κs = search needs
 
--- src/basic.rt:122:11
 add-wrote : tie.Need-add-wrote
 add-wrote c = search needs
 
--- src/basic.rt:122:5
 wrote-requires : tie.Need-wrote-requires
 wrote-requires c κs = search needs
 
--- src/basic.rt:107:1
 same-length : tie.Need-same-length
 same-length c = search needs
 
--- src/basic.rt:107:1
 returns-4 : tie.Need-returns-4
 returns-4 c = λ texts big d top s. rw (c .wrote .ensures) (bool-made texts big d _ _ _ top _ s _ (omega arith) (c .before .before .before .before .before .before .before .if2 .left) (omega arith) (c .before .before .before .number-bytes .ensures))
 

@@ -1,72 +1,51 @@
 -- `writer_basic::basic::number` meets its contract. Assumes nothing.
 use Rattle.writer_basic.proofs.Answers.{number-short, number-other, number-large, number-made, aligns-small}
 use native.Mathlib.Omega.{arith}
-use mathlib.Core.Path.{refl, sym, _∙_}
+use mathlib.Core.Path.{sym, _∙_}
 use borrow.Author.Tests.{not-true, not-false}
 use borrow.Author.Needs.{needs}
 use Rattle.writer_basic.proofs.basic.number.Statement.{statement}
 use Rattle.writer_basic.proofs.basic.number.Tie as tie
-use Rattle.writer_basic.proofs.basic.number.Reads as reads
-use Rattle.writer_basic.proofs.basic.number.Lts as lts
-use Rattle.writer_basic.proofs.basic.code_of.Reads as code-of-reads
-use Rattle.writer_basic.proofs.basic.suits.Reads as suits-reads
-use Rattle.writer_basic.proofs.refused.Reads as refused-reads
-use Rattle.writer_store.proofs.number_bytes.Reads as number-bytes-reads
-use Rattle.writer_basic.proofs.wrote.Reads as wrote-reads
 
--- src/basic.rt:150:8
 sub-if1 : tie.Need-sub-if1
 sub-if1 c = search needs
 
--- src/basic.rt:151:9
 refused-requires : tie.Need-refused-requires
 refused-requires c κs = search needs
 
--- src/basic.rt:151:9
 returns : tie.Need-returns
 returns c = λ n texts d top s e f. rw (c .refused .ensures) (number-short texts _ d _ _ _ top _ s n _ (omega arith))
 
--- src/basic.rt:153:8
 mul-if2 : tie.Need-mul-if2
 mul-if2 c = search needs
 
--- src/basic.rt:153:8
 shared-slice-read-if2 : tie.Need-shared-slice-read-if2
 shared-slice-read-if2 c = search needs
 
--- src/basic.rt:153:21
 code-of-requires : tie.Need-code-of-requires
 code-of-requires c κs = search needs
 
--- src/basic.rt:154:9
 refused-requires-2 : tie.Need-refused-requires-2
 refused-requires-2 c κs = search needs
 
--- src/basic.rt:154:9
 returns-2 : tie.Need-returns-2
 returns-2 c = λ n texts d top s e f. rw (c .refused2 .ensures) (number-other texts _ d _ _ _ top _ s n _ (omega arith) (λ q. (c .before .if2 .taken) (q ∙ sym e ∙ sym (c .before .before .code-of .ensures))))
 
--- src/basic.rt:156:20
 add-x : tie.Need-add-x
 add-x c = search needs
 
--- src/basic.rt:156:13
 mul-x : tie.Need-mul-x
 mul-x c = search needs
 
--- src/basic.rt:156:13
 shared-slice-read-x : tie.Need-shared-slice-read-x
 shared-slice-read-x c = search needs
 
--- src/basic.rt:157:9
 suits-requires : tie.Need-suits-requires
 suits-requires c κs = search needs
 
--- src/basic.rt:158:9
 refused-requires-3 : tie.Need-refused-requires-3
 refused-requires-3 c κs = search needs
 
--- src/basic.rt:158:9
 returns-3 : tie.Need-returns-3
 returns-3 c =
     let at-if3 = c .before in
@@ -76,23 +55,18 @@ returns-3 c =
     λ n texts d top s e f. rw (c .refused3 .ensures)
     (number-large texts _ d _ _ _ top _ s n _ _ _ f (omega arith) (at-if2 .if2 .left ∙ at-code-of .code-of .ensures ∙ e) (at-suits .suits .ensures) (not-true _ (at-if3 .if3 .taken)))
 
--- src/basic.rt:160:5
 number-bytes-requires : tie.Need-number-bytes-requires
 number-bytes-requires c κs = omega (arith, aligns-small (c .before .before .before .before .before .before .before .before .before .before .pre .2))
 
--- src/basic.rt:161:11
 add-wrote : tie.Need-add-wrote
 add-wrote c = search needs
 
--- src/basic.rt:161:5
 wrote-requires : tie.Need-wrote-requires
 wrote-requires c κs = search needs
 
--- src/basic.rt:138:1
 same-length : tie.Need-same-length
 same-length c = search needs
 
--- src/basic.rt:138:1
 returns-4 : tie.Need-returns-4
 returns-4 c =
     let at-number-bytes = c .before .before .before in

@@ -4,46 +4,34 @@ use native.Mathlib.Omega.{arith}
 use borrow.Author.Needs.{needs}
 use Rattle.writer_basic.proofs.basic.plain_at.Statement.{statement}
 use Rattle.writer_basic.proofs.basic.plain_at.Tie as tie
-use Rattle.writer_basic.proofs.basic.plain_at.Reads as reads
-use Rattle.writer_basic.proofs.basic.plain_at.Lts as lts
 
--- src/basic.rt:52:8
 sub-if1 : tie.Need-sub-if1
 sub-if1 c = search needs
 
--- src/basic.rt:53:9
 returns : tie.Need-returns
 returns c = opens-short (omega arith)
 
--- src/basic.rt:55:8
 mul-if2 : tie.Need-mul-if2
 mul-if2 c = search needs
 
--- src/basic.rt:55:8
 shared-slice-read-if2 : tie.Need-shared-slice-read-if2
 shared-slice-read-if2 c = search needs
 
--- src/basic.rt:56:9
 returns-2 : tie.Need-returns-2
 returns-2 c = opens-other (omega arith) (c .if2 .taken)
 
--- src/basic.rt:58:15
 add-if3 : tie.Need-add-if3
 add-if3 c = search needs
 
--- src/basic.rt:58:8
 mul-if3 : tie.Need-mul-if3
 mul-if3 c = search needs
 
--- src/basic.rt:58:8
 shared-slice-read-if3 : tie.Need-shared-slice-read-if3
 shared-slice-read-if3 c = search needs
 
--- src/basic.rt:59:9
 returns-3 : tie.Need-returns-3
 returns-3 c = opens-carrying (omega arith) (c .before .before .if2 .left) (c .if3 .taken)
 
--- src/basic.rt:48:1
 returns-4 : tie.Need-returns-4
 returns-4 c = opens-true (omega arith) (c .before .before .if2 .left) (c .if3 .left)
 

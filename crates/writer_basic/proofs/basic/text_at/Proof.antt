@@ -4,117 +4,85 @@ use native.Mathlib.Omega.{arith}
 use borrow.Author.Needs.{needs}
 use Rattle.writer_basic.proofs.basic.text_at.Statement.{statement}
 use Rattle.writer_basic.proofs.basic.text_at.Tie as tie
-use Rattle.writer_basic.proofs.basic.text_at.Reads as reads
-use Rattle.writer_basic.proofs.basic.text_at.Lts as lts
-use Rattle.texts.proofs.text_refusal.Reads as text-refusal-reads
-use Rattle.writer_basic.proofs.basic.place_of.Reads as place-of-reads
-use Rattle.writer_basic.proofs.basic.unseen.Reads as unseen-reads
 
--- src/basic.rt:81:8
 sub-if1 : tie.Need-sub-if1
 sub-if1 c = search needs
 
--- src/basic.rt:82:9
 unseen-requires : tie.Need-unseen-requires
 unseen-requires c κs = search needs
 
--- src/basic.rt:82:9
 returns : tie.Need-returns
 returns c = rw (c .unseen .ensures) (viewed-short _ _ _ _ (omega arith))
 
--- src/basic.rt:84:8
 mul-if2 : tie.Need-mul-if2
 mul-if2 c = search needs
 
--- src/basic.rt:84:8
 shared-slice-read-if2 : tie.Need-shared-slice-read-if2
 shared-slice-read-if2 c = search needs
 
--- src/basic.rt:85:9
 unseen-requires-2 : tie.Need-unseen-requires-2
 unseen-requires-2 c κs = search needs
 
--- src/basic.rt:85:9
 returns-2 : tie.Need-returns-2
 returns-2 c = rw (c .unseen2 .ensures) (viewed-other _ _ _ _ (omega arith) (c .before .if2 .taken))
 
--- src/basic.rt:87:33
 add-place-of : tie.Need-add-place-of
 add-place-of c = search needs
 
--- src/basic.rt:87:26
 mul-place-of : tie.Need-mul-place-of
 mul-place-of c = search needs
 
--- src/basic.rt:87:26
 shared-slice-read-place-of : tie.Need-shared-slice-read-place-of
 shared-slice-read-place-of c = search needs
 
--- src/basic.rt:87:9
 place-of-requires : tie.Need-place-of-requires
 place-of-requires c κs = search needs
 
--- src/basic.rt:88:33
 add-place-of-2 : tie.Need-add-place-of-2
 add-place-of-2 c = search needs
 
--- src/basic.rt:88:26
 mul-place-of-2 : tie.Need-mul-place-of-2
 mul-place-of-2 c = search needs
 
--- src/basic.rt:88:26
 shared-slice-read-place-of-2 : tie.Need-shared-slice-read-place-of-2
 shared-slice-read-place-of-2 c = search needs
 
--- src/basic.rt:88:9
 place-of-requires-2 : tie.Need-place-of-requires-2
 place-of-requires-2 c κs = search needs
 
--- src/basic.rt:90:9
 unseen-requires-3 : tie.Need-unseen-requires-3
 unseen-requires-3 c κs = search needs
 
--- src/basic.rt:90:9
 returns-3 : tie.Need-returns-3
 returns-3 c = rw (c .unseen3 .ensures) (viewed-outside _ _ _ _ _ _ (c .before .before .before .before .place-of .ensures) (c .before .before .place-of2 .ensures) (omega arith) (c .before .before .before .before .before .before .if2 .left) (omega arith))
 
--- src/basic.rt:92:8
 sub-if4 : tie.Need-sub-if4
 sub-if4 c = search needs
 
--- src/basic.rt:93:9
 unseen-requires-4 : tie.Need-unseen-requires-4
 unseen-requires-4 c κs = search needs
 
--- src/basic.rt:93:9
 returns-4 : tie.Need-returns-4
 returns-4 c = rw (c .unseen4 .ensures) (viewed-outside _ _ _ _ _ _ (c .before .before .before .before .before .place-of .ensures) (c .before .before .before .place-of2 .ensures) (omega arith) (c .before .before .before .before .before .before .before .if2 .left) (omega arith))
 
--- src/basic.rt:95:15
 add-end : tie.Need-add-end
 add-end c = search needs
 
--- src/basic.rt:96:32
 sub-text-refusal : tie.Need-sub-text-refusal
 sub-text-refusal c = search needs
 
--- src/basic.rt:96:32
 part-text-refusal-start : tie.Need-part-text-refusal-start
 part-text-refusal-start c = search needs
 
--- src/basic.rt:96:32
 part-text-refusal-end : tie.Need-part-text-refusal-end
 part-text-refusal-end c = search needs
 
--- src/basic.rt:96:9
 text-refusal-requires : tie.Need-text-refusal-requires
 text-refusal-requires c κs = search needs
 
--- src/basic.rt:98:9
 unseen-requires-5 : tie.Need-unseen-requires-5
 unseen-requires-5 c κs = search needs
 
--- src/basic.rt:98:9
 returns-5 : tie.Need-returns-5
 returns-5 c =
     let at-if5 = c .before in
@@ -125,7 +93,6 @@ returns-5 c =
     rw (c .unseen5 .ensures)
     (viewed-unsound _ _ _ _ _ _ (at-place-of .place-of .ensures) (at-place-of2 .place-of2 .ensures) (omega arith) (at-if2 .if2 .left) (omega arith) _ (at-text-refusal .text-refusal .ensures) (at-if5 .if5 .taken))
 
--- src/basic.rt:77:1
 returns-6 : tie.Need-returns-6
 returns-6 c =
     let at-text-refusal = c .before in

@@ -1,60 +1,41 @@
 -- `writer_basic::basic::text_value` meets its contract. Assumes nothing.
 use Rattle.writer_basic.proofs.Answers.{text-wrong, text-made}
 use native.Mathlib.Omega.{arith}
-use mathlib.Core.Path.{refl, sym, _∙_}
+use mathlib.Core.Path.{_∙_}
 use borrow.Author.Needs.{needs}
 use Rattle.writer_basic.proofs.basic.text_value.Statement.{statement}
 use Rattle.writer_basic.proofs.basic.text_value.Tie as tie
-use Rattle.writer_basic.proofs.basic.text_value.Reads as reads
-use Rattle.writer_basic.proofs.basic.text_value.Lts as lts
-use Rattle.writer_basic.proofs.basic.code_of.Reads as code-of-reads
-use Rattle.writer_basic.proofs.basic.text_at.Reads as text-at-reads
-use Rattle.writer_basic.proofs.refused.Reads as refused-reads
-use Rattle.writer_store.proofs.add.Reads as add-reads
-use Rattle.writer_basic.proofs.wrote.Reads as wrote-reads
-use Rattle.writer_store.proofs.put_text.Reads as put-text-reads
 
--- src/basic.rt:174:42
 code-of-requires : tie.Need-code-of-requires
 code-of-requires c κs = search needs
 
--- src/basic.rt:174:9
 text-at-requires : tie.Need-text-at-requires
 text-at-requires c κs = search needs
 
--- src/basic.rt:179:9
 refused-requires : tie.Need-refused-requires
 refused-requires c κs = search needs
 
--- src/basic.rt:179:9
 returns : tie.Need-returns
 returns c = λ n big d top s e. rw (c .refused .ensures) (text-wrong _ big d _ _ _ top _ s n _ _ _ (c .before .before .before .code-of .ensures ∙ e) (c .before .before .text-at .ensures .refused (c .before .if1 .taken)))
 
--- src/basic.rt:181:17
 sub-count : tie.Need-sub-count
 sub-count c = let q = c .before .text-at .ensures .taken (c .if1 .left) .order in omega arith
 
--- src/basic.rt:182:26
 sub-put-text : tie.Need-sub-put-text
 sub-put-text c = let q = c .before .before .text-at .ensures .taken (c .before .if1 .left) .order in omega arith
 
--- src/basic.rt:182:26
 part-put-text-start : tie.Need-part-put-text-start
 part-put-text-start c = let q = c .before .before .text-at .ensures .taken (c .before .if1 .left) .order in omega arith
 
--- src/basic.rt:182:26
 part-put-text-end : tie.Need-part-put-text-end
 part-put-text-end c = let q = c .before .before .text-at .ensures .taken (c .before .if1 .left) .inside in omega arith
 
--- src/basic.rt:182:5
 put-text-requires : tie.Need-put-text-requires
 put-text-requires c κs = search needs
 
--- src/basic.rt:183:11
 add-wrote : tie.Need-add-wrote
 add-wrote c = search needs
 
--- src/basic.rt:183:18
 add-requires : tie.Need-add-requires
 add-requires c κs =
     let at-if1 = c .before .before .before .before .before in
@@ -62,15 +43,12 @@ add-requires c κs =
     let start = c .before .before .before .before .before .before .before .before .before .before .before in
     (omega arith, let q = at-text-at .text-at .ensures .taken (at-if1 .if1 .left) in omega (arith, q .inside, start .good .1 .0 .1))
 
--- src/basic.rt:183:5
 wrote-requires : tie.Need-wrote-requires
 wrote-requires c κs = search needs
 
--- src/basic.rt:163:1
 same-length : tie.Need-same-length
 same-length c = search needs
 
--- src/basic.rt:163:1
 returns-2 : tie.Need-returns-2
 returns-2 c =
     let at-add = c .before in

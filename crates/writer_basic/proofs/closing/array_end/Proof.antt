@@ -4,39 +4,25 @@ use native.Mathlib.Omega.{arith}
 use borrow.Author.Needs.{needs}
 use Rattle.writer_basic.proofs.closing.array_end.Statement.{statement}
 use Rattle.writer_basic.proofs.closing.array_end.Tie as tie
-use Rattle.writer_basic.proofs.closing.array_end.Reads as reads
-use Rattle.writer_basic.proofs.closing.array_end.Lts as lts
-use Rattle.writer_store.proofs.ends.table.Reads as table-reads
-use Rattle.writer_store.proofs.ends.width.Reads as width-reads
-use Rattle.writer_basic.proofs.refused.Reads as refused-reads
-use Rattle.writer_store.proofs.add.Reads as add-reads
-use Rattle.writer_basic.proofs.wrote.Reads as wrote-reads
 
--- src/closing.rt:81:9
 refused-requires : tie.Need-refused-requires
 refused-requires c κs = search needs
 
--- src/closing.rt:81:9
 returns : tie.Need-returns
 returns c = λ x ns kind a i l s n m d. rw (c .refused .ensures) (array-stop x ns kind a i _ _ l _ s _ _ _ d (c .before .if1 .taken))
 
--- src/closing.rt:84:9
 wrote-requires : tie.Need-wrote-requires
 wrote-requires c κs = search needs
 
--- src/closing.rt:84:9
 returns-2 : tie.Need-returns-2
 returns-2 c = λ x ns kind a i l s n m d. rw (c .wrote .ensures) (array-fixed x ns kind a i _ _ l _ s _ _ _ d (c .before .before .if1 .left) (c .before .if2 .taken))
 
--- src/closing.rt:86:9
 width-requires : tie.Need-width-requires
 width-requires c κs = (c .before .before .before .before .pre .2 (c .before .if1 .left), c .before .before .before .before .pre .3 (c .before .if1 .left))
 
--- src/closing.rt:87:16
 add-table : tie.Need-add-table
 add-table c = omega (arith, c .before .before .before .before .before .before .pre .2 (c .before .before .before .if1 .left))
 
--- src/closing.rt:87:5
 table-requires : tie.Need-table-requires
 table-requires c κs =
     let at-width = c .before .before in
@@ -44,7 +30,6 @@ table-requires c κs =
     let start = at-if1 .before .before .before in
     let a = start .pre .2 (at-if1 .if1 .left) in let b = start .pre .3 (at-if1 .if1 .left) in let w = at-width .width .ensures .2 in (omega arith, omega arith, start .pre .1, b)
 
--- src/closing.rt:88:29
 mul-add : tie.Need-mul-add
 mul-add c =
     let at-width = c .before .before .before .before .before .before .before in
@@ -52,7 +37,6 @@ mul-add c =
     let start = at-if1 .before .before .before in
     let b = start .pre .3 (at-if1 .if1 .left) in omega (arith, product (start .args .r .count) (at-width .width .result) (at-width .width .ensures .2))
 
--- src/closing.rt:88:19
 add-requires : tie.Need-add-requires
 add-requires c κs =
     let at-width = c .before .before .before .before .before .before .before in
@@ -60,19 +44,15 @@ add-requires c κs =
     let start = at-if1 .before .before .before in
     (omega (arith, start .pre .2 (at-if1 .if1 .left)), omega (arith, start .pre .3 (at-if1 .if1 .left), product (start .args .r .count) (at-width .width .result) (at-width .width .ensures .2)))
 
--- src/closing.rt:88:5
 wrote-requires-2 : tie.Need-wrote-requires-2
 wrote-requires-2 c κs = search needs
 
--- src/closing.rt:66:1
 same-length : tie.Need-same-length
 same-length c = search needs
 
--- src/closing.rt:66:1
 same-length-2 : tie.Need-same-length-2
 same-length-2 c = search needs
 
--- src/closing.rt:66:1
 returns-3 : tie.Need-returns-3
 returns-3 c =
     let at-add = c .before in

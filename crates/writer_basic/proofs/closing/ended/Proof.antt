@@ -4,37 +4,25 @@ use native.Mathlib.Omega.{arith}
 use borrow.Author.Needs.{needs}
 use Rattle.writer_basic.proofs.closing.ended.Statement.{statement}
 use Rattle.writer_basic.proofs.closing.ended.Tie as tie
-use Rattle.writer_basic.proofs.closing.ended.Reads as reads
-use Rattle.writer_basic.proofs.closing.ended.Lts as lts
-use Rattle.writer_basic.proofs.basic.plain_at.Reads as plain-at-reads
-use Rattle.writer_basic.proofs.ran.Reads as ran-reads
-use Rattle.writer_basic.proofs.stopped.Reads as stopped-reads
 
--- src/closing.rt:57:9
 returns : tie.Need-returns
 returns c = λ m x i base top k j l l′ s s′ d. ended-stop m x _ i base top k j l l′ s s′ _ d (c .if1 .taken)
 
--- src/closing.rt:59:8
 plain-at-requires : tie.Need-plain-at-requires
 plain-at-requires c κs = c .before .before .pre (c .if1 .left)
 
--- src/closing.rt:60:20
 add-ran : tie.Need-add-ran
 add-ran c = omega (arith, c .before .plain-at .ensures .here (c .if2 .taken) .whole)
 
--- src/closing.rt:60:9
 ran-requires : tie.Need-ran-requires
 ran-requires c κs = search needs
 
--- src/closing.rt:60:9
 returns-2 : tie.Need-returns-2
 returns-2 c = λ m x i base top k j l l′ s s′ d. rw (c .ran .ensures) (ended-shut m x _ i base top k j l l′ s s′ _ d _ (c .before .before .before .if1 .left) (c .before .before .plain-at .ensures) (c .before .if2 .taken))
 
--- src/closing.rt:62:5
 stopped-requires : tie.Need-stopped-requires
 stopped-requires c κs = search needs
 
--- src/closing.rt:50:1
 returns-3 : tie.Need-returns-3
 returns-3 c = λ m x i base top k j l l′ s s′ d. rw (c .stopped .ensures) (ended-open m x _ i base top k j l l′ s s′ _ d _ (c .before .before .before .if1 .left) (c .before .before .plain-at .ensures) (c .before .if2 .left))
 

@@ -4,41 +4,28 @@ use native.Mathlib.Omega.{arith}
 use borrow.Author.Needs.{needs}
 use Rattle.writer_basic.proofs.closing.present.Statement.{statement}
 use Rattle.writer_basic.proofs.closing.present.Tie as tie
-use Rattle.writer_basic.proofs.closing.present.Reads as reads
-use Rattle.writer_basic.proofs.closing.present.Lts as lts
-use Rattle.writer_store.proofs.add.Reads as add-reads
-use Rattle.writer_store.proofs.put.Reads as put-reads
-use Rattle.writer_basic.proofs.wrote.Reads as wrote-reads
 
--- src/closing.rt:40:9
 returns : tie.Need-returns
 returns c = λ x ns a i top l s s′ n d. present-stop a i _ top _ d (c .if1 .taken)
 
--- src/closing.rt:43:9
 returns-2 : tie.Need-returns-2
 returns-2 c = λ x ns a i top l s s′ n d. present-fixed a i _ top _ d (c .before .if1 .left) (c .if2 .taken)
 
--- src/closing.rt:45:14
 add-put : tie.Need-add-put
 add-put c = omega (arith, c .before .before .before .before .pre .1 (c .before .before .if1 .left))
 
--- src/closing.rt:45:5
 put-requires : tie.Need-put-requires
 put-requires c κs = search needs
 
--- src/closing.rt:46:19
 add-requires : tie.Need-add-requires
 add-requires c κs = (omega (arith, c .before .before .before .before .before .before .before .pre .1 (c .before .before .before .before .before .if1 .left)), omega arith)
 
--- src/closing.rt:46:5
 wrote-requires : tie.Need-wrote-requires
 wrote-requires c κs = search needs
 
--- src/closing.rt:33:1
 same-length : tie.Need-same-length
 same-length c = search needs
 
--- src/closing.rt:33:1
 returns-3 : tie.Need-returns-3
 returns-3 c =
     let at-add = c .before in

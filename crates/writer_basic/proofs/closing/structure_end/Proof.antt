@@ -4,44 +4,28 @@ use native.Mathlib.Omega.{arith}
 use borrow.Author.Needs.{needs}
 use Rattle.writer_basic.proofs.closing.structure_end.Statement.{statement}
 use Rattle.writer_basic.proofs.closing.structure_end.Tie as tie
-use Rattle.writer_basic.proofs.closing.structure_end.Reads as reads
-use Rattle.writer_basic.proofs.closing.structure_end.Lts as lts
-use Rattle.writer_store.proofs.ends.back_table.Reads as back-table-reads
-use Rattle.writer_store.proofs.ends.width.Reads as width-reads
-use Rattle.writer_basic.proofs.refused.Reads as refused-reads
-use Rattle.writer_store.proofs.add.Reads as add-reads
-use Rattle.writer_store.proofs.pad.Reads as pad-reads
-use Rattle.writer_basic.proofs.wrote.Reads as wrote-reads
 
--- src/closing.rt:108:9
 refused-requires : tie.Need-refused-requires
 refused-requires c κs = search needs
 
--- src/closing.rt:108:9
 returns : tie.Need-returns
 returns c = λ P x ns i k l s st no fw n m d. rw (c .refused .ensures) (structure-stop P x ns (c .before .before .before .before .args .alignment) i k _ _ l _ s _ _ d (c .before .if1 .taken))
 
--- src/closing.rt:111:29
 add-pad : tie.Need-add-pad
 add-pad c = omega (arith, c .before .before .before .before .before .pre .3 (c .before .before .if1 .left))
 
--- src/closing.rt:111:13
 pad-requires : tie.Need-pad-requires
 pad-requires c κs = let a = c .before .before .before .before .before .pre .3 (c .before .before .if1 .left) in (omega arith, c .before .before .before .before .before .pre .2)
 
--- src/closing.rt:112:30
 add-requires : tie.Need-add-requires
 add-requires c κs = (omega (arith, c .before .before .before .before .before .before .before .before .pre .3 (c .before .before .before .before .before .if1 .left)), omega (arith, c .before .before .pad .ensures .0 .1))
 
--- src/closing.rt:112:9
 wrote-requires : tie.Need-wrote-requires
 wrote-requires c κs = search needs
 
--- src/closing.rt:112:9
 same-length : tie.Need-same-length
 same-length c = search needs
 
--- src/closing.rt:112:9
 returns-2 : tie.Need-returns-2
 returns-2 c =
     let at-add = c .before in
@@ -51,15 +35,12 @@ returns-2 c =
     λ P x ns i k l s st no fw n m d. rw (c .wrote .ensures)
     (structure-padded P x ns _ i k _ _ l _ s _ _ d (at-if1 .if1 .left) (fw (at-if1 .if1 .left)) n (rw (at-if2 .if2 .taken) at st) (no (at-if2 .if2 .taken)) _ _ _ (at-pad .pad .ensures .0 .0) (at-add .add .ensures) (at-pad .pad .ensures .1))
 
--- src/closing.rt:114:9
 width-requires : tie.Need-width-requires
 width-requires c κs = (c .before .before .before .before .pre .3 (c .before .if1 .left), c .before .before .before .before .pre .4 (c .before .if1 .left))
 
--- src/closing.rt:115:21
 add-back-table : tie.Need-add-back-table
 add-back-table c = omega (arith, c .before .before .before .before .before .before .pre .3 (c .before .before .before .if1 .left))
 
--- src/closing.rt:115:5
 back-table-requires : tie.Need-back-table-requires
 back-table-requires c κs =
     let at-width = c .before in
@@ -67,7 +48,6 @@ back-table-requires c κs =
     let start = at-if1 .before .before .before in
     let a = start .pre .3 (at-if1 .if1 .left) in let b = start .pre .4 (at-if1 .if1 .left) in let w = at-width .width .ensures .2 in (omega arith, omega arith, start .pre .1, b)
 
--- src/closing.rt:116:29
 mul-add : tie.Need-mul-add
 mul-add c =
     let at-width = c .before .before .before .before in
@@ -75,7 +55,6 @@ mul-add c =
     let start = at-if1 .before .before .before in
     let b = start .pre .4 (at-if1 .if1 .left) in omega (arith, product (start .args .r .count) (at-width .width .result) (at-width .width .ensures .2))
 
--- src/closing.rt:116:19
 add-requires-2 : tie.Need-add-requires-2
 add-requires-2 c κs =
     let at-width = c .before .before .before .before in
@@ -83,15 +62,12 @@ add-requires-2 c κs =
     let start = at-if1 .before .before .before in
     (omega (arith, start .pre .3 (at-if1 .if1 .left)), omega (arith, start .pre .4 (at-if1 .if1 .left), product (start .args .r .count) (at-width .width .result) (at-width .width .ensures .2)))
 
--- src/closing.rt:116:5
 wrote-requires-2 : tie.Need-wrote-requires-2
 wrote-requires-2 c κs = search needs
 
--- src/closing.rt:92:1
 same-length-2 : tie.Need-same-length-2
 same-length-2 c = search needs
 
--- src/closing.rt:92:1
 returns-3 : tie.Need-returns-3
 returns-3 c =
     let at-add2 = c .before in

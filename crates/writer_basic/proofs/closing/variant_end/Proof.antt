@@ -4,70 +4,49 @@ use native.Mathlib.Omega.{arith}
 use borrow.Author.Needs.{needs}
 use Rattle.writer_basic.proofs.closing.variant_end.Statement.{statement}
 use Rattle.writer_basic.proofs.closing.variant_end.Tie as tie
-use Rattle.writer_basic.proofs.closing.variant_end.Reads as reads
-use Rattle.writer_basic.proofs.closing.variant_end.Lts as lts
-use Rattle.writer_basic.proofs.basic.plain_at.Reads as plain-at-reads
-use Rattle.writer_basic.proofs.refused.Reads as refused-reads
-use Rattle.writer_store.proofs.add.Reads as add-reads
-use Rattle.writer_basic.proofs.wrote.Reads as wrote-reads
-use Rattle.writer_store.proofs.put_type.Reads as put-type-reads
 
--- src/closing.rt:136:9
 returns : tie.Need-returns
 returns c = λ x t i top l s s′ k n d. value-stop x t _ i _ top l _ s s′ _ d (c .if1 .taken)
 
--- src/closing.rt:138:8
 plain-at-requires : tie.Need-plain-at-requires
 plain-at-requires c κs = c .before .before .before .before .pre .2 (c .if1 .left)
 
--- src/closing.rt:139:21
 add-place : tie.Need-add-place
 add-place c = omega (arith, c .before .before .before .before .before .before .pre .1 (c .before .before .if1 .left))
 
--- src/closing.rt:140:30
 sub-put-type : tie.Need-sub-put-type
 sub-put-type c = search needs
 
--- src/closing.rt:140:30
 part-put-type-start : tie.Need-part-put-type-start
 part-put-type-start c = search needs
 
--- src/closing.rt:140:30
 part-put-type-end : tie.Need-part-put-type-end
 part-put-type-end c = search needs
 
--- src/closing.rt:140:9
 put-type-requires : tie.Need-put-type-requires
 put-type-requires c κs = search needs
 
--- src/closing.rt:141:22
 add-wrote : tie.Need-add-wrote
 add-wrote c = omega (arith, c .before .before .before .before .before .before .plain-at .ensures .here (c .before .before .before .before .before .if2 .taken) .whole)
 
--- src/closing.rt:141:47
 sub-add : tie.Need-sub-add
 sub-add c = search needs
 
--- src/closing.rt:141:42
 add-add : tie.Need-add-add
 add-add c = search needs
 
--- src/closing.rt:141:32
 add-requires : tie.Need-add-requires
 add-requires c κs =
     let at-if1 = c .before .before .before .before .before .before .before in
     let start = c .before .before .before .before .before .before .before .before .before .before .before in
     (omega (arith, start .pre .1 (at-if1 .if1 .left)), omega (arith, start .pre .5))
 
--- src/closing.rt:141:9
 wrote-requires : tie.Need-wrote-requires
 wrote-requires c κs = search needs
 
--- src/closing.rt:141:9
 same-length : tie.Need-same-length
 same-length c = search needs
 
--- src/closing.rt:141:9
 returns-2 : tie.Need-returns-2
 returns-2 c =
     let at-add = c .before in
@@ -79,11 +58,9 @@ returns-2 c =
     λ x t i top l s s′ k n d. rw (c .wrote .ensures)
     (value-shut x t _ i _ top l _ s s′ _ d _ _ _ _ _ (at-if1 .if1 .left) (at-plain-at .plain-at .ensures) (at-if2 .if2 .taken) k (part-length _ _ _ (start .pre .3) (start .pre .4)) (at-put-type .put-type .ensures) (at-add .add .ensures) n)
 
--- src/closing.rt:143:5
 refused-requires : tie.Need-refused-requires
 refused-requires c κs = search needs
 
--- src/closing.rt:120:1
 returns-3 : tie.Need-returns-3
 returns-3 c = λ x t i top l s s′ k n d. rw (c .refused .ensures) (value-open x t _ i _ top l _ s s′ _ d _ (c .before .before .before .if1 .left) (c .before .before .plain-at .ensures) (c .before .if2 .left))
 

@@ -8,12 +8,6 @@ use Rattle.writer_basic.proofs.Rows.{left-short, left-shut}
 use Rattle.writer_basic.proofs.NumberRows.{NumbersLeft, numbers-begin, numbers-stop, numbers-on, number-bounds}
 use Rattle.writer_basic.proofs.numbers.numbers.Statement.{statement}
 use Rattle.writer_basic.proofs.numbers.numbers.Tie as tie
-use Rattle.writer_basic.proofs.numbers.numbers.Reads as reads
-use Rattle.writer_basic.proofs.numbers.numbers.Lts as lts
-use Rattle.writer_basic.proofs.basic.number.Reads as number-reads
-use Rattle.writer_basic.proofs.ran.Reads as ran-reads
-use Rattle.writer_basic.proofs.stopped.Reads as stopped-reads
-use Rattle.writer_store.proofs.add.Reads as add-reads
 
 abbrev Inv-loop : tie.InvT-loop
 Inv-loop code width events big out₀ base e₀ k₀ out e k = NumbersLeft code width big events e₀ base out₀ e k out
@@ -21,51 +15,39 @@ Inv-loop code width events big out₀ base e₀ k₀ out e k = NumbersLeft code 
 abbrev μ-loop : tie.MeasureT-loop
 μ-loop code width events big out₀ base e₀ k₀ out e k = length events - e
 
--- src/numbers.rt:40:5
 loop-holds : tie.Need-loop-holds Inv-loop μ-loop
 loop-holds c = numbers-begin _ _ (c .before .before .pre .0) _ _ _ _ _ (c .before .before .pre .1 .within)
 
--- src/numbers.rt:40:16
 sub-loop : tie.Need-sub-loop Inv-loop μ-loop
 sub-loop c = omega (arith, c .loop .inv .within)
 
--- src/numbers.rt:41:12
 mul-if1 : tie.Need-mul-if1 Inv-loop μ-loop
 mul-if1 c = omega arith
 
--- src/numbers.rt:41:12
 shared-slice-read-if1 : tie.Need-shared-slice-read-if1 Inv-loop μ-loop
 shared-slice-read-if1 c = (omega (arith, c .before .before .loop .inv .within, c .before .loop-test .taken))
 
--- src/numbers.rt:42:13
 ran-requires : tie.Need-ran-requires Inv-loop μ-loop
 ran-requires c κs = search needs
 
--- src/numbers.rt:42:13
 same-length : tie.Need-same-length Inv-loop μ-loop
 same-length c = omega (arith, c .before .before .before .before .loop .inv .same)
 
--- src/numbers.rt:42:13
 returns : tie.Need-returns Inv-loop μ-loop
 returns c = λ texts d s. rw (c .ran .ensures) (left-shut _ _ _ _ _ _ _ _ _ _ _ _ _ (c .before .before .before .before .loop .inv .left texts d _ s) (omega (arith, c .before .before .before .before .loop .inv .within, c .before .before .before .loop-test .taken)) (c .before .if1 .taken))
 
--- src/numbers.rt:44:13
 add-requires : tie.Need-add-requires Inv-loop μ-loop
 add-requires c κs = (omega (arith, c .before .before .before .before .before .before .pre .1 .near), omega (arith, c .before .before .before .loop .inv .small))
 
--- src/numbers.rt:45:13
 number-requires : tie.Need-number-requires Inv-loop μ-loop
 number-requires c κs = (c .before .before .before .before .before .loop .inv .within, omega (arith, c .before .add .ensures), key-aligned _ _ (c .before .before .before .before .before .before .before .before .pre .0))
 
--- src/numbers.rt:48:13
 stopped-requires : tie.Need-stopped-requires Inv-loop μ-loop
 stopped-requires c κs = search needs
 
--- src/numbers.rt:48:13
 same-length-2 : tie.Need-same-length-2 Inv-loop μ-loop
 same-length-2 c = omega (arith, c .before .before .before .before .before .before .before .before .before .before .loop .inv .same, c .before .before .before .before .number .kept)
 
--- src/numbers.rt:48:13
 returns-2 : tie.Need-returns-2 Inv-loop μ-loop
 returns-2 c =
     let at-if2 = c .before in
@@ -77,7 +59,6 @@ returns-2 c =
     λ texts d s. rw (c .stopped .ensures)
     (numbers-stop _ _ (start .pre .0) _ _ _ _ _ _ _ _ (at-loop .loop .inv) (omega (arith, at-loop .loop .inv .within, at-loop-test .loop-test .taken)) (at-if1 .if1 .left) _ _ _ (at-number .number .ensures) texts d _ s (at-if2 .if2 .taken))
 
--- src/numbers.rt:50:9
 add-requires-2 : tie.Need-add-requires-2 Inv-loop μ-loop
 add-requires-2 c κs =
     let at-number = c .before .before .before in
@@ -85,11 +66,9 @@ add-requires-2 c κs =
     let start = at-loop .before .before .before in
     (omega (arith, at-loop .loop .inv .small), let q = number-bounds _ _ (start .pre .0) _ _ _ _ _ _ _ (at-number .number .ensures) (c .if2 .left) in omega (arith, q .small))
 
--- src/numbers.rt:40:5
 loop-less : tie.Need-loop-less Inv-loop μ-loop
 loop-less c = let q = number-bounds _ _ (c .before .before .before .before .before .before .before .before .before .before .before .before .before .pre .0) _ _ _ _ _ _ _ (c .before .before .before .before .number .ensures) (c .before .if2 .left) in omega (arith, q .forward, q .within)
 
--- src/numbers.rt:40:5
 loop-again : tie.Need-loop-again Inv-loop μ-loop
 loop-again c =
     let at-if2 = c .before in
@@ -102,15 +81,12 @@ loop-again c =
     numbers-on _ _ (start .pre .0) _ _ _ _ _ _ _ _ (at-loop .loop .inv) (omega (arith, at-loop .loop .inv .within, at-loop-test .loop-test .taken)) (at-if1 .if1 .left) _ _ _ (at-number .number .ensures) _ (at-if2 .if2 .left)
     (at-add .add .ensures) (c .add2 .ensures) (omega (arith, at-loop .loop .inv .same, at-number .number .kept))
 
--- src/numbers.rt:53:5
 stopped-requires-2 : tie.Need-stopped-requires-2 Inv-loop μ-loop
 stopped-requires-2 c κs = search needs
 
--- src/numbers.rt:33:1
 same-length-3 : tie.Need-same-length-3 Inv-loop μ-loop
 same-length-3 c = omega (arith, c .before .before .loop .inv .same)
 
--- src/numbers.rt:33:1
 returns-3 : tie.Need-returns-3 Inv-loop μ-loop
 returns-3 c = λ texts d s. rw (c .stopped2 .ensures) (left-short _ _ _ _ _ _ _ _ _ _ _ _ _ (c .before .before .loop .inv .left texts d _ s) (omega (arith, c .before .before .loop .inv .within, c .before .loop-test .left)))
 

@@ -1,5 +1,4 @@
 -- `writer_basic::numbers::reading` meets its contract. Assumes nothing.
-use native.Mathlib.Omega.{arith}
 use borrow.Author.Needs.{needs}
 use borrow.Author.Tests.{not-true, not-false}
 use Rattle.writer_basic.proofs.Answers.{key-aligned}
@@ -8,59 +7,40 @@ use Rattle.writer_basic.proofs.NumberRows.{reading-on, number-done}
 use borrow.Author.Needs.{needs}
 use Rattle.writer_basic.proofs.numbers.reading.Statement.{statement}
 use Rattle.writer_basic.proofs.numbers.reading.Tie as tie
-use Rattle.writer_basic.proofs.numbers.reading.Reads as reads
-use Rattle.writer_basic.proofs.numbers.reading.Lts as lts
-use Rattle.container_depths.proofs.ContainerDepths.inc_maybe.Reads as inc-maybe-reads
-use Rattle.writer_basic.proofs.basic.number.Reads as number-reads
-use Rattle.writer_basic.proofs.basic.plain_at.Reads as plain-at-reads
-use Rattle.writer_basic.proofs.refused.Reads as refused-reads
-use Rattle.writer_basic.proofs.wrote.Reads as wrote-reads
 
--- src/numbers.rt:69:8
 plain-at-requires : tie.Need-plain-at-requires
 plain-at-requires c κs = search needs
 
--- src/numbers.rt:70:22
 add-wrote : tie.Need-add-wrote
 add-wrote c = search needs
 
--- src/numbers.rt:70:9
 wrote-requires : tie.Need-wrote-requires
 wrote-requires c κs = search needs
 
--- src/numbers.rt:70:9
 returns : tie.Need-returns
 returns c = λ texts top s. rw (c .wrote .ensures) (maybe-empty _ _ _ _ _ _ _ top _ s (c .before .before .plain-at .ensures .here (c .before .if1 .taken)))
 
--- src/numbers.rt:72:9
 plain-at-requires-2 : tie.Need-plain-at-requires-2
 plain-at-requires-2 c κs = search needs
 
--- src/numbers.rt:73:9
 refused-requires : tie.Need-refused-requires
 refused-requires c κs = search needs
 
--- src/numbers.rt:73:9
 returns-2 : tie.Need-returns-2
 returns-2 c = λ texts top s. rw (c .refused .ensures) (maybe-neither _ _ _ _ _ _ _ top _ s _ _ (c .before .before .before .before .plain-at .ensures .not (c .before .before .before .if1 .left)) (c .before .before .plain-at2 .ensures .not (not-true _ (c .before .if2 .taken))))
 
--- src/numbers.rt:75:9
 inc-maybe-requires : tie.Need-inc-maybe-requires
 inc-maybe-requires c κs = search needs
 
--- src/numbers.rt:78:9
 refused-requires-2 : tie.Need-refused-requires-2
 refused-requires-2 c κs = search needs
 
--- src/numbers.rt:78:9
 returns-3 : tie.Need-returns-3
 returns-3 c = λ texts top s. rw (c .refused2 .ensures) (maybe-deep _ _ _ _ _ _ _ top _ s (c .before .before .before .before .plain-at2 .ensures .here (not-false _ (c .before .before .before .if2 .left))) _ (c .before .before .inc-maybe .ensures) _ _ (c .before .if3 .taken))
 
--- src/numbers.rt:80:20
 add-number : tie.Need-add-number
 add-number c = search needs
 
--- src/numbers.rt:80:5
 number-requires : tie.Need-number-requires
 number-requires c κs =
     let at-if2 = c .before .before .before in
@@ -68,11 +48,9 @@ number-requires c κs =
     let start = at-plain-at2 .before .before .before .before .before in
     (at-plain-at2 .plain-at2 .ensures .here (not-false _ (at-if2 .if2 .left)) .whole, start .pre .1, key-aligned _ _ (start .pre .2))
 
--- src/numbers.rt:57:1
 same-length : tie.Need-same-length
 same-length c = search needs
 
--- src/numbers.rt:57:1
 returns-4 : tie.Need-returns-4
 returns-4 c =
     let at-number = c .before .before in

@@ -16,14 +16,6 @@ use Rattle.writer_basic.proofs.Rows.{Left, left-all, left-short, left-s
 use Rattle.writer_basic.proofs.NumberRows.{number-alignment, number-fixed, reading-alignment, reading-shorter}
 use Rattle.writer_basic.proofs.numbers.readings.Statement.{statement}
 use Rattle.writer_basic.proofs.numbers.readings.Tie as tie
-use Rattle.writer_basic.proofs.numbers.readings.Reads as reads
-use Rattle.writer_basic.proofs.numbers.readings.Lts as lts
-use Rattle.writer_store.proofs.ends.keep.Reads as keep-reads
-use Rattle.writer_basic.proofs.numbers.reading.Reads as reading-reads
-use Rattle.writer_basic.proofs.ran.Reads as ran-reads
-use Rattle.writer_basic.proofs.stopped.Reads as stopped-reads
-use Rattle.writer_store.proofs.add.Reads as add-reads
-use Rattle.writer_store.proofs.pad.Reads as pad-reads
 
 abbrev Inv-loop : tie.InvT-loop
 Inv-loop code width events context out₀ ends₀ base top e₀ k₀ j₀ out ends e k j =
@@ -32,63 +24,48 @@ Inv-loop code width events context out₀ ends₀ base top e₀ k₀ j₀ out en
 abbrev μ-loop : tie.MeasureT-loop
 μ-loop code width events context out₀ ends₀ base top e₀ k₀ j₀ out ends e k j = length events - e
 
--- src/numbers.rt:101:5
 loop-holds : tie.Need-loop-holds Inv-loop μ-loop
 loop-holds c = λ texts. left-all _ _ _ _ _ _ _ _ (c .before .before .before .pre .1 .within)
 
--- src/numbers.rt:101:16
 sub-loop : tie.Need-sub-loop Inv-loop μ-loop
 sub-loop c = omega (arith, c .loop .inv [] .within)
 
--- src/numbers.rt:102:12
 mul-if1 : tie.Need-mul-if1 Inv-loop μ-loop
 mul-if1 c = omega arith
 
--- src/numbers.rt:102:12
 shared-slice-read-if1 : tie.Need-shared-slice-read-if1 Inv-loop μ-loop
 shared-slice-read-if1 c = (omega (arith, c .before .before .loop .inv [] .within, c .before .loop-test .taken))
 
--- src/numbers.rt:103:13
 ran-requires : tie.Need-ran-requires Inv-loop μ-loop
 ran-requires c κs = search needs
 
--- src/numbers.rt:103:13
 same-length : tie.Need-same-length Inv-loop μ-loop
 same-length c = omega (arith, c .before .before .before .before .loop .inv [] .same)
 
--- src/numbers.rt:103:13
 same-length-2 : tie.Need-same-length-2 Inv-loop μ-loop
 same-length-2 c = omega (arith, c .before .before .before .before .loop .inv [] .sames)
 
--- src/numbers.rt:103:13
 returns : tie.Need-returns Inv-loop μ-loop
 returns c = λ texts. rw (c .ran .ensures) (left-shut _ _ _ _ _ _ _ _ _ _ _ _ _ (c .before .before .before .before .loop .inv texts) (omega (arith, c .before .before .before .before .loop .inv [] .within, c .before .before .before .loop-test .taken)) (c .before .if1 .taken))
 
--- src/numbers.rt:105:26
 add-pad : tie.Need-add-pad Inv-loop μ-loop
 add-pad c = omega (arith, c .before .before .before .before .loop .inv [] .small, c .before .before .before .before .before .before .before .before .pre .1 .near)
 
--- src/numbers.rt:105:13
 pad-requires : tie.Need-pad-requires Inv-loop μ-loop
 pad-requires c κs = (omega (arith, c .before .before .before .before .loop .inv [] .small, c .before .before .before .before .before .before .before .before .pre .1 .near), key-aligned _ _ (c .before .before .before .before .before .before .before .before .pre .0))
 
--- src/numbers.rt:106:31
 add-add : tie.Need-add-add Inv-loop μ-loop
 add-add c = omega (arith, c .before .before .before .before .before .before .before .loop .inv [] .small, c .before .before .pad .ensures .0 .1)
 
--- src/numbers.rt:106:13
 add-requires : tie.Need-add-requires Inv-loop μ-loop
 add-requires c κs = (omega (arith, c .before .before .before .before .before .before .before .before .before .before .before .pre .1 .near), omega (arith, c .before .before .before .before .before .before .before .loop .inv [] .small, c .before .before .pad .ensures .0 .1))
 
--- src/numbers.rt:107:13
 reading-requires : tie.Need-reading-requires Inv-loop μ-loop
 reading-requires c κs = (c .before .before .before .before .before .before .before .before .before .loop .inv [] .within, omega (arith, c .before .add .ensures), c .before .before .before .before .before .before .before .before .before .before .before .before .before .pre .0)
 
--- src/numbers.rt:110:13
 stopped-requires : tie.Need-stopped-requires Inv-loop μ-loop
 stopped-requires c κs = search needs
 
--- src/numbers.rt:110:13
 same-length-3 : tie.Need-same-length-3 Inv-loop μ-loop
 same-length-3 c =
     let at-reading = c .before .before .before .before in
@@ -96,11 +73,9 @@ same-length-3 c =
     let at-loop = at-pad .before .before .before .before .before in
     omega (arith, at-loop .loop .inv [] .same, at-reading .reading .kept, at-pad .pad .kept)
 
--- src/numbers.rt:110:13
 same-length-4 : tie.Need-same-length-4 Inv-loop μ-loop
 same-length-4 c = omega (arith, c .before .before .before .before .before .before .before .before .before .before .before .before .before .before .loop .inv [] .sames)
 
--- src/numbers.rt:110:13
 returns-2 : tie.Need-returns-2 Inv-loop μ-loop
 returns-2 c =
     let at-if2 = c .before in
@@ -111,11 +86,9 @@ returns-2 c =
     λ texts. rw (c .stopped .ensures)
     (left-stop _ _ _ _ _ _ _ _ _ _ _ _ _ (at-loop .loop .inv texts) (omega (arith, at-loop .loop .inv [] .within, at-loop-test .loop-test .taken)) (at-if1 .if1 .left) _ 0 _ _ _ _ (at-reading .reading .ensures texts 0 _) (at-if2 .if2 .taken))
 
--- src/numbers.rt:112:17
 add-add-2 : tie.Need-add-add-2 Inv-loop μ-loop
 add-add-2 c = omega (arith, c .before .before .before .before .before .before .before .before .before .before .before .before .before .loop .inv [] .small, c .before .before .before .before .before .before .before .before .pad .ensures .0 .1)
 
--- src/numbers.rt:112:9
 add-requires-2 : tie.Need-add-requires-2 Inv-loop μ-loop
 add-requires-2 c κs =
     let at-reading = c .before .before .before in
@@ -123,18 +96,15 @@ add-requires-2 c κs =
     let at-loop = at-pad .before .before .before .before .before in
     (omega (arith, at-loop .loop .inv [] .small, at-pad .pad .ensures .0 .1), let q = bounds (c .if2 .left) (at-reading .reading .ensures [] 0 []) in omega (arith, q .small))
 
--- src/numbers.rt:114:9
 keep-requires : tie.Need-keep-requires Inv-loop μ-loop
 keep-requires c κs =
     let at-loop = c .before .before .before .before .before .before .before .before .before .before .before .before .before .before .before .before in
     let start = at-loop .before .before .before .before in
     omega (arith, at-loop .loop .inv [] .few, start .pre .1 .few)
 
--- src/numbers.rt:101:5
 loop-less : tie.Need-loop-less Inv-loop μ-loop
 loop-less c = let q = bounds (c .before .before .before .before .before .before .before .before .if2 .left) (c .before .before .before .before .before .before .before .before .before .before .before .reading .ensures [] 0 []) in omega (arith, q .forward, q .within)
 
--- src/numbers.rt:101:5
 loop-again : tie.Need-loop-again Inv-loop μ-loop
 loop-again c =
     let at-keep = c .before .before .before .before in
@@ -153,19 +123,15 @@ loop-again c =
     (at-pad .pad .ensures .0 .0) (at-pad .pad .ensures .1) (at-add .add .ensures) refl (at-add2 .add2 .ensures) (at-keep .keep .ensures) (omega (arith, at-loop .loop .inv [] .same)) (omega (arith, at-loop .loop .inv [] .same))
     (omega (arith, at-loop .loop .inv [] .sames)) (omega (arith, at-loop .loop .inv [] .sames))
 
--- src/numbers.rt:116:5
 stopped-requires-2 : tie.Need-stopped-requires-2 Inv-loop μ-loop
 stopped-requires-2 c κs = search needs
 
--- src/numbers.rt:84:1
 same-length-5 : tie.Need-same-length-5 Inv-loop μ-loop
 same-length-5 c = omega (arith, c .before .before .loop .inv [] .same)
 
--- src/numbers.rt:84:1
 same-length-6 : tie.Need-same-length-6 Inv-loop μ-loop
 same-length-6 c = omega (arith, c .before .before .loop .inv [] .sames)
 
--- src/numbers.rt:84:1
 returns-3 : tie.Need-returns-3 Inv-loop μ-loop
 returns-3 c = λ texts. rw (c .stopped2 .ensures) (left-short _ _ _ _ _ _ _ _ _ _ _ _ _ (c .before .before .loop .inv texts) (omega (arith, c .before .before .loop .inv [] .within, c .before .loop-test .left)))
 

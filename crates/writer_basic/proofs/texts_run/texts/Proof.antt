@@ -16,13 +16,6 @@ use Rattle.writer_basic.proofs.Rows.{Left, left-all, left-short, left-s
 use Rattle.writer_basic.proofs.NumberRows.{basic-alignment, text-alignment, text-done, unpadded}
 use Rattle.writer_basic.proofs.texts_run.texts.Statement.{statement}
 use Rattle.writer_basic.proofs.texts_run.texts.Tie as tie
-use Rattle.writer_basic.proofs.texts_run.texts.Reads as reads
-use Rattle.writer_basic.proofs.texts_run.texts.Lts as lts
-use Rattle.writer_basic.proofs.basic.text_value.Reads as text-value-reads
-use Rattle.writer_store.proofs.ends.keep.Reads as keep-reads
-use Rattle.writer_basic.proofs.ran.Reads as ran-reads
-use Rattle.writer_basic.proofs.stopped.Reads as stopped-reads
-use Rattle.writer_store.proofs.add.Reads as add-reads
 
 abbrev Inv-loop : tie.InvT-loop
 Inv-loop code events texts out₀ ends₀ base top e₀ k₀ j₀ out ends e k j = (big : Bool) (d : Depths) → Left false (emitBasic texts big (keyBasic (Text code)) d) events e₀ base top out₀ ends₀ e k j out ends
@@ -30,59 +23,45 @@ Inv-loop code events texts out₀ ends₀ base top e₀ k₀ j₀ out ends e k j
 abbrev μ-loop : tie.MeasureT-loop
 μ-loop code events texts out₀ ends₀ base top e₀ k₀ j₀ out ends e k j = length events - e
 
--- src/texts_run.rt:36:5
 loop-holds : tie.Need-loop-holds Inv-loop μ-loop
 loop-holds c = λ big d. left-all _ _ _ _ _ _ _ _ (c .before .before .before .before .pre .1 .within)
 
--- src/texts_run.rt:36:16
 sub-loop : tie.Need-sub-loop Inv-loop μ-loop
 sub-loop c = omega (arith, c .loop .inv false noneOpen .within)
 
--- src/texts_run.rt:37:12
 mul-if1 : tie.Need-mul-if1 Inv-loop μ-loop
 mul-if1 c = omega arith
 
--- src/texts_run.rt:37:12
 shared-slice-read-if1 : tie.Need-shared-slice-read-if1 Inv-loop μ-loop
 shared-slice-read-if1 c = (omega (arith, c .before .before .loop .inv false noneOpen .within, c .before .loop-test .taken))
 
--- src/texts_run.rt:38:13
 ran-requires : tie.Need-ran-requires Inv-loop μ-loop
 ran-requires c κs = search needs
 
--- src/texts_run.rt:38:13
 same-length : tie.Need-same-length Inv-loop μ-loop
 same-length c = omega (arith, c .before .before .before .before .loop .inv false noneOpen .same)
 
--- src/texts_run.rt:38:13
 same-length-2 : tie.Need-same-length-2 Inv-loop μ-loop
 same-length-2 c = omega (arith, c .before .before .before .before .loop .inv false noneOpen .sames)
 
--- src/texts_run.rt:38:13
 returns : tie.Need-returns Inv-loop μ-loop
 returns c = λ big d. rw (c .ran .ensures) (left-shut _ _ _ _ _ _ _ _ _ _ _ _ _ (c .before .before .before .before .loop .inv big d) (omega (arith, c .before .before .before .before .loop .inv false noneOpen .within, c .before .before .before .loop-test .taken)) (c .before .if1 .taken))
 
--- src/texts_run.rt:40:57
 add-text-value : tie.Need-add-text-value Inv-loop μ-loop
 add-text-value c = omega (arith, c .before .before .before .before .before .before .before .before .before .pre .1 .near, c .before .before .before .before .loop .inv false noneOpen .small)
 
--- src/texts_run.rt:40:13
 text-value-requires : tie.Need-text-value-requires Inv-loop μ-loop
 text-value-requires c κs = (c .before .before .before .before .loop .inv false noneOpen .within, omega (arith, c .before .before .before .before .before .before .before .before .before .pre .1 .near, c .before .before .before .before .loop .inv false noneOpen .small))
 
--- src/texts_run.rt:43:13
 stopped-requires : tie.Need-stopped-requires Inv-loop μ-loop
 stopped-requires c κs = search needs
 
--- src/texts_run.rt:43:13
 same-length-3 : tie.Need-same-length-3 Inv-loop μ-loop
 same-length-3 c = omega (arith, c .before .before .before .before .before .before .before .before .before .loop .inv false noneOpen .same, c .before .before .before .before .text-value .kept)
 
--- src/texts_run.rt:43:13
 same-length-4 : tie.Need-same-length-4 Inv-loop μ-loop
 same-length-4 c = omega (arith, c .before .before .before .before .before .before .before .before .before .loop .inv false noneOpen .sames)
 
--- src/texts_run.rt:43:13
 returns-2 : tie.Need-returns-2 Inv-loop μ-loop
 returns-2 c =
     let at-if2 = c .before in
@@ -95,7 +74,6 @@ returns-2 c =
     (left-stop _ _ _ _ _ _ _ _ _ _ _ _ _ (at-loop .loop .inv big d) (omega (arith, at-loop .loop .inv false noneOpen .within, at-loop-test .loop-test .taken)) (at-if1 .if1 .left) _ 0 _ _ _ _
     (text-done _ (start .pre .0) _ _ _ _ _ _ _ (at-text-value .text-value .ensures) big d 0 _) (at-if2 .if2 .taken))
 
--- src/texts_run.rt:45:9
 add-requires : tie.Need-add-requires Inv-loop μ-loop
 add-requires c κs =
     let at-text-value = c .before .before .before in
@@ -103,14 +81,12 @@ add-requires c κs =
     let start = c .before .before .before .before .before .before .before .before .before .before .before .before .before in
     (omega (arith, at-loop .loop .inv false noneOpen .small), let q = bounds (c .if2 .left) (text-done _ (start .pre .0) _ _ _ _ _ _ _ (at-text-value .text-value .ensures) false noneOpen 0 []) in omega (arith, q .small))
 
--- src/texts_run.rt:47:9
 keep-requires : tie.Need-keep-requires Inv-loop μ-loop
 keep-requires c κs =
     let at-loop = c .before .before .before .before .before .before .before .before .before .before .before in
     let start = c .before .before .before .before .before .before .before .before .before .before .before .before .before .before .before .before in
     omega (arith, at-loop .loop .inv false noneOpen .few, start .pre .1 .few)
 
--- src/texts_run.rt:36:5
 loop-less : tie.Need-loop-less Inv-loop μ-loop
 loop-less c =
     let at-if2 = c .before .before .before .before .before .before .before .before in
@@ -118,7 +94,6 @@ loop-less c =
     let start = c .before .before .before .before .before .before .before .before .before .before .before .before .before .before .before .before .before .before .before .before .before in
     let q = bounds (at-if2 .if2 .left) (text-done _ (start .pre .0) _ _ _ _ _ _ _ (at-text-value .text-value .ensures) false noneOpen 0 []) in omega (arith, q .forward, q .within)
 
--- src/texts_run.rt:36:5
 loop-again : tie.Need-loop-again Inv-loop μ-loop
 loop-again c =
     let at-keep = c .before .before .before .before in
@@ -135,19 +110,15 @@ loop-again c =
     (omega (arith, at-loop .loop .inv false noneOpen .same, at-text-value .text-value .kept, at-keep .keep .kept .0)) (omega (arith, at-loop .loop .inv false noneOpen .sames))
     (omega (arith, at-loop .loop .inv false noneOpen .sames, at-keep .keep .kept .1))
 
--- src/texts_run.rt:49:5
 stopped-requires-2 : tie.Need-stopped-requires-2 Inv-loop μ-loop
 stopped-requires-2 c κs = search needs
 
--- src/texts_run.rt:20:1
 same-length-5 : tie.Need-same-length-5 Inv-loop μ-loop
 same-length-5 c = omega (arith, c .before .before .loop .inv false noneOpen .same)
 
--- src/texts_run.rt:20:1
 same-length-6 : tie.Need-same-length-6 Inv-loop μ-loop
 same-length-6 c = omega (arith, c .before .before .loop .inv false noneOpen .sames)
 
--- src/texts_run.rt:20:1
 returns-3 : tie.Need-returns-3 Inv-loop μ-loop
 returns-3 c = λ big d. rw (c .stopped2 .ensures) (left-short _ _ _ _ _ _ _ _ _ _ _ _ _ (c .before .before .loop .inv big d) (omega (arith, c .before .before .loop .inv false noneOpen .within, c .before .loop-test .left)))
 

@@ -21,9 +21,9 @@ use Rattle.writer_basic.proofs.closing.array_end.Reads as array-end-reads
 use Rattle.writer_basic.proofs.closing.ended.Reads as ended-reads
 use Rattle.writer_basic.proofs.refused.Reads as refused-reads
 use cycle.Lts-array-array as array·array-lts
-use of.opening.in_array.Reads as in-array-reads
 use of.array.array.Reads as array·array
 use of.array.elements.Reads as array·elements
+use of.opening.in_array.Reads as in-array-reads
 
 abbrev array·array-callees : ℕ → array·array-lts.Claims
 array·array-callees t = (

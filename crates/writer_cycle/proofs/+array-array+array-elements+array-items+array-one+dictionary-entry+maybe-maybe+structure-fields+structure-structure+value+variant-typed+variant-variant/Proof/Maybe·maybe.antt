@@ -23,8 +23,8 @@ use Rattle.writer_basic.proofs.closing.present.Reads as present-reads
 use Rattle.writer_basic.proofs.refused.Reads as refused-reads
 use Rattle.writer_basic.proofs.wrote.Reads as wrote-reads
 use cycle.Lts-maybe-maybe as maybe·maybe-lts
-use of.opening.in_maybe.Reads as in-maybe-reads
 use of.maybe.maybe.Reads as maybe·maybe
+use of.opening.in_maybe.Reads as in-maybe-reads
 use of.value.Reads as value
 
 abbrev maybe·maybe-callees : ℕ → maybe·maybe-lts.Claims

@@ -2,20 +2,13 @@
 use borrow.Author.Needs.{needs}
 use Rattle.writer_cycle.proofs.opening.in_array.Statement.{statement}
 use Rattle.writer_cycle.proofs.opening.in_array.Tie as tie
-use Rattle.writer_cycle.proofs.opening.in_array.Reads as reads
-use Rattle.writer_cycle.proofs.opening.in_array.Lts as lts
-use Rattle.container_depths.proofs.ContainerDepths.inc_array.Reads as inc-array-reads
-use Rattle.writer_cycle.proofs.opening.inside.Reads as inside-reads
 
--- src/opening.rt:43:21
 inc-array-requires : tie.Need-inc-array-requires
 inc-array-requires c κs = search needs
 
--- src/opening.rt:43:5
 inside-requires : tie.Need-inside-requires
 inside-requires c κs = search needs
 
--- src/opening.rt:40:1
 returns : tie.Need-returns
 returns c = c .inside .ensures _ (c .before .inc-array .ensures)
 

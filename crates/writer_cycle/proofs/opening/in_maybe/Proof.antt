@@ -2,20 +2,13 @@
 use borrow.Author.Needs.{needs}
 use Rattle.writer_cycle.proofs.opening.in_maybe.Statement.{statement}
 use Rattle.writer_cycle.proofs.opening.in_maybe.Tie as tie
-use Rattle.writer_cycle.proofs.opening.in_maybe.Reads as reads
-use Rattle.writer_cycle.proofs.opening.in_maybe.Lts as lts
-use Rattle.container_depths.proofs.ContainerDepths.inc_maybe.Reads as inc-maybe-reads
-use Rattle.writer_cycle.proofs.opening.inside.Reads as inside-reads
 
--- src/opening.rt:31:21
 inc-maybe-requires : tie.Need-inc-maybe-requires
 inc-maybe-requires c κs = search needs
 
--- src/opening.rt:31:5
 inside-requires : tie.Need-inside-requires
 inside-requires c κs = search needs
 
--- src/opening.rt:28:1
 returns : tie.Need-returns
 returns c = c .inside .ensures _ (c .before .inc-maybe .ensures)
 

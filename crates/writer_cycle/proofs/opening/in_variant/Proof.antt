@@ -2,20 +2,13 @@
 use borrow.Author.Needs.{needs}
 use Rattle.writer_cycle.proofs.opening.in_variant.Statement.{statement}
 use Rattle.writer_cycle.proofs.opening.in_variant.Tie as tie
-use Rattle.writer_cycle.proofs.opening.in_variant.Reads as reads
-use Rattle.writer_cycle.proofs.opening.in_variant.Lts as lts
-use Rattle.container_depths.proofs.ContainerDepths.inc_variant.Reads as inc-variant-reads
-use Rattle.writer_cycle.proofs.opening.inside.Reads as inside-reads
 
--- src/opening.rt:37:21
 inc-variant-requires : tie.Need-inc-variant-requires
 inc-variant-requires c κs = search needs
 
--- src/opening.rt:37:5
 inside-requires : tie.Need-inside-requires
 inside-requires c κs = search needs
 
--- src/opening.rt:34:1
 returns : tie.Need-returns
 returns c = c .inside .ensures _ (c .before .inc-variant .ensures)
 

@@ -1,13 +1,9 @@
 -- `writer_store::ends::back_table` meets its contract. Assumes nothing.
 use Rattle.writer_store.proofs.TableLaws.{BackLeft, back-begin, back-next, back-done, table-past}
 use native.Mathlib.Omega.{arith}
-use mathlib.Core.Path.{refl, sym, _∙_}
+use mathlib.Core.Path.{refl}
 use Rattle.writer_store.proofs.ends.back_table.Statement.{statement}
 use Rattle.writer_store.proofs.ends.back_table.Tie as tie
-use Rattle.writer_store.proofs.ends.back_table.Reads as reads
-use Rattle.writer_store.proofs.ends.back_table.Lts as lts
-use Rattle.writer_store.proofs.ends.end_at.Reads as end-at-reads
-use Rattle.writer_store.proofs.digits.Reads as digits-reads
 
 abbrev Inv-loop : tie.InvT-loop
 Inv-loop out₀ at width ends top count j₀ place₀ out j place = BackLeft width at top count out₀ ends j place out
@@ -15,39 +11,30 @@ Inv-loop out₀ at width ends top count j₀ place₀ out j place = BackLeft wid
 abbrev μ-loop : tie.MeasureT-loop
 μ-loop out₀ at width ends top count j₀ place₀ out j place = j
 
--- src/ends.rt:128:9
 returns : tie.Need-returns Inv-loop μ-loop
 returns c = table-past _ _ _ _ _ _ _ (c .if1 .taken)
 
--- src/ends.rt:132:5
 loop-holds : tie.Need-loop-holds Inv-loop μ-loop
 loop-holds c = back-begin _ _ _ _ _ _
 
--- src/ends.rt:133:13
 sub-j : tie.Need-sub-j Inv-loop μ-loop
 sub-j c = omega arith
 
--- src/ends.rt:134:37
 add-end-at : tie.Need-add-end-at Inv-loop μ-loop
 add-end-at c = omega (arith, c .before .before .loop .inv .few, c .before .before .before .before .before .before .pre)
 
--- src/ends.rt:134:13
 end-at-requires : tie.Need-end-at-requires Inv-loop μ-loop
 end-at-requires c κs = omega (arith, c .before .before .loop .inv .few, c .before .before .before .before .before .before .pre)
 
--- src/ends.rt:135:9
 digits-requires : tie.Need-digits-requires Inv-loop μ-loop
 digits-requires c κs = omega (arith, c .before .before .before .before .loop .inv .few, c .before .before .before .before .loop .inv .near, c .before .before .before .before .before .before .before .before .pre)
 
--- src/ends.rt:136:17
 add-place : tie.Need-add-place Inv-loop μ-loop
 add-place c = omega (arith, c .before .before .before .before .before .before .before .loop .inv .few, c .before .before .before .before .before .before .before .loop .inv .near, c .before .before .before .before .before .before .before .before .before .before .before .pre)
 
--- src/ends.rt:132:5
 loop-less : tie.Need-loop-less Inv-loop μ-loop
 loop-less c = omega arith
 
--- src/ends.rt:132:5
 loop-again : tie.Need-loop-again Inv-loop μ-loop
 loop-again c =
     let at-digits = c .before .before in
@@ -56,11 +43,9 @@ loop-again c =
     let start = at-loop .before .before .before .before in
     back-next (at-loop .loop .inv) _ _ _ (omega arith) refl (at-end-at .end-at .ensures) (at-digits .digits .ensures) (start .pre .1)
 
--- src/ends.rt:123:1
 same-length : tie.Need-same-length Inv-loop μ-loop
 same-length c = c .before .loop .inv .same
 
--- src/ends.rt:123:1
 returns-2 : tie.Need-returns-2 Inv-loop μ-loop
 returns-2 c = back-done (c .before .loop .inv) (λ h. omega arith)
 

@@ -1,80 +1,59 @@
 -- `writer_store::ends::end_at` meets its contract. Assumes nothing.
 use Rattle.writer_store.proofs.EndLaws.{look-near, look-far}
 use native.Mathlib.Omega.{arith}
-use mathlib.Core.Path.{refl, sym, _∙_}
+use mathlib.Core.Path.{refl}
 use borrow.Author.Needs.{needs}
 use Rattle.writer_store.proofs.ends.end_at.Statement.{statement}
 use Rattle.writer_store.proofs.ends.end_at.Tie as tie
-use Rattle.writer_store.proofs.ends.end_at.Reads as reads
-use Rattle.writer_store.proofs.ends.end_at.Lts as lts
-use Rattle.writer_store.proofs.ends.wide.Reads as wide-reads
-use Rattle.writer_store.proofs.ends.wide_byte.Reads as wide-byte-reads
 
--- src/ends.rt:40:13
 returns : tie.Need-returns
 returns c = search needs
 
--- src/ends.rt:42:21
 mul-wide : tie.Need-mul-wide
 mul-wide c = search needs
 
--- src/ends.rt:42:21
 shared-slice-read-wide : tie.Need-shared-slice-read-wide
 shared-slice-read-wide c = search needs
 
--- src/ends.rt:42:9
 wide-requires : tie.Need-wide-requires
 wide-requires c κs = search needs
 
--- src/ends.rt:42:9
 returns-2 : tie.Need-returns-2
 returns-2 c = look-near _ _ _ _ (c .before .before .before .if1 .taken) (c .wide .ensures .0) (c .wide .ensures .1)
 
--- src/ends.rt:44:21
 sub-back : tie.Need-sub-back
 sub-back c = search needs
 
--- src/ends.rt:44:16
 mul-back : tie.Need-mul-back
 mul-back c = search needs
 
--- src/ends.rt:46:9
 returns-3 : tie.Need-returns-3
 returns-3 c = search needs
 
--- src/ends.rt:48:14
 sub-at : tie.Need-sub-at
 sub-at c = search needs
 
--- src/ends.rt:49:15
 shared-slice-read-wide-byte : tie.Need-shared-slice-read-wide-byte
 shared-slice-read-wide-byte c = search needs
 
--- src/ends.rt:49:5
 wide-byte-requires : tie.Need-wide-byte-requires
 wide-byte-requires c κs = search needs
 
--- src/ends.rt:49:46
 add-wide-byte : tie.Need-add-wide-byte
 add-wide-byte c = search needs
 
--- src/ends.rt:49:42
 shared-slice-read-wide-byte-2 : tie.Need-shared-slice-read-wide-byte-2
 shared-slice-read-wide-byte-2 c = search needs
 
--- src/ends.rt:49:32
 wide-byte-requires-2 : tie.Need-wide-byte-requires-2
 wide-byte-requires-2 c κs = search needs
 
--- src/ends.rt:49:26
 mul-result : tie.Need-mul-result
 mul-result c = search needs
 
--- src/ends.rt:49:5
 add-result : tie.Need-add-result
 add-result c = search needs
 
--- src/ends.rt:34:1
 returns-4 : tie.Need-returns-4
 returns-4 c = look-far _ _ _ _ _ _ (omega arith) refl (c .before .before .wide-byte .ensures .0) (c .wide-byte2 .ensures .0) (c .before .before .wide-byte .ensures .1) (c .wide-byte2 .ensures .1)
 

@@ -4,36 +4,25 @@ use native.Mathlib.Omega.{arith}
 use borrow.Author.Needs.{needs}
 use Rattle.writer_store.proofs.ends.keep.Statement.{statement}
 use Rattle.writer_store.proofs.ends.keep.Tie as tie
-use Rattle.writer_store.proofs.ends.keep.Reads as reads
-use Rattle.writer_store.proofs.ends.keep.Lts as lts
-use Rattle.writer_store.proofs.ends.put_end.Reads as put-end-reads
-use Rattle.writer_store.proofs.add.Reads as add-reads
 
--- src/ends.rt:85:9
 returns : tie.Need-returns
 returns c = rw (c .if1 .taken) (kept-not _ _ _ _ _)
 
--- src/ends.rt:87:24
 add-put-end : tie.Need-add-put-end
 add-put-end c = search needs
 
--- src/ends.rt:87:5
 put-end-requires : tie.Need-put-end-requires
 put-end-requires c κs = search needs
 
--- src/ends.rt:88:5
 add-requires : tie.Need-add-requires
 add-requires c κs = (omega (arith, c .before .before .before .before .before .before .before .before .before .before .pre), omega arith)
 
--- src/ends.rt:73:1
 same-length : tie.Need-same-length
 same-length c = search needs
 
--- src/ends.rt:73:1
 same-length-2 : tie.Need-same-length-2
 same-length-2 c = search needs
 
--- src/ends.rt:73:1
 returns-2 : tie.Need-returns-2
 returns-2 c = kept-one _ _ _ _ _ _ _ _ _ (c .before .before .before .before .before .before .before .before .if1 .left) (c .before .before .before .before .before .put-end .ensures) (c .add .ensures)
 

@@ -2,80 +2,59 @@
 use lib.ListN.{length-set}
 use Rattle.writer_store.proofs.EndLaws.{put-near, put-far}
 use native.Mathlib.Omega.{arith}
-use mathlib.Core.Path.{refl, sym, _∙_}
+use mathlib.Core.Path.{refl}
 use borrow.Author.Needs.{needs}
 use Rattle.writer_store.proofs.ends.put_end.Statement.{statement}
 use Rattle.writer_store.proofs.ends.put_end.Tie as tie
-use Rattle.writer_store.proofs.ends.put_end.Reads as reads
-use Rattle.writer_store.proofs.ends.put_end.Lts as lts
-use Rattle.writer_store.proofs.ends.half.Reads as half-reads
-use Rattle.writer_store.proofs.low.Reads as low-reads
 
--- src/ends.rt:59:23
 half-requires : tie.Need-half-requires
 half-requires c κs = search needs
 
--- src/ends.rt:59:13
 mul-ends : tie.Need-mul-ends
 mul-ends c = search needs
 
--- src/ends.rt:59:13
 slice-write-ends : tie.Need-slice-write-ends
 slice-write-ends c = search needs
 
--- src/ends.rt:61:9
 same-length : tie.Need-same-length
 same-length c = search needs
 
--- src/ends.rt:61:9
 returns : tie.Need-returns
 returns c = put-near _ _ _ _ _ (c .before .before .if1 .taken) (rw (c .half .ensures))
 
--- src/ends.rt:61:9
 returns-2 : tie.Need-returns-2
 returns-2 c = search needs
 
--- src/ends.rt:63:21
 sub-back : tie.Need-sub-back
 sub-back c = search needs
 
--- src/ends.rt:63:16
 mul-back : tie.Need-mul-back
 mul-back c = search needs
 
--- src/ends.rt:65:9
 returns-3 : tie.Need-returns-3
 returns-3 c = search needs
 
--- src/ends.rt:67:14
 sub-at : tie.Need-sub-at
 sub-at c = search needs
 
--- src/ends.rt:68:15
 low-requires : tie.Need-low-requires
 low-requires c κs = search needs
 
--- src/ends.rt:68:5
 slice-write-out : tie.Need-slice-write-out
 slice-write-out c = search needs
 
--- src/ends.rt:69:19
 low-requires-2 : tie.Need-low-requires-2
 low-requires-2 c κs = search needs
 
--- src/ends.rt:69:9
 add-out : tie.Need-add-out
 add-out c = search needs
 
--- src/ends.rt:69:5
 slice-write-out-2 : tie.Need-slice-write-out-2
 slice-write-out-2 c = simp length-set (omega arith)
 
--- src/ends.rt:53:1
 same-length-2 : tie.Need-same-length-2
 same-length-2 c = search needs
 
--- src/ends.rt:53:1
 returns-4 : tie.Need-returns-4
 returns-4 c = put-far _ _ _ _ _ _ _ (omega arith) (omega arith) refl (c .before .low .ensures) (c .low2 .ensures) _ refl
 

@@ -6,142 +6,103 @@ use lib.ListN.{length-set}
 use Rattle.writer_store.proofs.TableLaws.{swapped, swapped-far}
 use Rattle.writer_store.proofs.ends.swap_ends.Statement.{statement}
 use Rattle.writer_store.proofs.ends.swap_ends.Tie as tie
-use Rattle.writer_store.proofs.ends.swap_ends.Reads as reads
-use Rattle.writer_store.proofs.ends.swap_ends.Lts as lts
-use Rattle.writer_store.proofs.ends.end_at.Reads as end-at-reads
-use Rattle.writer_store.proofs.ends.put_end.Reads as put-end-reads
-use Rattle.writer_store.proofs.ends.wide_byte.Reads as wide-byte-reads
-use Rattle.writer_store.proofs.low.Reads as low-reads
 
--- src/ends.rt:111:25
 sub-back : tie.Need-sub-back
 sub-back c = search needs
 
--- src/ends.rt:111:20
 mul-back : tie.Need-mul-back
 mul-back c = search needs
 
--- src/ends.rt:113:13
 returns : tie.Need-returns
 returns c = search needs
 
--- src/ends.rt:115:35
 sub-at : tie.Need-sub-at
 sub-at c = search needs
 
--- src/ends.rt:115:30
 mul-at : tie.Need-mul-at
 mul-at c = search needs
 
--- src/ends.rt:115:18
 sub-at-2 : tie.Need-sub-at-2
 sub-at-2 c = search needs
 
--- src/ends.rt:116:18
 sub-to : tie.Need-sub-to
 sub-to c = search needs
 
--- src/ends.rt:117:31
 slice-read-wide-byte : tie.Need-slice-read-wide-byte
 slice-read-wide-byte c = search needs
 
--- src/ends.rt:117:21
 wide-byte-requires : tie.Need-wide-byte-requires
 wide-byte-requires c κs = search needs
 
--- src/ends.rt:117:62
 add-wide-byte : tie.Need-add-wide-byte
 add-wide-byte c = search needs
 
--- src/ends.rt:117:58
 slice-read-wide-byte-2 : tie.Need-slice-read-wide-byte-2
 slice-read-wide-byte-2 c = search needs
 
--- src/ends.rt:117:48
 wide-byte-requires-2 : tie.Need-wide-byte-requires-2
 wide-byte-requires-2 c κs = search needs
 
--- src/ends.rt:117:42
 mul-first : tie.Need-mul-first
 mul-first c = search needs
 
--- src/ends.rt:117:21
 add-first : tie.Need-add-first
 add-first c = search needs
 
--- src/ends.rt:118:30
 slice-read-wide-byte-3 : tie.Need-slice-read-wide-byte-3
 slice-read-wide-byte-3 c = search needs
 
--- src/ends.rt:118:20
 wide-byte-requires-3 : tie.Need-wide-byte-requires-3
 wide-byte-requires-3 c κs = search needs
 
--- src/ends.rt:118:61
 add-wide-byte-2 : tie.Need-add-wide-byte-2
 add-wide-byte-2 c = search needs
 
--- src/ends.rt:118:57
 slice-read-wide-byte-4 : tie.Need-slice-read-wide-byte-4
 slice-read-wide-byte-4 c = search needs
 
--- src/ends.rt:118:47
 wide-byte-requires-4 : tie.Need-wide-byte-requires-4
 wide-byte-requires-4 c κs = search needs
 
--- src/ends.rt:118:41
 mul-last : tie.Need-mul-last
 mul-last c = search needs
 
--- src/ends.rt:118:20
 add-last : tie.Need-add-last
 add-last c = search needs
 
--- src/ends.rt:119:19
 low-requires : tie.Need-low-requires
 low-requires c κs = search needs
 
--- src/ends.rt:119:9
 slice-write-out : tie.Need-slice-write-out
 slice-write-out c = search needs
 
--- src/ends.rt:120:23
 low-requires-2 : tie.Need-low-requires-2
 low-requires-2 c κs = search needs
 
--- src/ends.rt:120:13
 add-out : tie.Need-add-out
 add-out c = search needs
 
--- src/ends.rt:120:9
 slice-write-out-2 : tie.Need-slice-write-out-2
 slice-write-out-2 c = simp length-set (omega arith)
 
--- src/ends.rt:121:19
 low-requires-3 : tie.Need-low-requires-3
 low-requires-3 c κs = search needs
 
--- src/ends.rt:121:9
 slice-write-out-3 : tie.Need-slice-write-out-3
 slice-write-out-3 c = simp length-set (omega arith)
 
--- src/ends.rt:122:23
 low-requires-4 : tie.Need-low-requires-4
 low-requires-4 c κs = search needs
 
--- src/ends.rt:122:13
 add-out-2 : tie.Need-add-out-2
 add-out-2 c = search needs
 
--- src/ends.rt:122:9
 slice-write-out-4 : tie.Need-slice-write-out-4
 slice-write-out-4 c = simp length-set (omega arith)
 
--- src/ends.rt:123:9
 same-length : tie.Need-same-length
 same-length c = search needs
 
--- src/ends.rt:123:9
 returns-2 : tie.Need-returns-2
 returns-2 c =
     swapped-far _ _ _ _ _ _ _ _ _ _ _ _ _ _ _ _ _ (omega arith) (omega arith) (omega arith) refl refl
@@ -155,31 +116,24 @@ returns-2 c =
     (c .before .before .before .before .wide-byte4 .ensures .1)
     refl refl (c .before .before .before .low .ensures) (c .before .before .low2 .ensures) (c .before .low3 .ensures) (c .low4 .ensures) refl
 
--- src/ends.rt:125:9
 end-at-requires : tie.Need-end-at-requires
 end-at-requires c κs = search needs
 
--- src/ends.rt:126:9
 end-at-requires-2 : tie.Need-end-at-requires-2
 end-at-requires-2 c κs = search needs
 
--- src/ends.rt:127:5
 put-end-requires : tie.Need-put-end-requires
 put-end-requires c κs = search needs
 
--- src/ends.rt:128:5
 put-end-requires-2 : tie.Need-put-end-requires-2
 put-end-requires-2 c κs = search needs
 
--- src/ends.rt:106:1
 same-length-2 : tie.Need-same-length-2
 same-length-2 c = search needs
 
--- src/ends.rt:106:1
 same-length-3 : tie.Need-same-length-3
 same-length-3 c = search needs
 
--- src/ends.rt:106:1
 returns-3 : tie.Need-returns-3
 returns-3 c =
     let at-put-end2 = c .before .before .before .before in

@@ -4,56 +4,40 @@ use native.Mathlib.Omega.{arith}
 use borrow.Author.Needs.{needs}
 use Rattle.writer_store.proofs.ends.table.Statement.{statement}
 use Rattle.writer_store.proofs.ends.table.Tie as tie
-use Rattle.writer_store.proofs.ends.table.Reads as reads
-use Rattle.writer_store.proofs.ends.table.Lts as lts
-use Rattle.writer_store.proofs.ends.back_table.Reads as back-table-reads
-use Rattle.writer_store.proofs.ends.turn_ends.Reads as turn-ends-reads
 
--- src/ends.rt:185:9
 returns : tie.Need-returns
 returns c = table-past _ _ _ _ _ _ _ (c .if1 .taken)
 
--- src/ends.rt:187:8
 add-if2 : tie.Need-add-if2
 add-if2 c = search needs
 
--- src/ends.rt:188:12
 add-if3 : tie.Need-add-if3
 add-if3 c = search needs
 
--- src/ends.rt:189:13
 front-table-requires : tie.Need-front-table-requires
 front-table-requires c κs = search needs
 
--- src/ends.rt:190:13
 same-length : tie.Need-same-length
 same-length c = search needs
 
--- src/ends.rt:190:13
 same-length-2 : tie.Need-same-length-2
 same-length-2 c = search needs
 
--- src/ends.rt:190:13
 returns-2 : tie.Need-returns-2
 returns-2 c = c .before .before .front-table .ensures
 
--- src/ends.rt:193:5
 turn-ends-requires : tie.Need-turn-ends-requires
 turn-ends-requires c κs = search needs
 
--- src/ends.rt:194:5
 back-table-requires : tie.Need-back-table-requires
 back-table-requires c κs = search needs
 
--- src/ends.rt:180:1
 same-length-3 : tie.Need-same-length-3
 same-length-3 c = search needs
 
--- src/ends.rt:180:1
 same-length-4 : tie.Need-same-length-4
 same-length-4 c = search needs
 
--- src/ends.rt:180:1
 returns-3 : tie.Need-returns-3
 returns-3 c = table-turned (c .before .before .before .before .before .before .before .before .before .turn-ends .ensures) (omega arith) (omega arith) (c .before .before .back-table .ensures)
 

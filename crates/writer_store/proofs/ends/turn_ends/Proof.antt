@@ -1,14 +1,9 @@
 -- `writer_store::ends::turn_ends` meets its contract. Assumes nothing.
 use Rattle.writer_store.proofs.TableLaws.{TurnLeft, turn-begin, turn-next, turn-done}
 use native.Mathlib.Omega.{arith}
-use mathlib.Core.Path.{refl, sym, _∙_}
+use mathlib.Core.Path.{refl}
 use Rattle.writer_store.proofs.ends.turn_ends.Statement.{statement}
 use Rattle.writer_store.proofs.ends.turn_ends.Tie as tie
-use Rattle.writer_store.proofs.ends.turn_ends.Reads as reads
-use Rattle.writer_store.proofs.ends.turn_ends.Lts as lts
-use Rattle.writer_store.proofs.ends.end_at.Reads as end-at-reads
-use Rattle.writer_store.proofs.ends.put_end.Reads as put-end-reads
-use Rattle.writer_store.proofs.ends.swap_ends.Reads as swap-ends-reads
 
 abbrev Inv-loop : tie.InvT-loop
 Inv-loop out₀ ends₀ top count i₀ j₀ out ends i j = TurnLeft top count out₀ ends₀ i j out ends
@@ -16,57 +11,45 @@ Inv-loop out₀ ends₀ top count i₀ j₀ out ends i j = TurnLeft top count ou
 abbrev μ-loop : tie.MeasureT-loop
 μ-loop out₀ ends₀ top count i₀ j₀ out ends i j = j
 
--- src/ends.rt:140:5
 loop-holds : tie.Need-loop-holds Inv-loop μ-loop
 loop-holds c = turn-begin _ _ _ _
 
--- src/ends.rt:140:11
 add-loop : tie.Need-add-loop Inv-loop μ-loop
 add-loop c = omega (arith, c .loop .inv .sum-is)
 
--- src/ends.rt:141:13
 sub-j : tie.Need-sub-j Inv-loop μ-loop
 sub-j c = omega arith
 
--- src/ends.rt:142:30
 add-swap-ends : tie.Need-add-swap-ends Inv-loop μ-loop
 add-swap-ends c = omega (arith, c .before .before .before .loop .inv .sum-is, c .before .before .before .before .before .before .pre)
 
--- src/ends.rt:142:39
 add-swap-ends-2 : tie.Need-add-swap-ends-2 Inv-loop μ-loop
 add-swap-ends-2 c = omega (arith, c .before .before .before .loop .inv .sum-is, c .before .before .before .before .before .before .pre)
 
--- src/ends.rt:142:9
 swap-ends-requires : tie.Need-swap-ends-requires Inv-loop μ-loop
 swap-ends-requires c κs = (omega arith, omega (arith, c .before .before .before .loop .inv .sum-is, c .before .before .before .before .before .before .pre))
 
--- src/ends.rt:143:13
 add-i : tie.Need-add-i Inv-loop μ-loop
 add-i c =
     let at-loop = c .before .before .before .before .before .before .before .before in
     let start = c .before .before .before .before .before .before .before .before .before .before .before in
     omega (arith, at-loop .loop .inv .sum-is, start .pre)
 
--- src/ends.rt:140:5
 loop-less : tie.Need-loop-less Inv-loop μ-loop
 loop-less c = omega arith
 
--- src/ends.rt:140:5
 loop-again : tie.Need-loop-again Inv-loop μ-loop
 loop-again c =
     let at-swap-ends = c .before .before .before .before in
     let at-loop = at-swap-ends .before .before .before .before in
     turn-next (at-loop .loop .inv) _ _ _ (omega arith) refl (at-swap-ends .swap-ends .ensures) (omega arith) (omega arith)
 
--- src/ends.rt:134:1
 same-length : tie.Need-same-length Inv-loop μ-loop
 same-length c = c .before .loop .inv .same
 
--- src/ends.rt:134:1
 same-length-2 : tie.Need-same-length-2 Inv-loop μ-loop
 same-length-2 c = c .before .loop .inv .sames
 
--- src/ends.rt:134:1
 returns : tie.Need-returns Inv-loop μ-loop
 returns c = turn-done (c .before .loop .inv) (λ h. omega arith)
 

@@ -4,30 +4,22 @@ use native.Mathlib.Omega.{arith}
 use borrow.Author.Needs.{needs}
 use Rattle.writer_store.proofs.ends.width.Statement.{statement}
 use Rattle.writer_store.proofs.ends.width.Tie as tie
-use Rattle.writer_store.proofs.ends.width.Reads as reads
-use Rattle.writer_store.proofs.ends.width.Lts as lts
 
--- src/ends.rt:96:8
 add-if1 : tie.Need-add-if1
 add-if1 c = search needs
 
--- src/ends.rt:97:9
 returns : tie.Need-returns
 returns c = (width-1 _ _ (omega arith), omega arith, omega arith)
 
--- src/ends.rt:99:15
 mul-if2 : tie.Need-mul-if2
 mul-if2 c = search needs
 
--- src/ends.rt:99:8
 add-if2 : tie.Need-add-if2
 add-if2 c = search needs
 
--- src/ends.rt:100:9
 returns-2 : tie.Need-returns-2
 returns-2 c = (width-2 _ _ (omega arith) (omega arith), omega arith, omega arith)
 
--- src/ends.rt:92:1
 returns-3 : tie.Need-returns-3
 returns-3 c = (width-4 _ _ (omega arith) (omega arith) (omega arith) (omega arith), omega arith, omega arith)
 

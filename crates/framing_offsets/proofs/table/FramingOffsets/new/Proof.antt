@@ -38,7 +38,7 @@ use Rattle.framing_offset_size.specs.declared.FramingOffsetSize.{FramingOffsetS
 use Rattle.framing_offset_size.proofs.FramingOffsetSize as S
 use Rattle.framing_offset_size.proofs.FramingOffsetSize.Laws as S′
 use Rattle.framing_offsets.specs.declared.table.FramingOffsets.{FramingOffsets}
-use Rattle.framing_offsets.proofs.HeldWalk.{B, sliceAt, sliceOf, sizeOf, D, L, machOf, made-is}
+use Rattle.framing_offsets.proofs.HeldWalk.{sliceAt, sliceOf, sizeOf, D, L, machOf, made-is}
 use Rattle.framing_offsets.proofs.table.FramingOffsets.new.Key.{name as #new}
 use Rattle.framing_offsets.proofs.table.FramingOffsets.new as new
 use Rattle.framing_offsets.proofs.table.FramingOffsets.new.Statement as stated

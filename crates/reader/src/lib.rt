@@ -58,13 +58,14 @@ fn is_walked(signature: &[u8]) -> bool {
     signature[length - 1] == b'v'
 }
 
-// Whether a frame is read in one walk: one of middling length, whose events are likely to be few enough to hold.
+// Whether a frame is read in one walk: one of middling length, or a short one of a type that nests, whose events are likely to be few enough to
+// hold.
 fn in_one_walk(signature: &[u8], length: usize) -> bool {
-    if length < 64 {
-        return false;
-    }
     if 768 < length {
         return false;
+    }
+    if length < 64 {
+        return 8 <= signature.len();
     }
     is_walked(signature)
 }

@@ -231,12 +231,13 @@ def marked(value, bar, form):
 
 
 def print_worst(programs, title, rows, characters):
-    """The type's characters count in no bar."""
+    """The bar is that of reading, and the type's characters count in none."""
+    bar = measure.EACH_BAR if programs.sought == "reading" and not characters else float("inf")
     heads = ["Type", "frame", "bytes", "events", "refusal", *CALLS[programs.sought], "each"] + ["Rust recording", "read / Rust"] * bool(programs.rust)
     table = []
     for cost, what in rows:
         row = ["`%s`" % short(cost.type)[:100], what] + [format(number, ",") for number in (len(cost.frame), cost.events, cost.refusal, *cost.calls)]
-        row.append(marked(each(cost, characters), float("inf") if characters else measure.EACH_BAR, "%.0f"))
+        row.append(marked(each(cost, characters), bar, "%.0f"))
         if programs.rust:
             theirs = recording(programs, cost)
             row += [format(theirs, ","), marked(cost.calls[1] / theirs, measure.READ_BAR, "%.2f")]

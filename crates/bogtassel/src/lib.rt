@@ -1,4 +1,6 @@
 // The calls as C sees them; include/bogtassel.h declares them.
+#![tactic(auto)]
+
 ghost use Rattle.std.specs.Prelude.{◌≡◌};
 ghost use Rattle.meaning.specs.Calls.{counts, size as size_of, read as read_of, read_slice};
 ghost use Rattle.meaning_writing.specs.Writing.{write_answer, write as writeOf, write_slice};

@@ -1,4 +1,6 @@
 // The number of a width that stands at a place, in either byte order: the first byte is the highest where `big` says so.
+#![tactic(auto)]
+
 ghost use Rattle.std.specs.Prelude.{◌≡◌, false, ◌+◌, ◌≤◌, ◌<◌, length};
 ghost use Rattle.meaning.specs.Numbers.{spelled};
 ghost use Rattle.byte_order.specs.Standing.{number_at, number_of};

@@ -1,4 +1,6 @@
 // How many containers are open, and the limits on them. Ports container_depths.rs.
+#![tactic(auto)]
+
 ghost use Rattle.std.specs.Prelude.{◌≡◌, ◌+◌, ◌-◌, ◌<◌};
 ghost use Rattle.meaning.specs.Depths.{structure, array, variant, maybe, depths, none_open, depth_refusal, opened, closed};
 ghost use Rattle.container_depths.specs.Opening.{depths_of, Raises};
@@ -6,7 +8,7 @@ ghost use Rattle.container_depths.specs.Opening.{depths_of, Raises};
 use meaning::limits::{MOST_ARRAYS, MOST_CONTAINERS, MOST_STRUCTURES};
 use meaning::refusals::{ARRAYS_TOO_DEEP, CONTAINERS_TOO_DEEP, STRUCTURES_TOO_DEEP};
 
-#[derive(Drop)]
+#[derive(Clone, Copy)]
 pub struct ContainerDepths {
     pub structure: u8,
     pub array: u8,
@@ -15,7 +17,7 @@ pub struct ContainerDepths {
 }
 
 // A refusal's number with the record as it was, or 0 with the record raised.
-#[derive(Drop)]
+#[derive(Clone, Copy)]
 pub struct Raised {
     pub refusal: u8,
     pub depths: ContainerDepths,

@@ -1,4 +1,6 @@
 // Padding, parts, numbers and bools, read where they stand. Ports de.rs.
+#![tactic(auto)]
+
 ghost use Rattle.std.specs.Prelude.{◌≡◌, ◌+◌, ◌≤◌, leb, length, drop};
 ghost use Rattle.meaning.specs.Padding.{leading_zeros};
 ghost use Rattle.meaning.specs.Parts.{part_at};

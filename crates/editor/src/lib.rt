@@ -1,4 +1,6 @@
 // Editing a reading in a frame: `edit`. The strict test goes first; `editor_change` has what follows in a frame that passes it.
+#![tactic(auto)]
+
 ghost use Rattle.std.specs.Prelude.{◌≡◌};
 ghost use Rattle.meaning_writing.specs.Editing.{edit as editOf, edit_buffer};
 ghost use Rattle.editor_steps.specs.Walks.{new_of};

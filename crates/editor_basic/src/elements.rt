@@ -11,7 +11,7 @@ use utils::padding_for_n_bytes;
 
 // The elements from one of them on: their alignment, how wide their offsets are, how many they are, where their offsets begin, and where
 // the one before them ended.
-#[derive(Drop)]
+#[derive(Clone, Copy)]
 pub struct Elements {
     pub alignment: usize,
     pub size: FramingOffsetSize,
@@ -21,7 +21,7 @@ pub struct Elements {
 }
 
 // Where a child begins behind its padding, and where it ends.
-#[derive(Drop)]
+#[derive(Clone, Copy)]
 pub struct Child {
     pub start: usize,
     pub end: usize,

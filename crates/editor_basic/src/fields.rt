@@ -9,7 +9,7 @@ use strict_sizes::sizes::extent_in;
 
 // The fields from one of them on: the place of its type, where the one before it ended, where its offset ends if it has one, where the
 // offsets begin, and how wide they are.
-#[derive(Drop)]
+#[derive(Clone, Copy)]
 pub struct Row {
     pub at: usize,
     pub place: usize,
@@ -20,7 +20,7 @@ pub struct Row {
 
 // A field: whether it is the last, how it lies among others, where it begins behind its padding and where it ends; the place of the next
 // one's type, and where the offsets end that are left.
-#[derive(Drop)]
+#[derive(Clone, Copy)]
 pub struct Field {
     pub last: bool,
     pub fixed: bool,

@@ -1,6 +1,8 @@
 // The edit of a frame that is a written form. One walk finds the reading, judges what it is put as, and measures the new frame, over an
 // output of no length; so a refusal leaves the buffer as it was. Then the same walk stores, over the buffer's tail from the reading on,
 // and what is left of a longer old frame becomes zeros.
+#![tactic(auto)]
+
 ghost use Rattle.std.specs.Prelude.{◌≡◌, ◌≤◌, length as length_of};
 ghost use Rattle.meaning_writing.specs.Editing.{length_refusal};
 ghost use Rattle.editor_steps.specs.Walks.{new_of};
@@ -18,14 +20,14 @@ use signature::shapes::shape_in;
 const SMALL: usize = 1024;
 
 // What an edit answers: the refusal's number, 0 if done, and the new frame's length.
-#[derive(Drop)]
+#[derive(Clone, Copy)]
 pub struct Edited {
     pub refusal: u8,
     pub length: usize,
 }
 
 // A reading that was found: its number and what it becomes; where it stands, and how long the new frame is.
-#[derive(Drop)]
+#[derive(Clone, Copy)]
 pub(crate) struct Target {
     number: usize,
     aim: Aim,

@@ -3,14 +3,14 @@ ghost use Rattle.std.specs.Prelude.{◌≡◌};
 ghost use Rattle.editor_steps.specs.Closing.{counted_as, refused_as, edited_as, edits as editsAs};
 
 // What a reading becomes: nothing, or a number as its bits.
-#[derive(Drop)]
+#[derive(Clone, Copy)]
 pub enum New {
     Nothing,
     Number { bits: usize },
 }
 
 // The byte order, and what the reading becomes.
-#[derive(Drop)]
+#[derive(Clone, Copy)]
 pub struct Aim {
     pub big: bool,
     pub new: New,
@@ -18,7 +18,7 @@ pub struct Aim {
 
 // Whether the reading is among those of the bytes: else `length` is how many they have. A refusal (17, 12), or where the reading stands in the
 // frame and how long the bytes are now.
-#[derive(Drop)]
+#[derive(Clone, Copy)]
 pub struct Walked {
     pub found: bool,
     pub refusal: u8,

@@ -15,14 +15,14 @@ use strict_basic::basic::extent_of;
 use strict_ends::{aligned, field_end, one_more};
 
 // The offsets of a structure: where they begin, and how wide they are.
-#[derive(Drop)]
+#[derive(Clone, Copy)]
 pub struct Table {
     pub body: usize,
     pub width: usize,
 }
 
 // A dictionary's entry: where its value begins, where its offsets do, and how wide they are.
-#[derive(Drop)]
+#[derive(Clone, Copy)]
 pub struct Entry {
     pub start: usize,
     pub body: usize,

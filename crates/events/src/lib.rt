@@ -1,4 +1,6 @@
 // Events: three numbers for each in a lent slice, where there is room; and the text of one.
+#![tactic(auto)]
+
 ghost use Rattle.std.specs.Prelude.{◌≡◌};
 ghost use Rattle.meaning.specs.Events.{event};
 ghost use Rattle.meaning.specs.Parts.{part_at};

@@ -1,4 +1,6 @@
 // The widths of framing offsets. Offsets are little-endian in either byte order. Ports framing_offset_size.rs.
+#![tactic(auto)]
+
 ghost use Rattle.std.specs.Prelude.{◌≡◌, false, ◌+◌, ◌*◌, ◌/◌, leb};
 ghost use Rattle.meaning.specs.Offsets.{largest, encoded_width};
 ghost use Rattle.byte_order.specs.Standing.{number_at};
@@ -8,7 +10,7 @@ use byte_order::{byte_at, eight_at, four_at, two_at};
 use meaning::refusals::{OUT_OF_BOUNDS, ROOM_TOO_SMALL};
 use utils::Checked;
 
-#[derive(Drop)]
+#[derive(Clone, Copy)]
 pub enum FramingOffsetSize {
     U8,
     U16,
@@ -17,7 +19,7 @@ pub enum FramingOffsetSize {
 }
 
 // A width that fits, or none: the refusal 2.
-#[derive(Drop)]
+#[derive(Clone, Copy)]
 pub enum Fitting {
     Size(FramingOffsetSize),
     Nothing,

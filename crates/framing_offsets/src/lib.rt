@@ -1,4 +1,6 @@
 // The table of framing offsets at the end of a container, read where it stands. Ports framing_offsets.rs.
+#![tactic(auto)]
+
 pub mod table;
 
 ghost use Rattle.std.specs.Prelude.{◌≡◌};
@@ -12,7 +14,7 @@ use meaning::refusals::OUT_OF_BOUNDS;
 use utils::Checked;
 
 // Where the table begins, how many offsets it has, and how wide they are.
-#[derive(Drop)]
+#[derive(Clone, Copy)]
 pub struct OffsetTable {
     pub start: usize,
     pub count: usize,
@@ -20,7 +22,7 @@ pub struct OffsetTable {
 }
 
 // The refusal's number, 0 where there is none, and the table, an empty one where it is refused.
-#[derive(Drop)]
+#[derive(Clone, Copy)]
 pub struct EncodedArray {
     pub refusal: u8,
     pub offsets: OffsetTable,

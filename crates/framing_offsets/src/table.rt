@@ -11,7 +11,7 @@ use meaning::refusals::OUT_OF_BOUNDS;
 use utils::Checked;
 
 // The table's bytes, from its first offset to its last, and how wide an offset is.
-#[derive(Drop)]
+#[derive(Clone, Copy)]
 pub struct FramingOffsets<'a> {
     pub table: &'a [u8],
     pub size: FramingOffsetSize,

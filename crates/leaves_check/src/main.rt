@@ -1,6 +1,8 @@
 // Answers calls of the leaves, one a line: the leaf's name and its arguments, parted by single blanks. Numbers are decimal, bytes pairs of
 // hexadecimal digits, `-` for none. Each answer begins with the refusal, 0 if there is none. The last line may have no line end; of a
 // line the first 65,536 bytes are looked at.
+#![tactic(auto)]
+
 mod calls;
 mod print;
 mod words;

@@ -1,11 +1,13 @@
 // Lines from blocks, and their words: with `numerals`, what the programs that read and print text share.
+#![tactic(auto)]
+
 ghost use Rattle.std.specs.Prelude.{◌≡◌, ◌≤◌, length, take};
 ghost use Rattle.lines.specs.Lines.{more, stored, Gathers};
 ghost use Rattle.lines.specs.Words.{place, word_at};
 
 // What `gather` did: how many bytes the line has so far, counted to one above what its memory holds; how many bytes of the block it
 // passed; and whether the line ended.
-#[derive(Drop)]
+#[derive(Clone, Copy)]
 pub struct Gathered {
     pub kept: usize,
     pub passed: usize,

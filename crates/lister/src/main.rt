@@ -1,11 +1,13 @@
 // The frame lister. Standard input is a type's line and then lines of hexadecimal, one frame a line; standard output is, for each
 // frame, its number, its refusal, the bytes used and the number of events. What is printed is proved in the crate `listing`; here input
 // is read and output written, block by block.
+#![tactic(auto)]
+
 use libc::{STDERR_FILENO, STDIN_FILENO, STDOUT_FILENO};
 use listing::{State, finish, fresh, list};
 
 // The state behind a block, and whether the output took all that was printed.
-#[derive(Drop)]
+#[derive(Clone, Copy)]
 pub struct Turn {
     state: State,
     open: bool,

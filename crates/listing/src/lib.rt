@@ -1,5 +1,7 @@
 // The frame lister's work: input comes in blocks, and the text to print goes out through a lent slice. The first line is the type,
 // each other line a frame in hexadecimal. Memory is fixed, and a byte costs the same in a line of any length.
+#![tactic(auto)]
+
 ghost use Rattle.std.specs.Prelude.{◌≡◌, ◌+◌, ◌≤◌, length};
 ghost use Rattle.meaning.specs.Calls.{counts};
 ghost use Rattle.numerals.specs.Storing.{Puts};
@@ -16,7 +18,7 @@ use signature_table::judge;
 // Where the input stands. Line 0 is the type; a frame's line has its number, which stays at the largest. `letters` counts the type's
 // bytes, to 257, and `kept` the frame's, to 16,385: one above what the memories hold. `half` is the value of a pair's first digit, 16
 // where none waits. A line is spoilt where a byte of it is no digit.
-#[derive(Drop)]
+#[derive(Clone, Copy)]
 pub struct State {
     pub line: u64,
     pub letters: usize,
@@ -26,7 +28,7 @@ pub struct State {
 }
 
 // What `list` did: the state behind it, how many bytes of the block it passed, and how many of the slice it wrote.
-#[derive(Drop)]
+#[derive(Clone, Copy)]
 pub struct Progress {
     pub state: State,
     pub passed: usize,

@@ -151,7 +151,7 @@ module _ (position : ℕ) where
           fixed_step true f f' gs c (c' ∷ ds) j i e (length (layout j (c ∷ c' ∷ ds)) + p) (length (layout (stop j c) (c' ∷ ds)) + p) x [] (zeros p ++ r) g (h ∙ q) q v
           (both_left (fits c d) (all_fit (c' ∷ ds) d) t) s h1 hx hi
           (simp (length-append, length-replicate) (omega (arith, simp (length-append, length-replicate) at (ap length hl))))
-          (fixed_read (stop j c) (i + length (placed j c)) e p (x ++ placed j c) r (omega arith) (more g' h' v' rs) qs (both_right (fits c d) (all_fit (c' ∷ ds) d) t) (omega arith)
+          (fixed_read (stop j c) (i + length (placed j c)) e p (x ++ placed j c) r (omega arith) (more {f = f'} g' h' v' rs) qs (both_right (fits c d) (all_fit (c' ∷ ds) d) t) (omega arith)
           (layout_shift x (zeros p ++ r) l j c (c' ∷ ds) hl) (simp length-append (omega arith)) (omega arith) he (rw (← length_layout j c (c' ∷ ds)) hp))
           (omega arith)
 

@@ -1,4 +1,6 @@
 // Bytes in hexadecimal and numbers in decimal: with `lines`, what the programs that read and print text share.
+#![tactic(auto)]
+
 ghost use Rattle.std.specs.Prelude.{◌≡◌, true, ◌+◌, ◌*◌, ◌≤◌, length, take, drop};
 ghost use Rattle.std.proofs.Math.Option.{none, some};
 ghost use Rattle.std.proofs.lemmas.List.Edits.{sets};
@@ -7,14 +9,14 @@ ghost use Rattle.numerals.specs.Hexadecimal.{digit as digitOf, has_byte, bytes_o
 ghost use Rattle.numerals.specs.Decimals.{digits, numeral, number_of, understood};
 
 // Whether a text spells bytes, and how many.
-#[derive(Drop)]
+#[derive(Clone, Copy)]
 pub struct Spelt {
     pub understood: bool,
     pub count: usize,
 }
 
 // Whether a text spells a number, and which.
-#[derive(Drop)]
+#[derive(Clone, Copy)]
 pub struct Number {
     pub understood: bool,
     pub value: u64,

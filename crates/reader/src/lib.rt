@@ -1,4 +1,6 @@
 // Reading a frame: `size` and `read`; and the text of an event. A type's shapes are found once a call.
+#![tactic(auto)]
+
 ghost use Rattle.std.specs.Prelude.{◌≡◌, true, ◌≤◌, length};
 ghost use Rattle.std.proofs.Math.Seq.{paste};
 ghost use Rattle.meaning.specs.Calls.{frame_reading, size as size_of, read as read_of, read_slice};

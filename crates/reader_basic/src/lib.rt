@@ -1,4 +1,6 @@
 // The small readers: what stands below the readers that call each other. Here: their answer, and what rides along.
+#![tactic(auto)]
+
 pub mod basic;
 
 ghost use Rattle.std.specs.Prelude.{◌≡◌, ◌+◌, ◌≤◌};
@@ -7,7 +9,7 @@ ghost use Rattle.meaning.specs.Limits.{largest_number};
 use container_depths::ContainerDepths;
 
 // The refusal's number, 0 if done; the bytes used; the number of events.
-#[derive(Drop)]
+#[derive(Clone, Copy)]
 pub struct Answer {
     pub refusal: u8,
     pub used: usize,
@@ -15,7 +17,7 @@ pub struct Answer {
 }
 
 // What rides along: the position of the frame, its byte order, and how many containers are open.
-#[derive(Drop)]
+#[derive(Clone, Copy)]
 pub struct Context {
     pub position: usize,
     pub big: bool,

@@ -1,5 +1,7 @@
 // The readers that call each other as containers nest. Ports gvariant/de.rs, through deserialize_any. Here: a value, and what stands in a
 // container; each kind of container has a module. What is repeated in a container is read in a loop.
+#![tactic(auto)]
+
 mod array;
 mod dictionary;
 mod maybe;

@@ -1,3 +1,5 @@
 // The elements of an array that are all numbers, all readings or all texts, in loops of their own.
+#![tactic(auto)]
+
 pub mod numbers;
 pub mod texts;

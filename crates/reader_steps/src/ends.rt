@@ -15,7 +15,7 @@ use std::num::{wrapping_add_usize, wrapping_sub_usize};
 use utils::Checked;
 
 // Where a child ends by an offset, and the offset's width; or that none stands there.
-#[derive(Drop)]
+#[derive(Clone, Copy)]
 pub struct Ends {
     pub refusal: u8,
     pub child: usize,

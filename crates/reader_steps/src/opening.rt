@@ -10,7 +10,7 @@ use container_depths::ContainerDepths;
 use meaning::refusals::{ARRAYS_TOO_DEEP, CONTAINERS_TOO_DEEP, STRUCTURES_TOO_DEEP};
 
 // A container opened: a refusal, or what rides along inside it.
-#[derive(Drop)]
+#[derive(Clone, Copy)]
 pub struct Inner {
     pub refusal: u8,
     pub ride: usize,

@@ -8,7 +8,7 @@ use replay_text::print::Step;
 use replay_text::{print, words};
 
 // The length of the type, the byte order, the position, and where the bytes stand.
-#[derive(Drop)]
+#[derive(Clone, Copy)]
 struct Question {
     understood: bool,
     signature: usize,

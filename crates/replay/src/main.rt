@@ -1,6 +1,8 @@
 // Answers lines of standard input: frames as the oracle does (`frame`), questions of writing (`write`) and of editing (`edit`). A line's
 // words are parted by single blanks; the last line may have no line end. A line that is not understood, or is longer than 2,097,152 bytes,
 // ends the program with a message.
+#![tactic(auto)]
+
 mod edit;
 mod frame;
 mod write;
@@ -13,7 +15,7 @@ use replay_text::{print, words};
 use std::num::wrapping_add_u64;
 
 // How many bytes of the present line are kept, the number of that line, and whether all lines before it were understood.
-#[derive(Drop)]
+#[derive(Clone, Copy)]
 pub struct Progress {
     kept: usize,
     number: u64,

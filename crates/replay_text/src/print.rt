@@ -4,7 +4,7 @@ ghost use Rattle.std.specs.Prelude.{◌+◌, ◌≤◌, ◌<◌, length};
 use numerals::put_decimal;
 
 // Whether a line was understood, and how many bytes of the block are filled.
-#[derive(Drop)]
+#[derive(Clone, Copy)]
 pub struct Step {
     pub understood: bool,
     pub at: usize,

@@ -5,7 +5,7 @@ use lines::find;
 use numerals::decimal;
 
 // The type and the byte order in front of a question: the length of the type, and where the words behind them stand.
-#[derive(Drop)]
+#[derive(Clone, Copy)]
 pub struct Head {
     pub understood: bool,
     pub signature: usize,
@@ -14,7 +14,7 @@ pub struct Head {
 }
 
 // Whether a word spells bytes, and how many.
-#[derive(Drop)]
+#[derive(Clone, Copy)]
 pub struct Spelt {
     pub understood: bool,
     pub value: usize,

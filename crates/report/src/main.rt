@@ -1,6 +1,8 @@
 // The monthly report: report FIRST LAST < LINES. Standard input is lines of hexadecimal, one frame of type (tamn) a line; standard output
 // is what the lines within the span of seconds say of each sensor. What is counted and printed is proved in the crate `reporting`; here
 // arguments and input are read and output written, block by block.
+#![tactic(auto)]
+
 use libc::{STDERR_FILENO, STDIN_FILENO, STDOUT_FILENO};
 use numerals::{Number, decimal};
 use reporting::print::print;

@@ -8,7 +8,7 @@ use meaning::limits::LONGEST_TYPE;
 
 // The element's shape, or the entry's value's; the entry's key and whether that is fixed; the alignment, and whether it is fixed; the
 // letter of the number that an element is, or holds in a maybe.
-#[derive(Drop)]
+#[derive(Clone, Copy)]
 pub struct Item {
     pub entry: bool,
     pub child: Shape,

@@ -1,5 +1,7 @@
 // The type text, looked at: here what its letters are. `shapes` has what a table says of the type at a place, `items` what an array
 // repeats. `signature_table` judges a text, and fills its table.
+#![tactic(auto)]
+
 pub mod items;
 pub mod shapes;
 
@@ -8,7 +10,7 @@ ghost use Rattle.signature.specs.Places.{letter_at, letter_of, ClosesAt};
 ghost use Rattle.signature.specs.Steps.{key_fixed};
 
 // What a letter of a type text is. A number has its code and its width, a text its code.
-#[derive(Drop)]
+#[derive(Clone, Copy)]
 pub enum Letter {
     End,
     Bad,

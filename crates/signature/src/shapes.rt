@@ -9,7 +9,7 @@ use crate::{Letter, letter_at};
 
 // What a container needs of the type at a place: the place, its first letter, the place behind it (0 where no type begins), its
 // alignment and whether it is fixed.
-#[derive(Drop)]
+#[derive(Clone, Copy)]
 pub struct Shape {
     pub at: usize,
     pub kind: Letter,

@@ -1,12 +1,14 @@
 // Judges each line of standard input, and writes a line for it: 1 for one complete type, 0 for any other text. A line ends in a line
 // end, which is no part of its text; the last one may have none.
+#![tactic(auto)]
+
 ghost use Rattle.std.specs.Prelude.{◌≡◌, ◌≤◌, length};
 
 use lines::{front, gather};
 
 // How many bytes of the present line are counted, and how many of the answer are written. A line keeps no more than 256 of its bytes:
 // a text of so many is no type, whatever stands in it.
-#[derive(Drop)]
+#[derive(Clone, Copy)]
 pub struct Progress {
     kept: usize,
     written: usize,

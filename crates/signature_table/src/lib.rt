@@ -4,6 +4,8 @@
 // `fill_from` goes down the text and on its way back finds each type's shape from the shapes of its children, which stand behind its
 // letter. Each place is found once, and looked at once more by the structure whose field it is; so the whole costs the length of the
 // text, and a frame of the stack for each sixteen characters.
+#![tactic(auto)]
+
 ghost use Rattle.std.specs.Prelude.{◌≡◌, ℕ, ◌+◌, ◌-◌, ◌*◌, ◌%◌, ◌/◌, ◌≤◌, ◌<◌, max, length, set};
 ghost use Rattle.meaning.specs.Limits.{longest_type};
 ghost use Rattle.signature.specs.Places.{is_type, letter_at};

@@ -1,5 +1,7 @@
 // The strict test: is a frame the written form of a value of a type? The walk decides; only a frame that fails it is read, to tell what
 // reading refuses from what reads and is no written form.
+#![tactic(auto)]
+
 ghost use Rattle.std.specs.Prelude.{◌≡◌};
 ghost use Rattle.meaning_writing.specs.IsWritten.{walked_refusal, written_refusal};
 

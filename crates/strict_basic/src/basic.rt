@@ -162,7 +162,7 @@ pub fn readings_written(part: &[u8], rows: Rows, number: usize, room: bool) -> b
 }
 
 // A type text of one letter: whether it is a basic type, and that letter.
-#[derive(Drop)]
+#[derive(Clone, Copy)]
 pub struct Lone {
     pub there: bool,
     pub kind: Letter,

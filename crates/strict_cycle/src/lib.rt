@@ -1,5 +1,7 @@
 // The walk of the strict test: functions that call each other as containers nest. Here: a value, and a child; each kind of container has
 // a module. What is repeated in a container is passed in a loop.
+#![tactic(auto)]
+
 mod array;
 mod dictionary;
 mod maybe;

@@ -1,4 +1,6 @@
 // Where the children of a container begin and end, what stands between them, and the offsets of a container.
+#![tactic(auto)]
+
 ghost use Rattle.std.specs.Prelude.{◌≡◌, true, false, ◌+◌, ◌*◌, ◌≤◌, ◌<◌, eqb, length};
 ghost use Rattle.meaning.specs.Limits.{largest_frame, longest_type};
 ghost use Rattle.meaning.specs.Numbers.{value};
@@ -14,7 +16,7 @@ use framing_offsets::table::{last_in, next_in};
 use utils::padding_for_n_bytes;
 
 // How a child lies among others: its alignment, whether it is fixed in size, and then its size.
-#[derive(Drop)]
+#[derive(Clone, Copy)]
 pub struct Extent {
     pub alignment: usize,
     pub fixed: bool,
@@ -22,7 +24,7 @@ pub struct Extent {
 }
 
 // Where a child begins behind its padding, if it may stand there.
-#[derive(Drop)]
+#[derive(Clone, Copy)]
 pub struct Start {
     pub there: bool,
     pub at: usize,
@@ -30,7 +32,7 @@ pub struct Start {
 
 // The offsets of a container: whether they can stand, the place behind its children, how many there are, their width, and where they
 // begin, or end in a structure.
-#[derive(Drop)]
+#[derive(Clone, Copy)]
 pub struct Rows {
     pub stands: bool,
     pub body: usize,

@@ -16,7 +16,7 @@ use strict_ends::{Extent, aligned, fixed_end, laid};
 
 // The element's shape, or the entry's value's; the entry's key; how it lies among others; whether any bytes of its size will do;
 // whether it is a text; and where it is a reading, the width of its number.
-#[derive(Drop)]
+#[derive(Clone, Copy)]
 pub struct Item {
     pub entry: bool,
     pub child: Shape,

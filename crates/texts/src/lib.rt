@@ -1,4 +1,6 @@
 // Texts: the part of the frame that a text is, and what is wrong with it. Nul and UTF-8, by table 3-7 of the Unicode Standard.
+#![tactic(auto)]
+
 ghost use Rattle.std.specs.Prelude.{◌≡◌, true, ◌+◌, ◌≤◌, ◌<◌, length};
 ghost use Rattle.meaning.specs.Texts.{without_final_nul, wanted, following, after_byte, text_refusal};
 ghost use Rattle.texts.specs.Letters.{wanted_of, Plain, PlainIf, PlainBytesIf, Two, Three};
@@ -20,7 +22,7 @@ pub fn text(part: &[u8]) -> &[u8]
 }
 
 // What a letter still wants: so many bytes, the next of them from low to high.
-#[derive(Drop)]
+#[derive(Clone, Copy)]
 struct Wanted {
     count: u8,
     low: u8,

@@ -1,4 +1,6 @@
 // The answer of a leaf, whether bytes stand at a place, and padding to an alignment. Ports utils.rs.
+#![tactic(auto)]
+
 ghost use Rattle.std.specs.Prelude.{◌≡◌};
 ghost use Rattle.meaning.specs.Padding.{is_alignment};
 ghost use Rattle.meaning.specs.Parts.{holds};
@@ -8,7 +10,7 @@ use meaning::refusals::NO_VALUE;
 use std::num::{wrapping_add_usize, wrapping_sub_usize};
 
 // A refusal's number, 0 where there is none, and a value, 0 where it is refused.
-#[derive(Drop)]
+#[derive(Clone, Copy)]
 pub struct Checked {
     pub refusal: u8,
     pub value: usize,

@@ -1,6 +1,8 @@
 // Writing a frame: `write`. A walk over the events judges, measures and stores, into an output of its own; a frame that fits there is
 // copied, and for a longer one the same walk stores it where it belongs. So a refusal leaves the output as it was, and each walk looks
 // at each event once. A type's shapes are found once a call.
+#![tactic(auto)]
+
 ghost use Rattle.std.specs.Prelude.{◌≡◌, true, ◌≤◌, length};
 ghost use Rattle.meaning.specs.Limits.{largest_frame};
 ghost use Rattle.meaning_writing.specs.Writing.{write as writeOf, write_slice};
@@ -18,7 +20,7 @@ use writer_cycle::value;
 use writer_store::copy_all;
 
 // What a write answers: the refusal's number, 0 if done, and the frame's length.
-#[derive(Drop)]
+#[derive(Clone, Copy)]
 pub struct Written {
     pub refusal: u8,
     pub length: usize,

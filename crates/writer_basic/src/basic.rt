@@ -18,7 +18,7 @@ use texts::text_refusal;
 use writer_store::{add, number_bytes, put_text};
 
 // The text that an event views, or a refusal.
-#[derive(Drop)]
+#[derive(Clone, Copy)]
 pub struct View {
     pub refusal: u8,
     pub start: usize,

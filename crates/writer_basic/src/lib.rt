@@ -1,4 +1,6 @@
 // The small writers: what stands below the writers that call each other. Here: their answers, and what rides along.
+#![tactic(auto)]
+
 pub mod basic;
 pub mod closing;
 pub mod numbers;
@@ -11,7 +13,7 @@ use container_depths::ContainerDepths;
 use writer_store::add;
 
 // The refusal's number, 0 if done; the number of the next event's first number; the bytes written.
-#[derive(Drop)]
+#[derive(Clone, Copy)]
 pub struct Answer {
     pub refusal: u8,
     pub next: usize,
@@ -19,7 +21,7 @@ pub struct Answer {
 }
 
 // The same of children in a row, and how many ends are kept of them.
-#[derive(Drop)]
+#[derive(Clone, Copy)]
 pub struct Run {
     pub refusal: u8,
     pub next: usize,
@@ -28,7 +30,7 @@ pub struct Run {
 }
 
 // Where a value is written: the number of its first event's first number, the place of its first byte, and how many ends are kept already.
-#[derive(Drop)]
+#[derive(Clone, Copy)]
 pub struct Spot {
     pub next: usize,
     pub start: usize,
@@ -36,7 +38,7 @@ pub struct Spot {
 }
 
 // What rides along: the byte order, and how many containers are open.
-#[derive(Drop)]
+#[derive(Clone, Copy)]
 pub struct Context {
     pub big: bool,
     pub depths: ContainerDepths,

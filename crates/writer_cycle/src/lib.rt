@@ -1,5 +1,7 @@
 // The writers that call each other as containers nest. Guided by gvariant/ser.rs; the form is the paper's. Here: a value; each kind of
 // container has a module. What is repeated in a container is written in a loop.
+#![tactic(auto)]
+
 mod array;
 mod dictionary;
 mod maybe;

@@ -7,7 +7,7 @@ use container_depths::Raised;
 use writer_basic::Context;
 
 // A container opened: a refusal, or what rides along inside it.
-#[derive(Drop)]
+#[derive(Clone, Copy)]
 pub struct Inner {
     pub refusal: u8,
     pub context: Context,

@@ -1,6 +1,8 @@
 // The ends of the children of all open containers, kept until their container's table is written. An end takes two bytes. The first
 // 128 stand in a slice of their own, the others in the tail of the frame that is being written, from its last byte downward: each
 // is the promise of an offset there, so that the frame's front never reaches them.
+#![tactic(auto)]
+
 ghost use Rattle.std.specs.Prelude.{◌≡◌, ◌+◌, ◌≤◌, ◌<◌, ◌^◌, ◌%◌, length};
 ghost use Rattle.meaning.specs.Offsets.{written_width, table as table_of, back_table};
 ghost use Rattle.writer_store.specs.Stores.{cap};

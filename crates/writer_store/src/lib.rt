@@ -1,5 +1,7 @@
 // What the writers store: bytes, padding, numbers and texts, each where there is room for it; over an output of no length they store
 // nothing. And sums of lengths.
+#![tactic(auto)]
+
 ghost use Rattle.std.specs.Prelude.{◌≡◌, ◌+◌, ◌≤◌, ◌<◌, ◌^◌, ◌%◌, min, true, [], ◌∷◌, ◌++◌, length, set, take, drop};
 ghost use Rattle.meaning.specs.Numbers.{bytes, ordered};
 ghost use Rattle.meaning.specs.Padding.{Aligns, padding, zeros};

@@ -1,0 +1,7 @@
+-- `three_at` meets its contract. Assumes nothing.
+use Rattle.texts.proofs.Runs.{plain_three_bytes}
+use native.Mathlib.Omega.{arith}
+use Rattle.texts.proofs.three_at.Goals as goal
+
+pub returns : goal.returns
+returns c t = plain_three_bytes _ _ (omega arith) (c.letter_of_three.ensures t)

@@ -124,6 +124,8 @@ same_offsets (one_more {c} {d} {cs} {ds} l r) x y = go cs ds r (same_offsets r (
 
     go : (cs ds : List Piece) → LessRow cs ds → length (field_ends (stop y d) ds) ≡ length (field_ends (stop x c) cs) → length (field_ends y (d ∷ ds)) ≡ length (field_ends x (c ∷ cs))
     go [] [] none_left h = refl
+    go [] (e ∷ ds) r h = elim r [ ]
+    go (g ∷ cs) [] r h = elim r [ ]
     go (g ∷ cs) (e ∷ ds) (one_more m r) h = behind_first g e cs ds d.fixed c.fixed l.fixed h
 
 -- ---- widths

@@ -9,7 +9,7 @@ use lib.Dec.{leb, eqb}
 use lib.ListN.{length, drop, length-drop}
 use borrow.Author.Tests.{eqb-true, le-leb, lt-leb, eq-eqb, ne_eqb}
 use Rattle.meaning.specs.Choice.{pick}
-use Rattle.meaning.specs.Types.{Tree, last}
+use Rattle.meaning.specs.Types.{Tree}
 use Rattle.meaning.specs.TypeText.{basic_among, Found, found, first_type, nothing_behind, type_of}
 use Rattle.meaning.proofs.TypeTextLaws.{type_of_sound}
 use Rattle.signature.specs.Places.{there_is, is_type, letter_of, letter_by, letter_in, letter_at, type_at, no_child, child_by, child_at, closed_by, field_at}

@@ -9,7 +9,7 @@ use types.Run.{OneOf}
 use denote.Enum.Declared.{tag_of}
 use lib.ListN.{drop}
 use borrow.Author.Tests.{le-leb, lt-leb}
-use Rattle.meaning.specs.Types.{number, fixed, alignment}
+use Rattle.meaning.specs.Types.{fixed, alignment}
 use Rattle.meaning.specs.TypeText.{first_type}
 use Rattle.signature.specs.Places.{letter_at}
 use Rattle.signature.specs.Steps.{key_fixed}

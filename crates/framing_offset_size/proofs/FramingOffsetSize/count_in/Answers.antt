@@ -1,0 +1,15 @@
+-- `framing_offset_size::FramingOffsetSize::count_in` meets its contract. Assumes nothing.
+use native.Mathlib.Omega.{arith}
+use Rattle.framing_offset_size.proofs.FramingOffsetSize.count_in.Goals as goal
+
+pub returns-in-U8 : goal.returns-in-U8
+returns-in-U8 c = rw c.in-U8.is (omega arith)
+
+pub returns-in-U16 : goal.returns-in-U16
+returns-in-U16 c = rw c.in-U16.is
+
+pub returns-in-U32 : goal.returns-in-U32
+returns-in-U32 c = rw c.in-U32.is
+
+pub returns-in-U64 : goal.returns-in-U64
+returns-in-U64 c = rw c.in-U64.is

@@ -1,0 +1,21 @@
+-- `framing_offset_size::FramingOffsetSize::for_bare_container` meets its contract. Assumes nothing.
+use Rattle.framing_offset_size.proofs.WidthLaws.{trying_begin, trying_done, trying_next, trying_none, bumped_above, fitted}
+use mathlib.Core.Path.{sym, ◌∙◌}
+use Rattle.framing_offset_size.proofs.FramingOffsetSize.for_bare_container.Goals as goal
+
+pub loop-size-init : goal.loop-size-init
+loop-size-init c = trying_begin _ _
+
+pub returns-then-holds : goal.returns-then-holds
+returns-then-holds c = fitted _ _ _ (trying_done _ _ c.loop-size.size c.holds.ensures c.if-holds.true c.loop-size.invariant)
+
+pub returns-in_default : goal.returns-in_default
+returns-in_default c =
+    fitted _ _ _ (trying_none _ _ c.loop-size.size c.holds.ensures c.if-holds.false (sym c.in_default.is ∙ c.bump_up.ensures) c.loop-size.invariant)
+
+pub loop-size-smaller : goal.loop-size-smaller
+loop-size-smaller c = bumped_above c.loop-size.size _ (sym c.in-Size.is ∙ c.bump_up.ensures)
+
+pub loop-size-preserved : goal.loop-size-preserved
+loop-size-preserved c =
+    trying_next _ _ c.loop-size.size _ c.holds.ensures c.if-holds.false (sym c.in-Size.is ∙ c.bump_up.ensures) c.loop-size.invariant

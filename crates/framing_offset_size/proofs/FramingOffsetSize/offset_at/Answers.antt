@@ -1,0 +1,14 @@
+-- `framing_offset_size::FramingOffsetSize::offset_at` meets its contract. Assumes nothing.
+use Rattle.framing_offset_size.proofs.FramingOffsetSize.offset_at.Goals as goal
+
+pub returns-in-U8 : goal.returns-in-U8
+returns-in-U8 c = rw c.in-U8.is c.byte_at.ensures
+
+pub returns-in-U16 : goal.returns-in-U16
+returns-in-U16 c = rw c.in-U16.is c.two_at.ensures
+
+pub returns-in-U32 : goal.returns-in-U32
+returns-in-U32 c = rw c.in-U32.is c.four_at.ensures
+
+pub returns-in-U64 : goal.returns-in-U64
+returns-in-U64 c = rw c.in-U64.is c.eight_at.ensures

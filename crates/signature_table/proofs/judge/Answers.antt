@@ -1,6 +1,5 @@
 -- `signature_table::judge` meets its contract. Assumes nothing.
 use mathlib.Core.Path.{refl}
-use borrow.Author.Rules.{rules}
 use Rattle.signature.proofs.ShapeLaws.{table_judges}
 use Rattle.signature_table.proofs.judge.Goals as goal
 

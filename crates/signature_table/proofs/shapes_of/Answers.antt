@@ -1,7 +1,6 @@
 -- `shapes_of` meets its contract. Assumes nothing.
 use native.Mathlib.Omega.{arith}
 use Rattle.signature.proofs.ShapeLaws.{answered_long, answered_small, answered_lone_none, answered_lone, answered_none, answered_found}
-use borrow.Author.Rules.{rules}
 use Rattle.signature_table.proofs.shapes_of.Goals as goal
 
 pub returns-then-text-gt-LONGEST_TYPE : goal.returns-then-text-gt-LONGEST_TYPE
@@ -22,10 +21,10 @@ returns-then-text-eq1 c =
 
 pub returns-then-whole-eq0 : goal.returns-then-whole-eq0
 returns-then-whole-eq0 c =
-    answered_none c.args.text.now c.args.shapes.now c.fill.new.1.0 c.seen-whole.result c.if-text-gt-LONGEST_TYPE.false c.if-shapes-text.false
+    answered_none c.args.text.now c.args.shapes.now c.fill.new.shapes c.seen-whole.result c.if-text-gt-LONGEST_TYPE.false c.if-shapes-text.false
     c.fill.ensures (c.seen-whole.ensures 0 (omega arith) c.fill.ensures.each) c.if-whole-eq0.true
 
 pub returns : goal.returns
 returns c =
-    answered_found c.args.text.now c.args.shapes.now c.fill.new.1.0 c.seen-whole.result c.if-text-gt-LONGEST_TYPE.false c.if-shapes-text.false
+    answered_found c.args.text.now c.args.shapes.now c.fill.new.shapes c.seen-whole.result c.if-text-gt-LONGEST_TYPE.false c.if-shapes-text.false
     c.fill.ensures (c.seen-whole.ensures 0 (omega arith) c.fill.ensures.each) c.if-whole-eq0.false c.next_of.result c.next_of.ensures

@@ -1,9 +1,5 @@
 -- `framing_offset_size::FramingOffsetSize::write_offset` meets its contract. Assumes nothing.
-use Rattle.framing_offset_size.proofs.WidthLaws.{written_short, written_there}
-use Rattle.meaning.proofs.OffsetSteps.{Writing, writing_begin, writing_next, writing_end}
-use Rattle.framing_offset_size.specs.Widths.{width_of}
-use native.Mathlib.Omega.{arith}
-use borrow.Author.Rules.{rules}
+use Rattle.meaning.proofs.OffsetSteps.{Writing}
 use Prim.Native.Nat.{◌-◌}
 use Rattle.framing_offset_size.proofs.FramingOffsetSize.write_offset.Given as goal
 

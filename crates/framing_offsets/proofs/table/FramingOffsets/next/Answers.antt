@@ -13,7 +13,6 @@ use prog.Routine.{Routine}
 use prog.Wp.{Calls, Loops, WpFn, Tables}
 use types.Logic.{Logic, sem}
 use contract.Monad.{Fun, fact}
-use contract.Running.{tables, tables_of}
 use types.Kit.{‵, raw, ◌⊛◌, ⋆, some, later, ◌$◌, ◌∵◌, !, qed, by, move, drop, use1, use2, split, join, pick, fsplit, fjoin, suffices, frame, await, done}
 use types.Part.{whole, sub, look_in}
 use types.Run.{look, init, forget, stop, fld, from, load, of_opd, and_then, no_more, assigns, land, returns, enter, alloc1, alloc0, params1, pass1, pass0, free1, free0}
@@ -29,7 +28,6 @@ use denote.Triple.Statement.{Contract, Triple}
 use denote.Triple.Call.{calls_at}
 use denote.Triple.Entry.{Vals, on_entry}
 use denote.Triple.Spec.{Meets, triple_of}
-use denote.Triple.Table.{entered, cited}
 use denote.Triple.Walked.{says, Stays, stay_none, walk_of, Goes-none, Walks, ends_at, walked, walk_Meets}
 use denote.Exit.{yes}
 use denote.Triple.Clauses.{ensured, lasts}
@@ -44,12 +42,8 @@ use Rattle.framing_offsets.specs.Held.{held_table}
 use Rattle.framing_offsets.specs.declared.table.FramingOffsets.{FramingOffsets}
 use Rattle.framing_offsets.proofs.HeldWalk.{B, slice_at, slice_of, size_of, D, L, mach_of, size_is, Own, TableOwn, table_out}
 use Rattle.framing_offsets.specs.contracts.table.offset_of as callee
-use Rattle.framing_offsets.proofs.table.offset_of.Symbol as callee_def
 use Rattle.framing_offsets.proofs.table.offset_of.Symbol.{name as #callee}
-use Rattle.framing_offsets.proofs.table.offset_of.Met as callee_thm
-use Rattle.framing_offsets.specs.contracts.table.FramingOffsets.next.Key.{name as #next}
 use Rattle.framing_offsets.specs.contracts.table.FramingOffsets.next as next
-use Rattle.framing_offsets.proofs.table.FramingOffsets.next.Statement as stated
 use Rattle.framing_offsets.proofs.table.FramingOffsets.next.Code as code
 
 abbrev stayed : Stays (next.ended).signature.params (next.ended).kept
@@ -139,11 +133,3 @@ next_meets : {M : Type 1} {𝓤 : Ura M} (𝓛 : Logic 𝓤) (mem : Memory → S
 next_meets {𝓤 = 𝓤} 𝓛 mem run 𝓣 known =
     walk_Meets 𝓛 next.ended stayed (Goes-none 𝓛 1 B yes (λ κs x f. refl), (Goes-none 𝓛 1 (λ _. usize) yes (λ κs x f. refl), tt)) (next.clauses 𝓛 mem run) (WpFn 𝓤 𝓛.H 𝓣.C 𝓣.Λ code.function)
     (WpFn-mono 𝓤 𝓛.H 𝓛.laws 𝓣 code.function) (next_walks 𝓛 mem run 𝓣.C 𝓣.Λ (fm_of 𝓤 𝓛.H 𝓛.laws 𝓣) known)
-
-pub next_spec : {M : Type 1} → stated.statement M
-unfolding code.routine tables_of
-next_spec 𝓤 𝓛 𝓜 𝓡 =
-    entered 𝓤 𝓛.H (triple_of 𝓛 next.signature (next.spec 𝓛 𝓜.mem 𝓡.run))
-    (tables 𝓤 𝓛.H 𝓜 𝓡 code.env).C (tables 𝓤 𝓛.H 𝓜 𝓡 code.env).Λ #next code.function (code.unfolded 𝓤 𝓛.H 𝓜 𝓡)
-    (next_meets 𝓛 𝓜.mem 𝓡.run (tables_of 𝓤 𝓛.H 𝓜 (tables 𝓤 𝓛.H 𝓜 𝓡 code.env))
-    (cited 𝓤 𝓛.H (OffsetOf 𝓛 𝓜.mem 𝓡.run) 𝓜 𝓡 code.env #callee callee_def.routine code.calls-framing-offsets::table::offset-of (callee_thm.met 𝓤 𝓛 𝓜 𝓡)))

@@ -11,7 +11,6 @@ use prog.Routine.{Routine}
 use prog.Wp.{Calls, Loops, WpFn, Tables}
 use types.Logic.{Logic, sem}
 use contract.Monad.{Fun, fact}
-use contract.Running.{tables, tables_of}
 use types.Kit.{‵, raw, ◌⊛◌, ⋆, some, later, ◌$◌, ◌∵◌, !, qed, by, move, drop, use1, use2, split, join, pick, fsplit, fjoin, suffices, frame, await, done}
 use types.Part.{whole, sub, look_in}
 use types.Run.{look, init, forget, stop, fld, from, load, of_opd, and_then, no_more, assigns, land, returns, enter, alloc1, alloc0, params1, pass1, pass0, free1, free0}
@@ -25,7 +24,6 @@ use denote.Triple.Statement.{Contract, Triple}
 use denote.Triple.Call.{calls_at}
 use denote.Triple.Entry.{Vals, on_entry}
 use denote.Triple.Spec.{Meets, triple_of}
-use denote.Triple.Table.{entered, cited}
 use denote.Triple.Walked.{says, Stays, stay_none, walk_of, Goes-none, Walks, ends_at, walked, walk_Meets}
 use denote.Exit.{yes}
 use denote.Triple.Clauses.{ensured, lasts}
@@ -38,12 +36,8 @@ use Rattle.framing_offset_size.proofs.FramingOffsetSize.TheLaws as S'
 use Rattle.framing_offsets.specs.declared.table.FramingOffsets.{FramingOffsets}
 use Rattle.framing_offsets.proofs.HeldWalk.{B, slice_at, slice_of, size_of, D, L, mach_of, size_is, Own, TableOwn, table_out}
 use Rattle.framing_offset_size.specs.contracts.FramingOffsetSize.read_last_offset_from_buffer as callee
-use Rattle.framing_offset_size.proofs.FramingOffsetSize.read_last_offset_from_buffer.Symbol as callee_def
 use Rattle.framing_offset_size.proofs.FramingOffsetSize.read_last_offset_from_buffer.Symbol.{name as #callee}
-use Rattle.framing_offset_size.proofs.FramingOffsetSize.read_last_offset_from_buffer.Met as callee_thm
-use Rattle.framing_offsets.specs.contracts.table.FramingOffsets.last.Key.{name as #last}
 use Rattle.framing_offsets.specs.contracts.table.FramingOffsets.last as last
-use Rattle.framing_offsets.proofs.table.FramingOffsets.last.Statement as stated
 use Rattle.framing_offsets.proofs.table.FramingOffsets.last.Code as code
 
 abbrev stayed : Stays (last.ended).signature.params (last.ended).kept
@@ -128,11 +122,3 @@ last_meets : {M : Type 1} {𝓤 : Ura M} (𝓛 : Logic 𝓤) (mem : Memory → S
 last_meets {𝓤 = 𝓤} 𝓛 mem run 𝓣 known =
     walk_Meets 𝓛 last.ended stayed (Goes-none 𝓛 1 B yes (λ κs x f. refl), tt) (last.clauses 𝓛 mem run) (WpFn 𝓤 𝓛.H 𝓣.C 𝓣.Λ code.function)
     (WpFn-mono 𝓤 𝓛.H 𝓛.laws 𝓣 code.function) (last_walks 𝓛 mem run 𝓣.C 𝓣.Λ (fm_of 𝓤 𝓛.H 𝓛.laws 𝓣) known)
-
-pub last_spec : {M : Type 1} → stated.statement M
-unfolding code.routine tables_of
-last_spec 𝓤 𝓛 𝓜 𝓡 =
-    entered 𝓤 𝓛.H (triple_of 𝓛 last.signature (last.spec 𝓛 𝓜.mem 𝓡.run))
-    (tables 𝓤 𝓛.H 𝓜 𝓡 code.env).C (tables 𝓤 𝓛.H 𝓜 𝓡 code.env).Λ #last code.function (code.unfolded 𝓤 𝓛.H 𝓜 𝓡)
-    (last_meets 𝓛 𝓜.mem 𝓡.run (tables_of 𝓤 𝓛.H 𝓜 (tables 𝓤 𝓛.H 𝓜 𝓡 code.env))
-    (cited 𝓤 𝓛.H (LastOffset 𝓛 𝓜.mem 𝓡.run) 𝓜 𝓡 code.env #callee callee_def.routine code.calls-framing-offset-size::FramingOffsetSize::read-last-offset-from-buffer (callee_thm.met 𝓤 𝓛 𝓜 𝓡)))

@@ -13,7 +13,6 @@ use prog.Routine.{Routine}
 use prog.Wp.{Calls, Loops, WpFn, Tables}
 use types.Logic.{Logic, sem}
 use contract.Monad.{Fun, fact}
-use contract.Running.{tables, tables_of}
 use types.Kit.{‵, raw, ◌⊛◌, ⋆, some, later, ◌$◌, ◌∵◌, !, qed, by, move, drop, use1, use2, split, join, pick, fsplit, fjoin, suffices, frame, await, done}
 use types.Run.{look, init, forget, stop, from, load, of_opd, lit, and_then, no_more, assigns, land, returns, enter, alloc1, alloc0, params1, pass1, pass0, free1, free0}
 use sound.WpLaws.{FmC, fm_of, WpFn-mono}
@@ -28,7 +27,6 @@ use denote.Triple.Statement.{Contract, Triple}
 use denote.Triple.Call.{calls_at}
 use denote.Triple.Entry.{Vals, on_entry}
 use denote.Triple.Spec.{Meets, triple_of}
-use denote.Triple.Table.{entered, cited}
 use denote.Triple.Walked.{says, Stays, stay_none, walk_of, Goes-none, Walks, ends_at, walked, walk_Meets}
 use denote.Exit.{yes}
 use denote.Triple.Clauses.{ensured, lasts}
@@ -43,12 +41,8 @@ use Rattle.framing_offsets.specs.contracts.table.FramingOffsets as T
 use Rattle.framing_offsets.proofs.table.FramingOffsets.TheLaws as T'
 use Rattle.framing_offsets.proofs.HeldWalk.{B, D, L, mach_of, Own, held_twice}
 use Rattle.framing_offsets.specs.contracts.table.FramingOffsets.next as callee
-use Rattle.framing_offsets.proofs.table.FramingOffsets.next.Symbol as callee_def
 use Rattle.framing_offsets.proofs.table.FramingOffsets.next.Symbol.{name as #callee}
-use Rattle.framing_offsets.proofs.table.FramingOffsets.next.Met as callee_thm
-use Rattle.framing_offsets.specs.contracts.table.FramingOffsets.first.Key.{name as #first}
 use Rattle.framing_offsets.specs.contracts.table.FramingOffsets.first as first
-use Rattle.framing_offsets.proofs.table.FramingOffsets.first.Statement as stated
 use Rattle.framing_offsets.proofs.table.FramingOffsets.first.Code as code
 
 abbrev stayed : Stays (first.ended).signature.params (first.ended).kept
@@ -135,11 +129,3 @@ first_meets : {M : Type 1} {𝓤 : Ura M} (𝓛 : Logic 𝓤) (mem : Memory → 
 first_meets {𝓤 = 𝓤} 𝓛 mem run 𝓣 known =
     walk_Meets 𝓛 first.ended stayed (Goes-none 𝓛 1 B yes (λ κs x f. refl), tt) (first.clauses 𝓛 mem run) (WpFn 𝓤 𝓛.H 𝓣.C 𝓣.Λ code.function)
     (WpFn-mono 𝓤 𝓛.H 𝓛.laws 𝓣 code.function) (first_walks 𝓛 mem run 𝓣.C 𝓣.Λ (fm_of 𝓤 𝓛.H 𝓛.laws 𝓣) known)
-
-pub first_spec : {M : Type 1} → stated.statement M
-unfolding code.routine tables_of
-first_spec 𝓤 𝓛 𝓜 𝓡 =
-    entered 𝓤 𝓛.H (triple_of 𝓛 first.signature (first.spec 𝓛 𝓜.mem 𝓡.run))
-    (tables 𝓤 𝓛.H 𝓜 𝓡 code.env).C (tables 𝓤 𝓛.H 𝓜 𝓡 code.env).Λ #first code.function (code.unfolded 𝓤 𝓛.H 𝓜 𝓡)
-    (first_meets 𝓛 𝓜.mem 𝓡.run (tables_of 𝓤 𝓛.H 𝓜 (tables 𝓤 𝓛.H 𝓜 𝓡 code.env))
-    (cited 𝓤 𝓛.H (Next 𝓛 𝓜.mem 𝓡.run) 𝓜 𝓡 code.env #callee callee_def.routine code.calls-framing-offsets::table::FramingOffsets::next (callee_thm.met 𝓤 𝓛 𝓜 𝓡)))

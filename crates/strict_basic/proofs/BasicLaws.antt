@@ -19,14 +19,14 @@ use Rattle.signature.specs.declared.Letter.TheVariants.{End, Bad, Boolean, Numbe
 use Rattle.signature.specs.contracts.Letter.{the_type}
 use Rattle.meaning.proofs.Lists.{within_default}
 use Rattle.strict_basic.specs.Basics.{bool_written, text_written, letter_written, letter_extent, letter_test, is_basic, LoneType, lone_variant}
-use Rattle.strict_ends.specs.Ends.{extent, start, StartAt, Laid}
+use Rattle.strict_ends.specs.Ends.{extent, StartAt, Laid}
 use Rattle.strict_ends.specs.declared.Start.{Start}
 use mathlib.Core.Option.{some}
-use Rattle.meaning.specs.Types.{Basic, bool, number, text, variant, alignment}
+use Rattle.meaning.specs.Types.{Basic, bool, number, text, variant}
 use Rattle.meaning.specs.Letters.{number_letter}
 use Rattle.meaning.specs.TypeText.{type_of, basic_among}
 use Rattle.meaning.proofs.Tests.{both_true}
-use Rattle.meaning.proofs.TypeLaws.{aligns_most, number_aligned, aligned}
+use Rattle.meaning.proofs.TypeLaws.{aligns_most, number_aligned}
 use Rattle.signature.specs.Places.{Child, basic_kind, letter_at, letter_by, letter_of, child_at}
 use Rattle.signature.proofs.Letters.{alone, lone_child, child_lone, letter_some}
 use Rattle.signature.proofs.Children.{child_found}

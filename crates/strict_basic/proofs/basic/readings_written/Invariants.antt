@@ -1,0 +1,12 @@
+-- `readings_written` meets its contract: the loop keeps what is left of the elements. Assumes nothing.
+use Prim.Native.Nat.{◌-◌}
+use Rattle.strict_basic.proofs.ElementLaws.{ReadingsLeft}
+use Rattle.strict_basic.proofs.basic.readings_written.Given as goal
+
+abbrev pub invariant-loop-i : goal.invariant-loop-i
+invariant-loop-i l =
+    ReadingsLeft l.room l.number l.part l.width l.limit l.many l.initial.from l.i l.from l.place
+
+abbrev pub decreases-loop-i : goal.decreases-loop-i
+decreases-loop-i l =
+    l.many - l.i

@@ -31,7 +31,7 @@ use Rattle.signature.specs.contracts.Letter.{the_type}
 use Rattle.signature.proofs.Children.{child_is, child_found, type_inside}
 use Rattle.signature.proofs.Answers.{judged_type}
 use Rattle.signature.proofs.Dispatch.{Shown, shown, is_boolean, is_number, is_last, is_next}
-use Rattle.signature.proofs.ShapeLaws.{Known, known}
+use Rattle.signature.proofs.ShapeLaws.{known}
 use Rattle.signature.proofs.TreeLaws.{tree_by_lem, described_by, described_as, described_alignment, described_aligned, described_fixed, structure_tree, structure_rowed, structure_fixed, structure_alignment, LastField, NextField, Front, front_described}
 use Rattle.strict_sizes.specs.Sizes.{any_bytes, any_fields, offsets_in, offsets_for, size_and_any, measure_of, Behind, Tabled, extent_in, any_in, offsets_by}
 use Rattle.strict_sizes.specs.Items as items

@@ -10,7 +10,7 @@ use lib.ListN.{length, take, drop, get_or, length-drop}
 use borrow.Author.Tests.{eqb-true, eqb-false}
 use Rattle.meaning.specs.Depths as Depth
 use Rattle.meaning.specs.Depths.{Depths, Opened, opened}
-use Rattle.meaning.specs.Types.{Tree, variant, maybe, structure}
+use Rattle.meaning.specs.Types.{Tree}
 use Rattle.meaning.specs.TypeText.{type_of}
 use Rattle.meaning.specs.Written.{Piece, maybe_piece, array_piece, structure_piece}
 use Rattle.meaning_writing.specs.Writing.{Built, fault, Builder, mapped, sealed, when_shallow, build_maybe, build_many, build_array, build_structure, variant_by, build_variant}

@@ -1,5 +1,5 @@
 -- A container that is opened: what is left of the depth, and what is the same inside it. Assumes nothing.
-use Rattle.std.proofs.Common.{◌≡◌, ℕ, ◌+◌, ◌-◌, ◌≤◌, Bool, true, false, eqb, List, sym, ap, ◌∙◌, arith, eq-eqb, ne_eqb}
+use Rattle.std.proofs.Common.{◌≡◌, ℕ, ◌+◌, ◌≤◌, Bool, true, false, eqb, List, sym, ap, ◌∙◌, arith, eq-eqb, ne_eqb}
 use mathlib.Core.Path.{subst⁻¹}
 use Rattle.meaning.specs.Depths.{Depths, Opened, total, depth_refusal, opened}
 use Rattle.meaning.specs.Outcome.{Outcome}

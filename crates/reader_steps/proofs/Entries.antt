@@ -4,7 +4,6 @@ use Rattle.framing_offset_size.proofs.WidthLaws.{last_offset_in_is, last_none}
 use Rattle.std.proofs.Common.{◌≡◌, ℕ, ◌+◌, ◌-◌, ◌<◌, ◌≤◌, Bool, true, false, eqb, leb, List, [], length, take, drop, sym, refl, ap, ◌∙◌, arith, length-drop, length-take, eq-eqb, ne_eqb, eqb-true, le-leb, leb-false, leb-true}
 use borrow.Author.Tests.{lt-leb, eqb-false}
 use Rattle.meaning.specs.Choice.{pick}
-use Rattle.meaning.specs.Numbers.{value}
 use Rattle.meaning.specs.Depths.{Depths}
 use Rattle.meaning.specs.Offsets.{encoded_width, last_offset}
 use Rattle.meaning.specs.Outcome.{Outcome, refused, after, chain, passing}

@@ -1,0 +1,10 @@
+-- `move_part` meets its contract.
+use Prim.Native.Nat.{ℕ}
+use native.Mathlib.Omega.{arith}
+use Rattle.editor_basic.proofs.PutLaws.{over_both}
+use lib.ListN.{length-replicate}
+use Rattle.editor_basic.proofs.mover.move_part.Goals as goal
+
+pub returns : goal.returns
+returns c =
+    over_both _ _ _ _ _ _ _ c.put_zeros.ensures c.put_part.ensures (let e = length-replicate {A = ℕ} c.args.padding 0 in omega arith)

@@ -9,7 +9,6 @@ use lib.Dec.{leb, eqb}
 use lib.ListN.{length}
 use borrow.Author.Tests.{leb-true, eq-eqb, ne_eqb}
 use Rattle.meaning.specs.Choice.{pick}
-use Rattle.meaning.specs.Numbers.{value}
 use Rattle.meaning.specs.Limits.{largest_frame}
 use Rattle.meaning.specs.Offsets.{largest, first_width, bare_width, written_width}
 use Rattle.meaning.specs.Padding.{Aligns, padding}

@@ -11,7 +11,7 @@ use lib.ListN.{length, drop}
 use Rattle.meaning.specs.Numbers.{value}
 use Rattle.meaning.specs.Offsets.{entries}
 use Rattle.meaning.specs.Padding.{padding}
-use Rattle.meaning.specs.Types.{Tree, next, fixed}
+use Rattle.meaning.specs.Types.{Tree, fixed}
 use Rattle.meaning.specs.Written.{Piece, stop, layout, unless, field_ends, structure_bytes}
 use Rattle.meaning.proofs.PaddingLaws.{aligns_positive}
 use Rattle.meaning.proofs.LayoutLaws.{field_ends_one, layout_none}

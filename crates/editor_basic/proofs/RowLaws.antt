@@ -11,7 +11,7 @@ use Rattle.meaning.specs.Padding.{padding, zeros}
 use Rattle.meaning.specs.Types.{Tree, Fields, last, next, alignment, fixed, fixed_size}
 use Rattle.meaning.specs.Written.{Piece, layout}
 use Rattle.meaning.proofs.Tests.{both_true}
-use Rattle.meaning_writing.specs.Shapes.{Shape, part, behind_padding, last_end, one_more, field_end, offsets_left}
+use Rattle.meaning_writing.specs.Shapes.{part, behind_padding, last_end, one_more, field_end, offsets_left}
 use Rattle.meaning_writing.specs.Edited.{found_piece}
 use Rattle.meaning_writing.proofs.StrictSteps.{test_size}
 use Rattle.meaning.proofs.PaddingLaws.{padding_small}

@@ -45,6 +45,11 @@ pub record Turn (step : ℕ → ℕ → Outcome) (t : OffsetTable) (part : List 
   pub more : i < t.count
   pub found : end ≡ offset_in (table_in t) i (take (length part - lead) (drop lead part))
 
+pub turn_of : {step : ℕ → ℕ → Outcome} {t : OffsetTable} {part : List ℕ} {lead n : ℕ} {l : List ℕ} {i u count : ℕ} {out : List ℕ} {end : leafs.Checked}
+    → Tabled t part lead → Left step t part lead n l i u count out → i < t.count → end ≡ offset_in (table_in t) i (take (length part - lead) (drop lead part))
+    → Turn step t part lead n l i u count out end
+turn_of k v m f = record { tabled = k; left = v; more = m; found = f }
+
 module _ {step : ℕ → ℕ → Outcome} {t : OffsetTable} {part : List ℕ} {lead n : ℕ} {l : List ℕ} {i u count : ℕ} {out : List ℕ} {end : leafs.Checked} (k : Turn step t part lead n l i u count out end) where
   end_is : end.value ≡ get_or (ends_of (table_in t) (drop lead part)) i 0
   end_is = next_end k.tabled.stands i end k.more (rw (tail lead part) at k.found)

@@ -1,19 +1,9 @@
 -- `finish_structure` meets its contract.
--- what the sums stay below, once the width is known
 use mathlib.Core.Path.{refl, ◌∙◌}
 use native.Mathlib.Omega.{arith}
 use Rattle.meaning.proofs.PaddingLaws.{aligns_positive}
-use Rattle.editor_basic.proofs.FinishLaws.{filling, kept_count, behind_count, RowSizes, row_counts, row_sizes, own_room, behind_count_lem, structure_done}
-use borrow.Author.Rules.{rules}
+use Rattle.editor_basic.proofs.FinishLaws.{filling, row_counts, row_sizes, own_room, behind_count_lem, structure_done}
 use Rattle.editor_basic.proofs.finisher.finish_structure.Goals as goal
-
-sizes : (c : tie.After-width) → let start = c.before.before.before.before.before.before.before.before.before.before.before.before in
-    let a = start.args in
-    RowSizes (kept_count a.text.now a.rest a.old.now a.to) (behind_count a.text.now a.rest a.old.now a.to) c.width.result a.at a.to c.before.before.before.before.before.before.move-fields.result
-sizes c =
-    let start = c.before.before.before.before.before.before.before.before.before.before.before.before in
-    let p = start.requires in
-    row_sizes _ _ start.args.rest start.args.old.now _ _ _ _ c.before.width-for.result p.0 c.width.ensures p.3 c.before.before.before.before.before.before.move-fields.ensures.1.1
 
 pub nonzero_div-before : goal.nonzero_div-before
 nonzero_div-before c = aligns_positive c.requires.0.wide
@@ -29,23 +19,23 @@ overflow_add-count-2 c = let n = row_counts _ _ _ _ c.requires.0 in omega (arith
 
 pub overflow_mul-own : goal.overflow_mul-own
 overflow_mul-own c =
-    let s = sizes c in
+    let s = row_sizes _ _ c.args.rest c.args.old.now _ _ _ _ c.width_for-size.result c.requires.0 c.width-width.ensures c.requires.3 c.move_fields-end.ensures.near in
     omega (arith, s.early, s.high, s.few_before, s.few_behind, s.slim, s.ends_behind, s.ends_all)
 
 pub overflow_add-own-2 : goal.overflow_add-own-2
 overflow_add-own-2 c =
-    let s = sizes c in
+    let s = row_sizes _ _ c.args.rest c.args.old.now _ _ _ _ c.width_for-size.result c.requires.0 c.width-width.ensures c.requires.3 c.move_fields-end.ensures.near in
     omega (arith, s.early, s.high, s.few_before, s.few_behind, s.slim, s.ends_behind, s.ends_all)
 
 pub overflow_add-own-3 : goal.overflow_add-own-3
 overflow_add-own-3 c =
-    let s = sizes c.before.before.before.before.before in
+    let s = row_sizes _ _ c.args.rest c.args.old.now _ _ _ _ c.width_for-size.result c.requires.0 c.width-width.ensures c.requires.3 c.move_fields-end.ensures.near in
     omega (arith, s.early, s.high, s.few_before, s.few_behind, s.slim, s.ends_behind, s.ends_all)
 
 pub widen-requires : goal.widen-requires
 widen-requires c =
     let p = c.requires in
-    let s = sizes c in
+    let s = row_sizes _ _ c.args.rest c.args.old.now _ _ _ _ c.width_for-size.result c.requires.0 c.width-width.ensures c.requires.3 c.move_fields-end.ensures.near in
     let f = filling c.args.old.now _ _ p.1 p.0.short in
     (f.stand, p.0.short, p.0.wide, s.slim, omega (arith, s.early, s.high, s.few_before, s.few_behind, s.slim, s.ends_behind, s.ends_all))
 
@@ -57,12 +47,12 @@ rewrite_field_ends-requires c =
 
 pub overflow_mul-result : goal.overflow_mul-result
 overflow_mul-result c =
-    let s = sizes c.before.before.before.before.before.before.before.before.before.before.before.before in
+    let s = row_sizes _ _ c.args.rest c.args.old.now _ _ _ _ c.width_for-size.result c.requires.0 c.width-width.ensures c.requires.3 c.move_fields-end.ensures.near in
     omega (arith, s.early, s.high, s.few_before, s.few_behind, s.slim, s.ends_behind, s.ends_all)
 
 pub overflow_add-result : goal.overflow_add-result
 overflow_add-result c =
-    let s = sizes c.before.before.before.before.before.before.before.before.before.before.before.before in
+    let s = row_sizes _ _ c.args.rest c.args.old.now _ _ _ _ c.width_for-size.result c.requires.0 c.width-width.ensures c.requires.3 c.move_fields-end.ensures.near in
     omega (arith, s.early, s.high, s.few_before, s.few_behind, s.slim, s.ends_behind, s.ends_all)
 
 pub returns : goal.returns
@@ -70,8 +60,8 @@ returns c =
     let a = c.args in
     let p = c.requires in
     let m = c.move_fields-end.ensures in
-    let s = sizes c in
+    let s = row_sizes _ _ c.args.rest c.args.old.now _ _ _ _ c.width_for-size.result c.requires.0 c.width-width.ensures c.requires.3 c.move_fields-end.ensures.near in
     let e = c.rewrite_field_ends.ensures in
-    let d = structure_done _ a.rest a.old.now a.to a.at _ _ _ _ _ _ _ _ _ (behind_count_lem _ a.rest a.old.now a.to p.0.wide p.2) m.1.0 (c.width-width.ensures ∙ c.width_for-size.ensures)
-    m.0 c.put_low_first.ensures c.widen.ensures e.0 e.1 refl in
+    let d = structure_done _ a.rest a.old.now a.to a.at _ _ _ _ _ _ _ _ _ (behind_count_lem _ a.rest a.old.now a.to p.0.wide p.2) m.end (c.width-width.ensures ∙ c.width_for-size.ensures)
+    m.bytes c.put_low_first.ensures c.widen.ensures e.bytes e.place refl in
     record { bytes = d.0; length = d.1; near = omega (arith, s.ends_all, s.high) }

@@ -1,9 +1,9 @@
 -- `put_high_first` meets its contract.
-use mathlib.Core.Logic.{⊎_elim}
-use Prim.Native.Nat.{◌-◌, ◌≤◌}
+use Prim.Native.Nat.{◌-◌}
 use native.Mathlib.Omega.{arith}
-use Rattle.editor_basic.proofs.PutLaws.{Falling, falling_begin, falling_kept, falling_next, falling_past, falling_end}
+use Rattle.editor_basic.proofs.PutLaws.{falling_begin, falling_kept, falling_next, falling_past, falling_end}
 use Rattle.editor_basic.proofs.mover.put_high_first.Goals as goal
+use Rattle.editor_basic.proofs.mover.put_high_first.Goals.{then-at-i, else-at-i}
 
 pub loop-i-init : goal.loop-i-init
 loop-i-init c = (omega arith, falling_begin _ _ _ _)
@@ -30,10 +30,10 @@ pub loop-i-preserved : goal.loop-i-preserved
 loop-i-preserved c =
     let l = c.loop-i in (
       omega arith,
-      ⊎_elim
-          (λ w. rw w.1 (falling_next _ _ _ _ _ l.i (l.i - 1) l.rest (omega arith) l.invariant.1))
-          (λ w. rw w.1 (falling_past _ _ _ _ _ l.i (l.i - 1) l.rest (omega arith) w.0.left l.invariant.1))
-          c.if-at-i.branch,
+      elim c.if-at-i.branch [
+          then-at-i w ↦ rw w.out-is (falling_next _ _ _ _ _ l.i (l.i - 1) l.rest (omega arith) l.invariant.1)
+        | else-at-i w ↦ rw w.out-is (falling_past _ _ _ _ _ l.i (l.i - 1) l.rest (omega arith) w.if-at-i.false l.invariant.1)
+      ],
     )
 
 pub shape_of-out : goal.shape_of-out

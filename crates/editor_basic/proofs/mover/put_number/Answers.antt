@@ -1,10 +1,8 @@
 -- `put_number` meets its contract.
 use mathlib.Core.Bool.{Bool}
 use mathlib.Core.Path.{sym, ap, ◌∙◌}
-use Prim.Native.Nat.{◌-◌}
 use Rattle.meaning.specs.Numbers.{bytes, ordered}
 use Rattle.editor_basic.specs.Puts.{over}
-use borrow.Author.Rules.{rules}
 use Rattle.editor_basic.proofs.mover.put_number.Goals as goal
 
 pub returns-then-big : goal.returns-then-big

@@ -1,10 +1,8 @@
 -- `finish_array` meets its contract.
 use mathlib.Core.Path.{refl, ◌∙◌}
-use Prim.Native.Nat.{◌-◌}
 use native.Mathlib.Omega.{arith}
 use Rattle.editor_basic.proofs.ElementLaws.{few}
 use Rattle.editor_basic.proofs.RewriteLaws.{finish_sizes, finish_done}
-use borrow.Author.Rules.{rules}
 use Rattle.editor_basic.proofs.rewriter.finish_array.Goals as goal
 
 pub overflow_add-count : goal.overflow_add-count
@@ -57,7 +55,7 @@ pub returns : goal.returns
 returns c =
     let a = c.args in
     let m = c.move_elements-end.ensures in
-    let s = finish_sizes a.front a.rest a.old.now a.to _ _ c.width_for-size.result c.requires.0 c.requires.1 m.1 c.width-width.ensures in
-    let d = finish_done a.front a.rest a.old.now a.to a.at _ _ _ _ _ _ _ _ _ _ m.1 (c.width-width.ensures ∙ c.width_for-size.ensures) m.0
+    let s = finish_sizes a.front a.rest a.old.now a.to _ _ c.width_for-size.result c.requires.0 c.requires.1 m.end c.width-width.ensures in
+    let d = finish_done a.front a.rest a.old.now a.to a.at _ _ _ _ _ _ _ _ _ _ m.end (c.width-width.ensures ∙ c.width_for-size.ensures) m.bytes
     c.rewrite_ends.ensures c.put_low_first.ensures c.rewrite_ends-2.ensures refl refl refl in
     record { bytes = d.0; length = d.1; near = omega (arith, s.ends_all, s.high) }

@@ -1,8 +1,6 @@
 -- `rewrite_field_ends` meets its contract.
-use borrow.Author.Rules.{rules}
-use Prim.Native.Nat.{◌-◌}
 use native.Mathlib.Omega.{arith}
-use Rattle.editor_basic.proofs.BackLaws.{EndsLeft, ends_begin, ends_last, ends_most, ends_room, ends_next}
+use Rattle.editor_basic.proofs.BackLaws.{ends_begin, ends_last, ends_most, ends_room, ends_next}
 use Rattle.editor_basic.proofs.rewriter.rewrite_field_ends.Goals as goal
 
 pub loop-rest-init : goal.loop-rest-init
@@ -48,4 +46,4 @@ loop-rest-smaller c =
 pub loop-rest-preserved : goal.loop-rest-preserved
 loop-rest-preserved c =
     let e = c.put_end-first.ensures in
-    ends_next c.loop-rest.invariant c.first_field-field.ensures _ c.due.ensures.0 c.if-last.false _ _ _ c.behind_field-rest.ensures e.0 e.1
+    ends_next c.loop-rest.invariant c.first_field-field.ensures _ c.due.ensures.0 c.if-last.false _ _ _ c.behind_field-rest.ensures e.bytes e.place

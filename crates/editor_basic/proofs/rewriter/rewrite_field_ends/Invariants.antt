@@ -1,8 +1,6 @@
 -- `rewrite_field_ends` meets its contract.
-use borrow.Author.Rules.{rules}
 use Prim.Native.Nat.{◌-◌}
-use native.Mathlib.Omega.{arith}
-use Rattle.editor_basic.proofs.BackLaws.{EndsLeft, ends_begin, ends_last, ends_most, ends_room, ends_next}
+use Rattle.editor_basic.proofs.BackLaws.{EndsLeft}
 use Rattle.editor_basic.proofs.rewriter.rewrite_field_ends.Given as goal
 
 abbrev pub invariant-loop-rest : goal.invariant-loop-rest

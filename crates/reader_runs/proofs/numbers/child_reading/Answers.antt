@@ -1,6 +1,5 @@
 -- `reader_runs::numbers::child_reading` meets its contract. Assumes nothing.
 use Rattle.reader_basic.proofs.Leaves.{child_before, child_there, within_child}
-use borrow.Author.Rules.{rules}
 use Rattle.reader_runs.proofs.numbers.child_reading.Goals as goal
 
 pub returns-then-e-j : goal.returns-then-e-j

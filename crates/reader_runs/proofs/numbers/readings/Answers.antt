@@ -1,18 +1,8 @@
 -- `reader_runs::numbers::readings` meets its contract. Assumes nothing.
--- what a turn knows
 use native.Mathlib.Omega.{arith}
-use Prim.Native.Nat.{◌+◌, ◌-◌}
-use mathlib.Core.Bool.{true}
-use borrow.Author.Rules.{rules}
-use Rattle.meaning.specs.Reading.{child_step, read_number, read_maybe}
-use Rattle.container_depths.specs.Opening.{depths_of}
-use Rattle.reader_runs.proofs.Turns.{body_ends, Left, left_begin, left_passes, left_end, Turn, turn_starts, turn_ends, turn_fits, turn_stop, turn_next}
+use Rattle.meaning.specs.Reading.{child_step}
+use Rattle.reader_runs.proofs.Turns.{body_ends, left_begin, left_passes, left_end, turn_of, turn_starts, turn_ends, turn_fits, turn_stop, turn_next}
 use Rattle.reader_runs.proofs.numbers.readings.Goals as goal
-
-turn : (c : tie.After-next invariant_loop decreases_loop) → let s = c.before.before.before.before.before.before.before in let v = c.before.before in
-    Turn (child_step (read_maybe s.args.context.position s.args.width true (read_number s.args.context.position s.args.context.big s.args.code s.args.width)) (depths_of s.args.context.depths) s.args.place s.args.part.now (s.args.lead + s.args.offsets.start))
-    s.args.offsets s.args.part.now s.args.lead s.args.n s.args.out.now v.loop.i v.loop.u v.loop.count v.loop.out c.next.result
-turn c = record { tabled = c.before.before.before.before.before.before.before.requires.1; left = c.before.before.loop.invariant; more = c.before.loop-test.true; found = c.next.ensures }
 
 pub slice_bounds-table-count : goal.slice_bounds-table-count
 slice_bounds-table-count c =
@@ -36,30 +26,30 @@ loop-i-init c =
 
 pub overflow_add-lead : goal.overflow_add-lead
 overflow_add-lead c =
-    omega (arith, turn_starts (turn c), c.requires.0.in_frame)
+    omega (arith, turn_starts (turn_of c.requires.1 c.loop-i.invariant c.loop-i-test.true c.next-end.ensures), c.requires.0.in_frame)
 
 pub overflow_add-lead-in-loop-i : goal.overflow_add-lead-in-loop-i
 overflow_add-lead-in-loop-i c =
-    omega (arith, turn_ends (turn c.before), c.requires.0.in_frame)
+    omega (arith, turn_ends (turn_of c.requires.1 c.loop-i.invariant c.loop-i-test.true c.next-end.ensures), c.requires.0.in_frame)
 
 pub child_reading-r-requires : goal.child_reading-r-requires
 child_reading-r-requires c =
-    (c.requires.0, turn_ends (turn c.before.before), c.requires.2)
+    (c.requires.0, turn_ends (turn_of c.requires.1 c.loop-i.invariant c.loop-i-test.true c.next-end.ensures), c.requires.2)
 
 pub behind-requires : goal.behind-requires
 unfolding child_step
 behind-requires c =
-    omega (arith, turn_fits (turn c) _ c.child_reading-r.ensures, c.requires.0.in_frame)
+    omega (arith, turn_fits (turn_of c.requires.1 c.loop-i.invariant c.loop-i-test.true c.next-end.ensures) _ c.child_reading-r.ensures, c.requires.0.in_frame)
 
 pub returns-then-r-ne0 : goal.returns-then-r-ne0
 unfolding child_step
 returns-then-r-ne0 c =
-    rw c.behind.ensures (turn_stop (turn c.before.before.before.before.before.before.before.before) _ c.child_reading-r.ensures c.if-r-ne0.true)
+    rw c.behind.ensures (turn_stop (turn_of c.requires.1 c.loop-i.invariant c.loop-i-test.true c.next-end.ensures) _ c.child_reading-r.ensures c.if-r-ne0.true)
 
 pub overflow_add-u : goal.overflow_add-u
 unfolding child_step
 overflow_add-u c =
-    omega (arith, turn_fits (turn c) _ c.child_reading-r.ensures, c.requires.0.in_frame)
+    omega (arith, turn_fits (turn_of c.requires.1 c.loop-i.invariant c.loop-i-test.true c.next-end.ensures) _ c.child_reading-r.ensures, c.requires.0.in_frame)
 
 pub overflow_add-i : goal.overflow_add-i
 overflow_add-i c =
@@ -72,7 +62,7 @@ loop-i-smaller c =
 pub loop-i-preserved : goal.loop-i-preserved
 unfolding child_step
 loop-i-preserved c =
-    turn_next (turn c.before.before.before.before.before.before.before.before) _ c.child_reading-r.ensures c.if-r-ne0.false
+    turn_next (turn_of c.requires.1 c.loop-i.invariant c.loop-i-test.true c.next-end.ensures) _ c.child_reading-r.ensures c.if-r-ne0.false
 
 pub overflow_sub-part : goal.overflow_sub-part
 overflow_sub-part c =

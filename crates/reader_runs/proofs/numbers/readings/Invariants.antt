@@ -1,12 +1,10 @@
 -- `reader_runs::numbers::readings` meets its contract. Assumes nothing.
 -- what a turn knows
-use native.Mathlib.Omega.{arith}
 use Prim.Native.Nat.{◌+◌, ◌-◌}
 use mathlib.Core.Bool.{true}
-use borrow.Author.Rules.{rules}
 use Rattle.meaning.specs.Reading.{child_step, read_number, read_maybe}
 use Rattle.container_depths.specs.Opening.{depths_of}
-use Rattle.reader_runs.proofs.Turns.{body_ends, Left, left_begin, left_passes, left_end, Turn, turn_starts, turn_ends, turn_fits, turn_stop, turn_next}
+use Rattle.reader_runs.proofs.Turns.{Left}
 use Rattle.reader_runs.proofs.numbers.readings.Given as goal
 
 abbrev pub invariant-loop-i : goal.invariant-loop-i

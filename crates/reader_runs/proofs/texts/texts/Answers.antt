@@ -1,17 +1,10 @@
 -- `reader_runs::texts::texts` meets its contract. Assumes nothing.
--- what a turn knows
-use Prim.Native.Nat.{◌+◌, ◌-◌}
 use native.Mathlib.Omega.{arith}
 use borrow.Author.Rules.{rules}
-use Rattle.meaning.specs.Depths.{Depths, none_open}
-use Rattle.meaning.specs.Reading.{child_step, read_text}
-use Rattle.reader_runs.proofs.Turns.{body_ends, Left, left_begin, left_passes, left_end, Turn, turn_starts, turn_ends, turn_fits, turn_stop, turn_next}
+use Rattle.meaning.specs.Depths.{none_open}
+use Rattle.meaning.specs.Reading.{child_step}
+use Rattle.reader_runs.proofs.Turns.{body_ends, left_begin, left_passes, left_end, turn_of, turn_starts, turn_ends, turn_fits, turn_stop, turn_next}
 use Rattle.reader_runs.proofs.texts.texts.Goals as goal
-
-turn : (c : tie.After-next invariant_loop decreases_loop) (d : Depths) → let s = c.before.before.before.before.before.before.before in let v = c.before.before in
-    Turn (child_step (read_text s.args.code) d s.args.place s.args.part.now (s.args.lead + s.args.offsets.start))
-    s.args.offsets s.args.part.now s.args.lead s.args.n s.args.out.now v.loop.i v.loop.u v.loop.count v.loop.out c.next.result
-turn c d = record { tabled = c.before.before.before.before.before.before.before.requires.1; left = c.before.before.loop.invariant d; more = c.before.loop-test.true; found = c.next.ensures }
 
 pub slice_bounds-table-count : goal.slice_bounds-table-count
 slice_bounds-table-count c =
@@ -35,20 +28,20 @@ loop-i-init c =
 
 pub overflow_add-lead : goal.overflow_add-lead
 overflow_add-lead c =
-    omega (arith, turn_starts (turn c none_open), c.requires.0)
+    omega (arith, turn_starts (turn_of c.requires.1 (c.loop-i.invariant none_open) c.loop-i-test.true c.next-end.ensures), c.requires.0)
 
 pub overflow_add-lead-in-loop-i : goal.overflow_add-lead-in-loop-i
 overflow_add-lead-in-loop-i c =
-    omega (arith, turn_ends (turn c.before none_open), c.requires.0)
+    omega (arith, turn_ends (turn_of c.requires.1 (c.loop-i.invariant none_open) c.loop-i-test.true c.next-end.ensures), c.requires.0)
 
 pub child_text-r-requires : goal.child_text-r-requires
 child_text-r-requires c =
-    (c.requires.0, turn_ends (turn c.before.before none_open))
+    (c.requires.0, turn_ends (turn_of c.requires.1 (c.loop-i.invariant none_open) c.loop-i-test.true c.next-end.ensures))
 
 pub behind-requires : goal.behind-requires
 unfolding child_step
 behind-requires c =
-    omega (arith, turn_fits (turn c none_open) _ (c.child_text-r.ensures none_open), c.requires.0)
+    omega (arith, turn_fits (turn_of c.requires.1 (c.loop-i.invariant none_open) c.loop-i-test.true c.next-end.ensures) _ (c.child_text-r.ensures none_open), c.requires.0)
 
 pub shape_of-out-then-r-ne0 : goal.shape_of-out-then-r-ne0
 shape_of-out-then-r-ne0 c =
@@ -57,12 +50,12 @@ shape_of-out-then-r-ne0 c =
 pub returns-then-r-ne0 : goal.returns-then-r-ne0
 unfolding child_step
 returns-then-r-ne0 c =
-    λ d. rw c.behind.ensures (turn_stop (turn c.before.before.before.before.before.before.before.before d) _ (c.child_text-r.ensures d) c.if-r-ne0.true)
+    λ d. rw c.behind.ensures (turn_stop (turn_of c.requires.1 (c.loop-i.invariant d) c.loop-i-test.true c.next-end.ensures) _ (c.child_text-r.ensures d) c.if-r-ne0.true)
 
 pub overflow_add-u : goal.overflow_add-u
 unfolding child_step
 overflow_add-u c =
-    omega (arith, turn_fits (turn c none_open) _ (c.child_text-r.ensures none_open), c.requires.0)
+    omega (arith, turn_fits (turn_of c.requires.1 (c.loop-i.invariant none_open) c.loop-i-test.true c.next-end.ensures) _ (c.child_text-r.ensures none_open), c.requires.0)
 
 pub overflow_add-i : goal.overflow_add-i
 overflow_add-i c =
@@ -75,7 +68,7 @@ loop-i-smaller c =
 pub loop-i-preserved : goal.loop-i-preserved
 unfolding child_step
 loop-i-preserved c =
-    λ d. turn_next (turn c.before.before.before.before.before.before.before.before d) _ (c.child_text-r.ensures d) c.if-r-ne0.false
+    λ d. turn_next (turn_of c.requires.1 (c.loop-i.invariant d) c.loop-i-test.true c.next-end.ensures) _ (c.child_text-r.ensures d) c.if-r-ne0.false
 
 pub overflow_sub-part : goal.overflow_sub-part
 overflow_sub-part c =

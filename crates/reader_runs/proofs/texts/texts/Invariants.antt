@@ -1,11 +1,9 @@
 -- `reader_runs::texts::texts` meets its contract. Assumes nothing.
 -- what a turn knows
 use Prim.Native.Nat.{◌+◌, ◌-◌}
-use native.Mathlib.Omega.{arith}
-use borrow.Author.Rules.{rules}
-use Rattle.meaning.specs.Depths.{Depths, none_open}
+use Rattle.meaning.specs.Depths.{Depths}
 use Rattle.meaning.specs.Reading.{child_step, read_text}
-use Rattle.reader_runs.proofs.Turns.{body_ends, Left, left_begin, left_passes, left_end, Turn, turn_starts, turn_ends, turn_fits, turn_stop, turn_next}
+use Rattle.reader_runs.proofs.Turns.{Left}
 use Rattle.reader_runs.proofs.texts.texts.Given as goal
 
 abbrev pub invariant-loop-i : goal.invariant-loop-i

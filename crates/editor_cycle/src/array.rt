@@ -17,7 +17,7 @@ use signature::Letter;
 use signature::items::{Item, item_of};
 use signature::shapes::Shape;
 
-#[cycle(array_elements_step_maybe_fields_structure_value_variant)]
+#[cycle(editing)]
 pub(crate) fn array(
     text: &[u8],
     tables: &[u16],
@@ -47,7 +47,7 @@ pub(crate) fn array(
 }
 
 // The elements of an array, or the entries of a dictionary, one after another up to the one that holds the reading.
-#[cycle(array_elements_step_maybe_fields_structure_value_variant)]
+#[cycle(editing)]
 fn elements(
     text: &[u8],
     tables: &[u16],

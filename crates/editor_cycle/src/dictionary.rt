@@ -11,7 +11,7 @@ use editor_steps::starts::entry_of;
 use signature::items::Item;
 
 // An element, or an entry: a key, which holds no reading, and a value.
-#[cycle(array_elements_step_maybe_fields_structure_value_variant)]
+#[cycle(editing)]
 pub(crate) fn step(
     text: &[u8],
     tables: &[u16],

@@ -23,7 +23,7 @@ use signature::Letter;
 use signature::shapes::Shape;
 
 // A value that fills a part, which stands at a place of the frame.
-#[cycle(array_elements_step_maybe_fields_structure_value_variant)]
+#[cycle(editing)]
 pub fn value(
     text: &[u8],
     tables: &[u16],

@@ -13,7 +13,7 @@ use editor_steps::reading::{is_slot, reading};
 use signature::Letter;
 use signature::shapes::{Shape, shape_in};
 
-#[cycle(array_elements_step_maybe_fields_structure_value_variant)]
+#[cycle(editing)]
 pub(crate) fn maybe(
     text: &[u8],
     tables: &[u16],

@@ -16,7 +16,7 @@ use signature::Letter;
 use signature::shapes::{Shape, shape_in};
 use strict_sizes::sizes::offsets_in;
 
-#[cycle(array_elements_step_maybe_fields_structure_value_variant)]
+#[cycle(editing)]
 pub(crate) fn structure(
     text: &[u8],
     tables: &[u16],
@@ -42,7 +42,7 @@ pub(crate) fn structure(
 }
 
 // The fields of a structure, one after another up to the one that holds the reading.
-#[cycle(array_elements_step_maybe_fields_structure_value_variant)]
+#[cycle(editing)]
 fn fields(
     text: &[u8],
     tables: &[u16],

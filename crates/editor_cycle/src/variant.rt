@@ -12,7 +12,7 @@ use signature::shapes::shape_in;
 use strict_sizes::sizes::{TABLE, tables_of};
 
 // A variant: its type stands at its end, behind a nul.
-#[cycle(array_elements_step_maybe_fields_structure_value_variant)]
+#[cycle(editing)]
 pub(crate) fn variant(
     part: &[u8],
     place: usize,

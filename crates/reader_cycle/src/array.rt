@@ -23,7 +23,7 @@ use reader_steps::opening::in_array;
 use reader_steps::ride::context_of;
 use signature::Letter;
 
-#[cycle(array_elements_framed_body_container_entry_fixed_key_text_key_maybe_structure_value_variant)]
+#[cycle(reading)]
 pub(crate) fn array(
     text: &[u8],
     shapes: &[u16; 255],
@@ -65,7 +65,7 @@ pub(crate) fn array(
 }
 
 // Elements that are fixed, one behind another to the part's end.
-#[cycle(array_elements_framed_body_container_entry_fixed_key_text_key_maybe_structure_value_variant)]
+#[cycle(reading)]
 pub(crate) fn elements(
     text: &[u8],
     shapes: &[u16; 255],
@@ -108,7 +108,7 @@ pub(crate) fn elements(
 }
 
 // Elements that are not fixed, each from where the one before stopped, up to the end that the table gives; then the table.
-#[cycle(array_elements_framed_body_container_entry_fixed_key_text_key_maybe_structure_value_variant)]
+#[cycle(reading)]
 pub(crate) fn framed(
     text: &[u8],
     shapes: &[u16; 255],

@@ -14,7 +14,7 @@ use reader_steps::ends::{end_padded, padded, past};
 use signature::shapes::fixed_of;
 
 // One entry of a dictionary, from j to e; the body ends at b.
-#[cycle(array_elements_framed_body_container_entry_fixed_key_text_key_maybe_structure_value_variant)]
+#[cycle(reading)]
 pub(crate) fn entry(
     text: &[u8],
     shapes: &[u16; 255],
@@ -47,7 +47,7 @@ pub(crate) fn entry(
 }
 
 // An entry behind its padding, from j to e: a key that is fixed, and the value.
-#[cycle(array_elements_framed_body_container_entry_fixed_key_text_key_maybe_structure_value_variant)]
+#[cycle(reading)]
 pub(crate) fn fixed_key(
     text: &[u8],
     shapes: &[u16; 255],
@@ -83,7 +83,7 @@ pub(crate) fn fixed_key(
 }
 
 // An entry behind its padding, from j to e: a text, the value, and the key's offset.
-#[cycle(array_elements_framed_body_container_entry_fixed_key_text_key_maybe_structure_value_variant)]
+#[cycle(reading)]
 pub(crate) fn text_key(
     text: &[u8],
     shapes: &[u16; 255],

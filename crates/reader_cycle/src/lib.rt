@@ -26,7 +26,7 @@ use reader_steps::codes::leaf;
 use reader_steps::ends::padded;
 
 // A value of a type, from j to e of a part. An end past the part or before the place is out of bounds.
-#[cycle(array_elements_framed_body_container_entry_fixed_key_text_key_maybe_structure_value_variant)]
+#[cycle(reading)]
 pub fn value(
     text: &[u8],
     shapes: &[u16; 255],
@@ -58,7 +58,7 @@ pub fn value(
 }
 
 // A container: its padding, and what stands in it.
-#[cycle(array_elements_framed_body_container_entry_fixed_key_text_key_maybe_structure_value_variant)]
+#[cycle(reading)]
 pub(crate) fn container(
     text: &[u8],
     shapes: &[u16; 255],
@@ -83,7 +83,7 @@ pub(crate) fn container(
 }
 
 // What stands in a container, behind its padding. `variant` is called twice, so that it keeps its own stack frame.
-#[cycle(array_elements_framed_body_container_entry_fixed_key_text_key_maybe_structure_value_variant)]
+#[cycle(reading)]
 pub(crate) fn body(
     text: &[u8],
     shapes: &[u16; 255],

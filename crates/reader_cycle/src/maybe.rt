@@ -16,7 +16,7 @@ use reader_steps::opening::in_maybe;
 use signature::Letter;
 use signature::shapes::fixed_of;
 
-#[cycle(array_elements_framed_body_container_entry_fixed_key_text_key_maybe_structure_value_variant)]
+#[cycle(reading)]
 pub(crate) fn maybe(
     text: &[u8],
     shapes: &[u16; 255],

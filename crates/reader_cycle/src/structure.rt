@@ -19,7 +19,7 @@ use signature::shapes::next_of;
 
 // A structure, in one function with the loop over all its fields but the last. A field that is neither fixed nor last takes its end from the
 // back of the table.
-#[cycle(array_elements_framed_body_container_entry_fixed_key_text_key_maybe_structure_value_variant)]
+#[cycle(reading)]
 pub(crate) fn structure(
     text: &[u8],
     shapes: &[u16; 255],

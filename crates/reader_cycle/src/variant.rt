@@ -16,7 +16,7 @@ use signature_table::shapes_of;
 use texts::text;
 
 // A variant: its type stands at its end, behind a nul.
-#[cycle(array_elements_framed_body_container_entry_fixed_key_text_key_maybe_structure_value_variant)]
+#[cycle(reading)]
 pub(crate) fn variant(
     part: &[u8],
     lead: usize,

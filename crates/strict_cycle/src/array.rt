@@ -17,7 +17,7 @@ use strict_ends::{Rows, element_end, rows_of, start_of};
 use strict_sizes::items::{Item, repeated};
 
 // An array or a dictionary.
-#[cycle(array_elements_first_child_entries_pair_maybe_fields_last_field_structure_value_variant)]
+#[cycle(testing)]
 pub(crate) fn array(
     text: &[u8],
     tables: &[u16],
@@ -62,7 +62,7 @@ pub(crate) fn array(
 }
 
 // An array for whose elements any bytes will do: they fill the part, and the first tells of all.
-#[cycle(array_elements_first_child_entries_pair_maybe_fields_last_field_structure_value_variant)]
+#[cycle(testing)]
 pub(crate) fn first(
     text: &[u8],
     tables: &[u16],
@@ -88,7 +88,7 @@ pub(crate) fn first(
 }
 
 // The elements of an array, each behind its padding.
-#[cycle(array_elements_first_child_entries_pair_maybe_fields_last_field_structure_value_variant)]
+#[cycle(testing)]
 pub(crate) fn elements(
     text: &[u8],
     tables: &[u16],

@@ -16,7 +16,7 @@ use strict_sizes::items::Item;
 use strict_sizes::sizes::extent_in;
 
 // The entries of a dictionary, each behind its padding.
-#[cycle(array_elements_first_child_entries_pair_maybe_fields_last_field_structure_value_variant)]
+#[cycle(testing)]
 pub(crate) fn entries(
     text: &[u8],
     tables: &[u16],
@@ -55,7 +55,7 @@ pub(crate) fn entries(
 }
 
 // A dictionary's entry: a key and a value, laid out as a structure.
-#[cycle(array_elements_first_child_entries_pair_maybe_fields_last_field_structure_value_variant)]
+#[cycle(testing)]
 pub(crate) fn pair(text: &[u8], tables: &[u16], item: Item, part: &[u8], d: ContainerDepths) -> bool
     requires { Repeated text.now tables.now item × (item.entry ≡ true) × Inside (length part.now) d }
     ensures { result ≡ (item_test d.variant text.now item).accepts (depths_of d) part.now }

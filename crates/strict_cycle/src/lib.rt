@@ -23,7 +23,7 @@ use signature::shapes::Shape;
 use strict_basic::basic::{is_basic, letter_written};
 
 // A value that fills a part.
-#[cycle(array_elements_first_child_entries_pair_maybe_fields_last_field_structure_value_variant)]
+#[cycle(testing)]
 pub fn value(text: &[u8], tables: &[u16], shape: Shape, part: &[u8], d: ContainerDepths) -> bool
     requires { Placed text.now tables.now shape × Inside (length part.now) d }
     ensures { result ≡ (tree_test d.variant text.now shape.at).accepts (depths_of d) part.now }
@@ -39,7 +39,7 @@ pub fn value(text: &[u8], tables: &[u16], shape: Shape, part: &[u8], d: Containe
 }
 
 // A child that fills a part. One that holds no other goes by its letter alone, and `value` is spared.
-#[cycle(array_elements_first_child_entries_pair_maybe_fields_last_field_structure_value_variant)]
+#[cycle(testing)]
 pub(crate) fn child(
     text: &[u8],
     tables: &[u16],

@@ -11,7 +11,7 @@ use signature::Letter;
 use signature::shapes::{Shape, shape_in};
 use strict_basic::basic::{is_basic, letter_written};
 
-#[cycle(array_elements_first_child_entries_pair_maybe_fields_last_field_structure_value_variant)]
+#[cycle(testing)]
 pub(crate) fn maybe(
     text: &[u8],
     tables: &[u16],

@@ -19,7 +19,7 @@ use strict_ends::{
 };
 use strict_sizes::sizes::{extent_in, offsets_in};
 
-#[cycle(array_elements_first_child_entries_pair_maybe_fields_last_field_structure_value_variant)]
+#[cycle(testing)]
 pub(crate) fn structure(
     text: &[u8],
     tables: &[u16],
@@ -46,7 +46,7 @@ pub(crate) fn structure(
 }
 
 // The fields of a structure. One that is neither fixed nor last takes its end from the back of the table.
-#[cycle(array_elements_first_child_entries_pair_maybe_fields_last_field_structure_value_variant)]
+#[cycle(testing)]
 pub(crate) fn fields(
     text: &[u8],
     tables: &[u16],
@@ -88,7 +88,7 @@ pub(crate) fn fields(
 }
 
 // The last field, and what stands behind it in the whole.
-#[cycle(array_elements_first_child_entries_pair_maybe_fields_last_field_structure_value_variant)]
+#[cycle(testing)]
 pub(crate) fn last_field(
     text: &[u8],
     tables: &[u16],

@@ -10,7 +10,7 @@ use strict_basic::basic::{letter_written, lone_basic, lone_variant};
 use strict_sizes::sizes::{TABLE, tables_of};
 
 // A variant: its type stands at its end, behind a nul. One that is a single letter needs no table.
-#[cycle(array_elements_first_child_entries_pair_maybe_fields_last_field_structure_value_variant)]
+#[cycle(testing)]
 pub(crate) fn variant(part: &[u8], d: ContainerDepths) -> bool
     requires { Inside (length part.now) d }
     ensures { result ≡ variant_accepts d part.now }

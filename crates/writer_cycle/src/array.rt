@@ -21,7 +21,7 @@ use writer_ends::keep;
 use writer_store::{add, pad};
 
 // An array or a dictionary.
-#[cycle(array_elements_items_one_entry_maybe_fields_structure_value_typed_variant)]
+#[cycle(writing)]
 pub(crate) fn array(
     text: &[u8],
     shapes: &[u16],
@@ -58,7 +58,7 @@ pub(crate) fn array(
 }
 
 // What an array or a dictionary repeats, up to an event that closes. Numbers, readings and texts have loops of their own.
-#[cycle(array_elements_items_one_entry_maybe_fields_structure_value_typed_variant)]
+#[cycle(writing)]
 pub(crate) fn elements(
     text: &[u8],
     shapes: &[u16],
@@ -94,7 +94,7 @@ pub(crate) fn elements(
 }
 
 // Any elements or entries, one behind another.
-#[cycle(array_elements_items_one_entry_maybe_fields_structure_value_typed_variant)]
+#[cycle(writing)]
 pub(crate) fn items(
     text: &[u8],
     shapes: &[u16],
@@ -131,7 +131,7 @@ pub(crate) fn items(
 }
 
 // One of them.
-#[cycle(array_elements_items_one_entry_maybe_fields_structure_value_typed_variant)]
+#[cycle(writing)]
 pub(crate) fn one(
     text: &[u8],
     shapes: &[u16],

@@ -12,7 +12,7 @@ use writer_ends::keep;
 use writer_store::{add, pad};
 
 // An entry: its key, its value, and what ends a structure of both.
-#[cycle(array_elements_items_one_entry_maybe_fields_structure_value_typed_variant)]
+#[cycle(writing)]
 pub(crate) fn entry(
     text: &[u8],
     shapes: &[u16],

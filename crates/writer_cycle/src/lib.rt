@@ -25,7 +25,7 @@ use writer_basic::{Answer, Context, Spot};
 
 // The value of a type. Each container is called twice, so that it keeps its own stack frame; no type begins with the letters of the second
 // calls.
-#[cycle(array_elements_items_one_entry_maybe_fields_structure_value_typed_variant)]
+#[cycle(writing)]
 pub fn value(
     text: &[u8],
     shapes: &[u16],

@@ -15,7 +15,7 @@ use writer_basic::basic::plain_at;
 use writer_basic::closing::present;
 use writer_basic::{Answer, Context, Spot, refused, wrote};
 
-#[cycle(array_elements_items_one_entry_maybe_fields_structure_value_typed_variant)]
+#[cycle(writing)]
 pub(crate) fn maybe(
     text: &[u8],
     shapes: &[u16],

@@ -19,7 +19,7 @@ use writer_basic::{Answer, Context, Run, Spot, child_spot, ran, refused, stopped
 use writer_ends::keep;
 use writer_store::{add, pad};
 
-#[cycle(array_elements_items_one_entry_maybe_fields_structure_value_typed_variant)]
+#[cycle(writing)]
 pub(crate) fn structure(
     text: &[u8],
     shapes: &[u16],
@@ -58,7 +58,7 @@ pub(crate) fn structure(
 }
 
 // The fields of a structure. The end of one that is neither fixed nor last is kept.
-#[cycle(array_elements_items_one_entry_maybe_fields_structure_value_typed_variant)]
+#[cycle(writing)]
 pub(crate) fn fields(
     text: &[u8],
     shapes: &[u16],

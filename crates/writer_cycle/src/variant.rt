@@ -16,7 +16,7 @@ use writer_basic::basic::{plain_at, text_at};
 use writer_basic::closing::variant_end;
 use writer_basic::{Answer, Context, Spot, refused};
 
-#[cycle(array_elements_items_one_entry_maybe_fields_structure_value_typed_variant)]
+#[cycle(writing)]
 pub(crate) fn variant(
     events: &[u64],
     texts: &[u8],
@@ -43,7 +43,7 @@ pub(crate) fn variant(
 }
 
 // A variant whose type stands from a place to another among the texts.
-#[cycle(array_elements_items_one_entry_maybe_fields_structure_value_typed_variant)]
+#[cycle(writing)]
 pub(crate) fn typed(
     events: &[u64],
     texts: &[u8],

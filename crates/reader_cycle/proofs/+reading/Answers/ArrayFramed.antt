@@ -1,0 +1,226 @@
+-- The needs of `array::framed`, and what answers each.
+use Prim.Native.Nat.{◌+◌}
+use Rattle.framing_offsets.specs.Tables.{table_in}
+use Rattle.meaning.proofs.Bounds.{length_ends}
+use Rattle.reader_basic.proofs.Loops.{ends_below, framed_begin, framed_end, framed_next, framed_stop, kept, next_end}
+use Rattle.reader_basic.specs.Answers.{Between}
+use Rattle.reader_steps.proofs.Arrays.{offset_told}
+use Rattle.reader_steps.proofs.Deepening.{arrived, told}
+use Rattle.reader_steps.proofs.ItemLaws.{held_numbers, held_texts}
+use Rattle.reader_steps.proofs.Repeats.{fixed_as, item_held, item_text, item_within, repeated_as, step_element, step_entry}
+use Rattle.reader_steps.proofs.Rides.{inside_as, readings_as}
+use Rattle.reader_steps.specs.Places.{item_of, step_in}
+use Rattle.reader_steps.specs.Rides.{context_of}
+use lib.ListN.{drop, length-drop}
+use mathlib.Core.Bool.{false≢true}
+use mathlib.Core.Path.{◌∙◌, sym}
+use native.Mathlib.Omega.{arith}
+use Rattle.reader_cycle.proofs.+reading.Goals as goal
+use Rattle.reader_cycle.proofs.+reading.Goals.{array::framed-then-is_entry, array::framed-else-is_entry}
+
+pub overflow_add-child : goal.array::framed-overflow_add-child
+overflow_add-child t c =
+    omega (arith, item_within c.args.text.now c.args.shapes.now c.args.at _ c.requires.0, c.requires.0.child.typed.short)
+
+pub held_width-width-requires : goal.array::framed-held_width-width-requires
+held_width-width-requires t c =
+    omega (arith, item_within c.args.text.now c.args.shapes.now c.args.at _ c.requires.0)
+
+pub overflow_add-held : goal.array::framed-overflow_add-held
+overflow_add-held t c =
+    omega (arith, item_within c.args.text.now c.args.shapes.now c.args.at _ c.requires.0, c.requires.0.child.typed.short)
+
+pub bounds-text-at : goal.array::framed-bounds-text-at
+bounds-text-at t c =
+    omega (arith, (c.held_width-width.ensures c.if-width-ne0.true).within)
+
+pub readings-requires : goal.array::framed-readings-requires
+readings-requires t c =
+    (
+      inside_as c.context_of-context.ensures c.requires.2,
+      record { begins = c.requires.3; stands = c.requires.4 },
+      (c.requires.0.number _ _ (item_held c.args.text.now
+          c.args.shapes.now c.args.at (item_within c.args.text.now c.args.shapes.now c.args.at _ c.requires.0) _ (c.held_width-width.ensures c.if-width-ne0.true))).aligned,
+    )
+
+pub returns-then-width-ne0 : goal.array::framed-returns-then-width-ne0
+returns-then-width-ne0 t c =
+    held_numbers _ _ _ _ (c.requires.0.number _ _ (item_held c.args.text.now c.args.shapes.now c.args.at (item_within c.args.text.now c.args.shapes.now
+    c.args.at _ c.requires.0) _ (c.held_width-width.ensures c.if-width-ne0.true))) _ _ _ _ _ _ _ _ _ _ _ _ _ _ _ _ c.requires.1 (readings_as c.context_of-context.ensures _ _ _ _ _ _
+    c.args.offsets c.readings.ensures)
+
+pub bounds-text-child : goal.array::framed-bounds-text-child
+bounds-text-child t c =
+    omega (arith, item_within c.args.text.now c.args.shapes.now c.args.at _ c.requires.0)
+
+pub texts-requires : goal.array::framed-texts-requires
+texts-requires t c =
+    (c.requires.2.in_frame, record { begins = c.requires.3; stands = c.requires.4 })
+
+pub returns-then-is_text : goal.array::framed-returns-then-is_text
+returns-then-is_text t c =
+    held_texts (context_of c.args.ride) c.args.text.now c.args.shapes.now (item_of c.args.text.now c.args.shapes.now c.args.at) _ c.requires.0
+    (item_text c.args.text.now c.args.shapes.now c.args.at (item_within c.args.text.now c.args.shapes.now c.args.at _ c.requires.0) (sym
+    c.if-is_text.true ∙ c.is_text.ensures)) c.args.offsets c.args.place c.args.part.now
+    c.args.lead _ _ _ _ _ _ c.texts.ensures
+
+pub overflow_add-b : goal.array::framed-overflow_add-b
+overflow_add-b t c =
+    omega (arith, c.requires.4.start, length-drop c.args.lead c.args.part.now, c.requires.2.in_frame, c.requires.3)
+
+pub slice_bounds-table-count : goal.array::framed-slice_bounds-table-count
+slice_bounds-table-count t c =
+    omega (arith, c.requires.4.start, length-drop c.args.lead c.args.part.now, c.requires.2.in_frame, c.requires.3)
+
+pub slice_bounds-table-start : goal.array::framed-slice_bounds-table-start
+slice_bounds-table-start t c =
+    omega (arith, c.requires.4.start, length-drop c.args.lead c.args.part.now, c.requires.2.in_frame, c.requires.3)
+
+pub slice_bounds-table-end : goal.array::framed-slice_bounds-table-end
+slice_bounds-table-end t c =
+    omega (arith, c.requires.4.start, length-drop c.args.lead c.args.part.now, c.requires.2.in_frame, c.requires.3)
+
+pub loop-i-init : goal.array::framed-loop-i-init
+loop-i-init t c = framed_begin _ _ _ _ _ _ _ (omega arith)
+
+pub overflow_add-j : goal.array::framed-overflow_add-j
+overflow_add-j t c =
+    omega (arith, c.loop-i.invariant.bound, c.requires.4.start, length-drop c.args.lead c.args.part.now, c.requires.2.in_frame, c.requires.3)
+
+pub overflow_add-e : goal.array::framed-overflow_add-e
+overflow_add-e t c =
+    omega (
+      arith,
+      (next_end c.requires.4 c.loop-i.i c.next_in-offset.result c.loop-i-test.true
+          (offset_told c.args.offsets c.loop-i.i c.args.lead c.args.part.now c.loop-i-test.true c.next_in-offset.ensures)),
+      ends_below c.requires.4 c.loop-i.i,
+      c.requires.4.start,
+      length-drop c.args.lead c.args.part.now,
+      c.requires.2.in_frame,
+      c.requires.3,
+    )
+
+pub entry-r-requires : goal.array::framed-entry-r-requires
+entry-r-requires t c =
+    (
+      omega (arith, c.decreases),
+      (
+        repeated_as c.args.text.now c.args.shapes.now c.args.at c.if-is_entry.true-raw c.requires.0,
+        c.requires.2,
+        omega
+            (arith, c.loop-i.invariant.bound, c.requires.4.start, length-drop c.args.lead c.args.part.now, c.requires.3),
+        omega (
+          arith,
+          (next_end c.requires.4 c.loop-i.i c.next_in-offset.result c.loop-i-test.true
+              (offset_told c.args.offsets c.loop-i.i c.args.lead c.args.part.now c.loop-i-test.true c.next_in-offset.ensures)),
+          ends_below c.requires.4 c.loop-i.i,
+        ),
+        omega
+            (arith, c.requires.4.start, length-drop c.args.lead c.args.part.now, c.requires.3),
+        λ z. absurd
+            (false≢true (sym (fixed_as c.args.text.now c.args.shapes.now c.args.at c.if-is_entry.true-raw c.requires.1) ∙ z)),
+      ),
+    )
+
+pub value-r-requires : goal.array::framed-value-r-requires
+value-r-requires t c =
+    (
+      omega (arith, c.decreases),
+      (
+        (repeated_as c.args.text.now c.args.shapes.now c.args.at c.if-is_entry.false-raw c.requires.0).child,
+        c.requires.2,
+        omega
+            (arith, c.loop-i.invariant.bound, c.requires.4.start, length-drop c.args.lead c.args.part.now, c.requires.3),
+      ),
+    )
+
+pub behind-requires : goal.array::framed-behind-requires
+behind-requires t c =
+    let turned : Between (step_in (context_of c.args.ride) c.args.text.now (item_of c.args.text.now c.args.shapes.now c.args.at) c.args.place c.args.part.now (c.args.lead + c.args.offsets.start) (c.args.lead + c.loop-i.stopped) (c.args.lead + c.next_in-offset.result.value))
+        c.args.part.now (c.args.lead + c.loop-i.stopped) (c.args.lead + c.next_in-offset.result.value) c.loop-i.m c.loop-i.out c.if-is_entry.out c.if-is_entry.r =
+      elim c.if-is_entry.branch [
+        array::framed-then-is_entry w ↦ arrived w.out-is w.r-is (step_entry (context_of c.args.ride) c.args.text.now c.args.shapes.now c.args.at _ c.args.place
+          c.args.part.now (c.args.lead + c.args.offsets.start) (c.args.lead + c.loop-i.stopped) (c.args.lead + c.next_in-offset.result.value) _ _ _ _ w.if-is_entry.true-raw w.entry-r.ensures)
+      | array::framed-else-is_entry w ↦ arrived w.out-is w.r-is (step_element (context_of c.args.ride) c.args.text.now c.args.shapes.now c.args.at _ c.args.place
+          c.args.part.now (c.args.lead + c.args.offsets.start) (c.args.lead + c.loop-i.stopped) (c.args.lead + c.next_in-offset.result.value) _ _ _ _ w.if-is_entry.false-raw w.value-r.ensures)
+      ] in
+    omega (arith, turned.fits, c.loop-i.invariant.bound, c.requires.4.start, length-drop c.args.lead c.args.part.now, c.requires.2.in_frame, c.requires.3)
+
+pub shape_of-out-then-refusal-ne0 : goal.array::framed-shape_of-out-then-refusal-ne0
+shape_of-out-then-refusal-ne0 t c =
+    let turned : Between (step_in (context_of c.args.ride) c.args.text.now (item_of c.args.text.now c.args.shapes.now c.args.at) c.args.place c.args.part.now (c.args.lead + c.args.offsets.start) (c.args.lead + c.loop-i.stopped) (c.args.lead + c.next_in-offset.result.value))
+        c.args.part.now (c.args.lead + c.loop-i.stopped) (c.args.lead + c.next_in-offset.result.value) c.loop-i.m c.loop-i.out c.if-is_entry.out c.if-is_entry.r =
+      elim c.if-is_entry.branch [
+        array::framed-then-is_entry w ↦ arrived w.out-is w.r-is (step_entry (context_of c.args.ride) c.args.text.now c.args.shapes.now c.args.at _ c.args.place
+          c.args.part.now (c.args.lead + c.args.offsets.start) (c.args.lead + c.loop-i.stopped) (c.args.lead + c.next_in-offset.result.value) _ _ _ _ w.if-is_entry.true-raw w.entry-r.ensures)
+      | array::framed-else-is_entry w ↦ arrived w.out-is w.r-is (step_element (context_of c.args.ride) c.args.text.now c.args.shapes.now c.args.at _ c.args.place
+          c.args.part.now (c.args.lead + c.args.offsets.start) (c.args.lead + c.loop-i.stopped) (c.args.lead + c.next_in-offset.result.value) _ _ _ _ w.if-is_entry.false-raw w.value-r.ensures)
+      ] in
+    kept turned ∙ c.loop-i.invariant.same
+
+pub returns-then-refusal-ne0 : goal.array::framed-returns-then-refusal-ne0
+returns-then-refusal-ne0 t c =
+    let turned : Between (step_in (context_of c.args.ride) c.args.text.now (item_of c.args.text.now c.args.shapes.now c.args.at) c.args.place c.args.part.now (c.args.lead + c.args.offsets.start) (c.args.lead + c.loop-i.stopped) (c.args.lead + c.next_in-offset.result.value))
+        c.args.part.now (c.args.lead + c.loop-i.stopped) (c.args.lead + c.next_in-offset.result.value) c.loop-i.m c.loop-i.out c.if-is_entry.out c.if-is_entry.r =
+      elim c.if-is_entry.branch [
+        array::framed-then-is_entry w ↦ arrived w.out-is w.r-is (step_entry (context_of c.args.ride) c.args.text.now c.args.shapes.now c.args.at _ c.args.place
+          c.args.part.now (c.args.lead + c.args.offsets.start) (c.args.lead + c.loop-i.stopped) (c.args.lead + c.next_in-offset.result.value) _ _ _ _ w.if-is_entry.true-raw w.entry-r.ensures)
+      | array::framed-else-is_entry w ↦ arrived w.out-is w.r-is (step_element (context_of c.args.ride) c.args.text.now c.args.shapes.now c.args.at _ c.args.place
+          c.args.part.now (c.args.lead + c.args.offsets.start) (c.args.lead + c.loop-i.stopped) (c.args.lead + c.next_in-offset.result.value) _ _ _ _ w.if-is_entry.false-raw w.value-r.ensures)
+      ] in
+    told c.behind.ensures (framed_stop _ _ _ _ _ _ _ _ _ _ _ c.loop-i.invariant
+    (omega (arith, c.requires.4.start, length-drop c.args.lead c.args.part.now, c.requires.3))
+    (omega (arith, length_ends (table_in c.args.offsets) (drop c.args.lead c.args.part.now), c.loop-i-test.true)) _ _
+    (omega (arith, ends_below c.requires.4 c.loop-i.i))
+    (rw (next_end c.requires.4 c.loop-i.i c.next_in-offset.result c.loop-i-test.true
+    (offset_told c.args.offsets c.loop-i.i c.args.lead c.args.part.now c.loop-i-test.true c.next_in-offset.ensures)) at turned) c.if-refusal-ne0.true)
+
+pub overflow_add-stopped : goal.array::framed-overflow_add-stopped
+overflow_add-stopped t c =
+    let turned : Between (step_in (context_of c.args.ride) c.args.text.now (item_of c.args.text.now c.args.shapes.now c.args.at) c.args.place c.args.part.now (c.args.lead + c.args.offsets.start) (c.args.lead + c.loop-i.stopped) (c.args.lead + c.next_in-offset.result.value))
+        c.args.part.now (c.args.lead + c.loop-i.stopped) (c.args.lead + c.next_in-offset.result.value) c.loop-i.m c.loop-i.out c.if-is_entry.out c.if-is_entry.r =
+      elim c.if-is_entry.branch [
+        array::framed-then-is_entry w ↦ arrived w.out-is w.r-is (step_entry (context_of c.args.ride) c.args.text.now c.args.shapes.now c.args.at _ c.args.place
+          c.args.part.now (c.args.lead + c.args.offsets.start) (c.args.lead + c.loop-i.stopped) (c.args.lead + c.next_in-offset.result.value) _ _ _ _ w.if-is_entry.true-raw w.entry-r.ensures)
+      | array::framed-else-is_entry w ↦ arrived w.out-is w.r-is (step_element (context_of c.args.ride) c.args.text.now c.args.shapes.now c.args.at _ c.args.place
+          c.args.part.now (c.args.lead + c.args.offsets.start) (c.args.lead + c.loop-i.stopped) (c.args.lead + c.next_in-offset.result.value) _ _ _ _ w.if-is_entry.false-raw w.value-r.ensures)
+      ] in
+    omega (arith, turned.fits, c.loop-i.invariant.bound, c.requires.4.start, length-drop c.args.lead c.args.part.now, c.requires.2.in_frame, c.requires.3)
+
+pub overflow_add-i : goal.array::framed-overflow_add-i
+overflow_add-i t c = omega arith
+
+pub loop-i-smaller : goal.array::framed-loop-i-smaller
+loop-i-smaller t c =
+    omega (arith, c.loop-i-test.true)
+
+pub loop-i-preserved : goal.array::framed-loop-i-preserved
+loop-i-preserved t c =
+    let turned : Between (step_in (context_of c.args.ride) c.args.text.now (item_of c.args.text.now c.args.shapes.now c.args.at) c.args.place c.args.part.now (c.args.lead + c.args.offsets.start) (c.args.lead + c.loop-i.stopped) (c.args.lead + c.next_in-offset.result.value))
+        c.args.part.now (c.args.lead + c.loop-i.stopped) (c.args.lead + c.next_in-offset.result.value) c.loop-i.m c.loop-i.out c.if-is_entry.out c.if-is_entry.r =
+      elim c.if-is_entry.branch [
+        array::framed-then-is_entry w ↦ arrived w.out-is w.r-is (step_entry (context_of c.args.ride) c.args.text.now c.args.shapes.now c.args.at _ c.args.place
+          c.args.part.now (c.args.lead + c.args.offsets.start) (c.args.lead + c.loop-i.stopped) (c.args.lead + c.next_in-offset.result.value) _ _ _ _ w.if-is_entry.true-raw w.entry-r.ensures)
+      | array::framed-else-is_entry w ↦ arrived w.out-is w.r-is (step_element (context_of c.args.ride) c.args.text.now c.args.shapes.now c.args.at _ c.args.place
+          c.args.part.now (c.args.lead + c.args.offsets.start) (c.args.lead + c.loop-i.stopped) (c.args.lead + c.next_in-offset.result.value) _ _ _ _ w.if-is_entry.false-raw w.value-r.ensures)
+      ] in
+    framed_next _ _ _ _ _ _ _ _ _ _ _ c.loop-i.invariant (omega
+    (arith, c.requires.4.start, length-drop c.args.lead c.args.part.now, c.requires.3))
+    (omega (arith, length_ends (table_in c.args.offsets) (drop c.args.lead c.args.part.now), c.loop-i-test.true)) _ _
+    (omega (arith, ends_below c.requires.4 c.loop-i.i))
+    (rw (next_end c.requires.4 c.loop-i.i c.next_in-offset.result c.loop-i-test.true
+    (offset_told c.args.offsets c.loop-i.i c.args.lead c.args.part.now c.loop-i-test.true c.next_in-offset.ensures)) at turned) c.if-refusal-ne0.false
+
+pub overflow_sub-part : goal.array::framed-overflow_sub-part
+overflow_sub-part t c =
+    omega (arith, c.requires.4.start, length-drop c.args.lead c.args.part.now, c.requires.3)
+
+pub overflow_add-stopped-2 : goal.array::framed-overflow_add-stopped-2
+overflow_add-stopped-2 t c =
+    omega (arith, c.loop-i.invariant.bound, c.requires.4.start, length-drop c.args.lead c.args.part.now, c.requires.2.in_frame, c.requires.3)
+
+pub returns : goal.array::framed-returns
+returns t c =
+    told c.done.ensures (framed_end _ _ _ _ _ _ _ _ _ _ _ c.loop-i.invariant
+    (omega (arith, c.requires.4.start, length-drop c.args.lead c.args.part.now, c.requires.3))
+    (omega (arith, length_ends (table_in c.args.offsets) (drop c.args.lead c.args.part.now), c.loop-i-test.false)))

@@ -1,0 +1,44 @@
+-- The needs of `value`, and what answers each.
+use Rattle.reader_basic.proofs.Leaves.{child_before, child_past, child_there, within_child}
+use Rattle.reader_steps.proofs.Characters.{contains_code, typed_within, value_leaf}
+use Rattle.reader_steps.proofs.Deepening.{told}
+use native.Mathlib.Omega.{arith}
+use Rattle.reader_cycle.proofs.+reading.Goals as goal
+
+pub returns-then-e-j : goal.value-returns-then-e-j
+returns-then-e-j t c =
+    told c.refused.ensures (child_before _ _ _ _ _ _ _ _ _ c.if-e-j.true)
+
+pub returns-then-part-e : goal.value-returns-then-part-e
+returns-then-part-e t c =
+    told c.refused-then-part-e.ensures (child_past _ _ _ _ _ _ _ _ _ c.if-e-j.false c.if-part-e.true)
+
+pub slice_bounds-own-start : goal.value-slice_bounds-own-start
+slice_bounds-own-start t c = omega arith
+
+pub slice_bounds-own-end : goal.value-slice_bounds-own-end
+slice_bounds-own-end t c = omega arith
+
+pub overflow_add-from : goal.value-overflow_add-from
+overflow_add-from t c =
+    omega (arith, c.requires.1.in_frame, c.requires.2)
+
+pub bounds-text-at : goal.value-bounds-text-at
+bounds-text-at t c =
+    omega (arith, typed_within c.requires.0.typed)
+
+pub container-requires : goal.value-container-requires
+container-requires t c =
+    (omega (arith, c.decreases), (c.requires.0, within_child _ _ _ c.requires.1 c.if-e-j.false c.if-part-e.false, contains_code c.requires.0.typed c.in-97.is))
+
+pub leaf-requires : goal.value-leaf-requires
+leaf-requires t c =
+    within_child _ _ _ c.requires.1 c.if-e-j.false c.if-part-e.false
+
+pub returns-in-97 : goal.value-returns-in-97
+returns-in-97 t c =
+    child_there _ _ _ _ _ _ _ _ _ c.if-e-j.false c.if-part-e.false c.container.ensures
+
+pub returns-in_default : goal.value-returns-in_default
+returns-in_default t c =
+    child_there _ _ _ _ _ _ _ _ _ c.if-e-j.false c.if-part-e.false (value_leaf c.requires.0.typed c.in_default.in_default-own.rest.1 _ _ _ _ _ _ _ _ _ _ _ _ c.leaf.ensures)

@@ -1,0 +1,139 @@
+-- The needs of `variant::variant`, and what answers each.
+use Prim.Native.Nat.{◌+◌, ◌-◌}
+use borrow.Author.Tests.{not-true, not-false}
+use Rattle.reader_basic.proofs.Loops.{kept}
+use Rattle.meaning.proofs.Lists.{tail}
+use Rattle.reader_steps.proofs.Deepening.{few_variants, inside_deeper, level_falls, told}
+use Rattle.reader_steps.proofs.Variants.{holds_basic, same_value, variant_closed, variant_deep, variant_none, variant_text_lem, variant_type_lem}
+use Rattle.reader_steps.specs.Children.{only_letter}
+use Rattle.reader_steps.specs.Rides.{context_of}
+use Rattle.signature.proofs.ShapeLaws.{table_filled, table_refused, table_type}
+use Rattle.signature.proofs.TreeLaws.{front, front_described}
+use lib.ListN.{drop, length, length-take}
+use mathlib.Core.Path.{◌∙◌, ap, refl}
+use native.Mathlib.Omega.{arith}
+use Rattle.reader_cycle.proofs.+reading.Goals as goal
+
+pub slice_bounds-separator-count : goal.variant::variant-slice_bounds-separator-count
+slice_bounds-separator-count t c = omega arith
+
+pub slice_bounds-separator-start : goal.variant::variant-slice_bounds-separator-start
+slice_bounds-separator-start t c = omega arith
+
+pub slice_bounds-separator-end : goal.variant::variant-slice_bounds-separator-end
+slice_bounds-separator-end t c = omega arith
+
+pub returns-then-s-eq0 : goal.variant::variant-returns-then-s-eq0
+returns-then-s-eq0 t c =
+    told c.refused.ensures (variant_none _ _ _ _ _ _ _ (rw (tail c.args.lead c.args.part.now) at c.separator-s.ensures.0) c.if-s-eq0.true)
+
+pub overflow_add-from : goal.variant::variant-overflow_add-from
+overflow_add-from t c =
+    omega (arith, c.requires.0.in_frame, c.requires.1, c.separator-s.ensures.1, length-take (length c.args.part.now - c.args.lead) (drop c.args.lead c.args.part.now))
+
+pub slice_bounds-text-count : goal.variant::variant-slice_bounds-text-count
+slice_bounds-text-count t c = omega arith
+
+pub slice_bounds-text-start : goal.variant::variant-slice_bounds-text-start
+slice_bounds-text-start t c = omega arith
+
+pub slice_bounds-text-end : goal.variant::variant-slice_bounds-text-end
+slice_bounds-text-end t c = omega arith
+
+pub basic_variant-requires : goal.variant::variant-basic_variant-requires
+basic_variant-requires t c =
+    (
+      c.requires.0,
+      holds_basic _ _ _ _ (rw (tail c.args.lead c.args.part.now) at c.separator-s.ensures.0)
+          c.if-s-eq0.false (omega (
+            arith,
+            c.requires.0.in_frame,
+            c.requires.1,
+            c.separator-s.ensures.1,
+            length-take
+                (length c.args.part.now - c.args.lead) (drop c.args.lead c.args.part.now),
+          ))
+          ((c.only_basic-kind.ensures c.if-kind-ne0.true).0 ∙ ap only_letter (tail (c.args.lead + c.separator-s.result) c.args.part.now)) (c.only_basic-kind.ensures c.if-kind-ne0.true).1,
+    )
+
+pub returns-then-kind-ne0 : goal.variant::variant-returns-then-kind-ne0
+returns-then-kind-ne0 t c = c.basic_variant.ensures
+
+pub overflow_add-place : goal.variant::variant-overflow_add-place
+overflow_add-place t c =
+    omega (arith, c.requires.0.in_frame, c.requires.1)
+
+pub overflow_add-place-2 : goal.variant::variant-overflow_add-place-2
+overflow_add-place-2 t c =
+    omega (arith, c.requires.0.in_frame, c.requires.1, c.separator-s.ensures.1, length-take (length c.args.part.now - c.args.lead) (drop c.args.lead c.args.part.now))
+
+pub returns-then-fault-ne0 : goal.variant::variant-returns-then-fault-ne0
+returns-then-fault-ne0 t c =
+    variant_text_lem _ _ _ _ _ _ _ (rw (tail c.args.lead c.args.part.now) at c.separator-s.ensures.0) c.if-s-eq0.false _ _ (rw (tail (c.args.lead + c.separator-s.result) c.args.part.now) at c.type_text-head.ensures) c.if-fault-ne0.true
+
+pub returns-then-not-shapes_of : goal.variant::variant-returns-then-not-shapes_of
+returns-then-not-shapes_of t c =
+    told c.refused-then-not-shapes_of.ensures (variant_type_lem _ _ _ _ _ _ _ (rw (tail c.args.lead c.args.part.now) at
+    c.separator-s.ensures.0) c.if-s-eq0.false _ _
+    (rw (tail (c.args.lead + c.separator-s.result) c.args.part.now) at c.type_text-head.ensures) c.if-fault-ne0.false
+    (rw (tail (c.args.lead + c.separator-s.result) c.args.part.now) at
+    (table_refused _ _ _ _ refl c.shapes_of.ensures (not-true _ c.if-not-shapes_of.true-raw))))
+
+pub in_variant-inner-requires : goal.variant::variant-in_variant-inner-requires
+in_variant-inner-requires t c =
+    c.requires.0.shallow
+
+pub returns-then-refusal-ne0 : goal.variant::variant-returns-then-refusal-ne0
+returns-then-refusal-ne0 t c =
+    told c.refused-then-refusal-ne0.ensures (variant_deep _ _ _ _ _ _ _ (rw (tail c.args.lead c.args.part.now) at
+    c.separator-s.ensures.0) c.if-s-eq0.false _ _
+    (rw (tail (c.args.lead + c.separator-s.result) c.args.part.now) at c.type_text-head.ensures) c.if-fault-ne0.false
+    _ (front _ (rw (tail (c.args.lead + c.separator-s.result) c.args.part.now) at
+    (table_type _ _ _ _ refl c.shapes_of.ensures (not-false _ c.if-not-shapes_of.false-raw)))).type c.in_variant-inner.ensures
+    c.if-refusal-ne0.true)
+
+pub overflow_sub-e : goal.variant::variant-overflow_sub-e
+overflow_sub-e t c =
+    omega (arith, c.if-s-eq0.false)
+
+pub value-r-requires : goal.variant::variant-value-r-requires
+value-r-requires t c =
+    (
+      omega (arith, level_falls (c.in_variant-inner.ensures.deeper c.if-refusal-ne0.false), c.decreases),
+      (
+        front_described _ _
+            (table_filled _ _ _ _ refl c.shapes_of.ensures c.shapes_of.auto.shapes (not-false _ c.if-not-shapes_of.false-raw))
+            (front _ (table_type _ _ _ _ refl c.shapes_of.ensures (not-false _ c.if-not-shapes_of.false-raw))),
+        inside_deeper
+            (c.in_variant-inner.ensures.deeper c.if-refusal-ne0.false) c.requires.0,
+        c.requires.1,
+      ),
+    )
+
+pub close_variant-requires : goal.variant::variant-close_variant-requires
+close_variant-requires t c =
+    (c.requires.0.in_frame, c.requires.1)
+
+pub shape_of-out : goal.variant::variant-shape_of-out
+shape_of-out t c =
+    kept (variant_closed c.args.part.now c.args.lead c.args.place (context_of c.args.ride) c.args.n
+    c.args.out.now c.separator-s.result (rw (tail c.args.lead c.args.part.now) at
+    c.separator-s.ensures.0) c.if-s-eq0.false _ _
+    (rw (tail (c.args.lead + c.separator-s.result) c.args.part.now) at c.type_text-head.ensures) c.if-fault-ne0.false
+    _ (front _ (rw (tail (c.args.lead + c.separator-s.result) c.args.part.now) at
+    (table_type _ _ _ _ refl c.shapes_of.ensures (not-false _ c.if-not-shapes_of.false-raw)))).type
+    (c.in_variant-inner.ensures.deeper c.if-refusal-ne0.false) (few_variants c.requires.0) _ _
+    (same_value (context_of c.in_variant-inner.result.ride) _ _ _ (tail (c.args.lead + c.separator-s.result) c.args.part.now)
+    refl) (omega (arith, c.if-s-eq0.false)) _ _
+    (c.close_variant.ensures _ _ _ _ c.value-r.ensures))
+
+pub returns : goal.variant::variant-returns
+returns t c =
+    variant_closed _ _ _ _ _ _ _ (rw (tail c.args.lead c.args.part.now) at c.separator-s.ensures.0) c.if-s-eq0.false _
+    _ (rw (tail (c.args.lead + c.separator-s.result) c.args.part.now) at c.type_text-head.ensures)
+    c.if-fault-ne0.false _ (front _ (rw (tail (c.args.lead + c.separator-s.result) c.args.part.now) at
+    (table_type _ _ _ _ refl c.shapes_of.ensures (not-false _ c.if-not-shapes_of.false-raw)))).type
+    (c.in_variant-inner.ensures.deeper c.if-refusal-ne0.false) (few_variants c.requires.0) _ _
+    (same_value _ _ _ _ (tail (c.args.lead + c.separator-s.result) c.args.part.now)
+    refl) (omega (arith, c.if-s-eq0.false)) _ _
+    (c.close_variant.ensures _ _ _ _ c.value-r.ensures)

@@ -10,7 +10,6 @@ use borrow.Author.Tests.{leb-true}
 use Rattle.meaning.specs.Offsets.{encoded_width, written_width}
 use Rattle.meaning.specs.Padding.{Aligns, padding, zeros}
 use Rattle.meaning.specs.Written.{Piece, stop, layout, structure_bytes}
-use Rattle.meaning.specs.Types.{alignment, fixed}
 use Rattle.meaning.proofs.Tests.{both_true}
 use Rattle.meaning.proofs.PaddingLaws.{aligns_positive}
 use Rattle.meaning_writing.specs.Shapes.{part, behind_padding, fixed_end, one_more, offset_count, last_end, field_end}

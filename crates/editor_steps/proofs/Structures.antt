@@ -14,7 +14,7 @@ use Rattle.meaning.specs.Padding.{padding, zeros}
 use Rattle.meaning.specs.Depths as Depth
 use Rattle.meaning.specs.Depths.{Depths, depth_refusal, opened}
 use Rattle.meaning.specs.Written.{Piece, layout, structure_bytes, deeper}
-use Rattle.meaning.specs.Types.{Fields, structure, last, next, alignment, largest_alignment, fixed, all_fixed}
+use Rattle.meaning.specs.Types.{Fields, last, next, largest_alignment, fixed, all_fixed}
 use Rattle.meaning.proofs.Tests.{both_true}
 use Rattle.meaning.proofs.PaddingLaws.{aligns_positive}
 use Rattle.meaning_writing.specs.Shapes.{part, fixed_end, one_more, offset_count, field_end, offsets_left}

@@ -3,8 +3,8 @@
 
 ghost use Rattle.std.specs.Prelude.{◌≡◌};
 ghost use Rattle.meaning.specs.Calls.{counts, size as size_of, read as read_of, read_slice};
-ghost use Rattle.meaning_writing.specs.Writing.{write_answer, write as writeOf, write_slice};
-ghost use Rattle.meaning_writing.specs.Editing.{edit_answer, edit as editOf, edit_buffer};
+ghost use Rattle.meaning_writing.specs.Writing.{write_answer, write as write_of, write_slice};
+ghost use Rattle.meaning_writing.specs.Editing.{edit_answer, edit as edit_of, edit_buffer};
 ghost use Rattle.meaning_writing.specs.IsWritten.{written_refusal};
 ghost use Rattle.editor_steps.specs.Walks.{new_of};
 ghost use Rattle.editor.specs.News.{new_by};
@@ -57,7 +57,7 @@ pub extern "C" fn bogtassel_write(
     out: &mut [u8],
     length: &mut usize,
 ) -> u8
-    ensures answer { write_answer result length.new ≡ writeOf signature.now big events.now texts.now out.old }
+    ensures answer { write_answer result length.new ≡ write_of signature.now big events.now texts.now out.old }
     ensures slice { out.new ≡ write_slice signature.now big events.now texts.now out.old }
 {
     let answer = writer::write(signature, big, events, texts, out);
@@ -86,7 +86,7 @@ pub extern "C" fn bogtassel_edit(
     bits: usize,
     length: &mut usize,
 ) -> u8
-    ensures answer { edit_answer result length.new ≡ editOf signature.now big buffer.old used number (new_of (new_by present bits)) }
+    ensures answer { edit_answer result length.new ≡ edit_of signature.now big buffer.old used number (new_of (new_by present bits)) }
     ensures memory { buffer.new ≡ edit_buffer signature.now big buffer.old used number (new_of (new_by present bits)) }
 {
     let new = editor::new_of(present, bits);

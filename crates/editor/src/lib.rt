@@ -2,7 +2,7 @@
 #![tactic(auto)]
 
 ghost use Rattle.std.specs.Prelude.{◌≡◌};
-ghost use Rattle.meaning_writing.specs.Editing.{edit as editOf, edit_buffer};
+ghost use Rattle.meaning_writing.specs.Editing.{edit as edit_of, edit_buffer};
 ghost use Rattle.editor_steps.specs.Walks.{new_of};
 ghost use Rattle.editor_change.specs.Answers.{answer_of};
 ghost use Rattle.editor.specs.News.{new_by};
@@ -24,7 +24,7 @@ pub fn edit(
     number: usize,
     new: New,
 ) -> Edited
-    ensures answer { answer_of result ≡ editOf signature.now big buffer.old used number (new_of new) }
+    ensures answer { answer_of result ≡ edit_of signature.now big buffer.old used number (new_of new) }
     ensures memory { buffer.new ≡ edit_buffer signature.now big buffer.old used number (new_of new) }
 {
     let mut tables = [0u16; TABLE];

@@ -1,6 +1,6 @@
 // What the walk is asked to put, and what it answers.
 ghost use Rattle.std.specs.Prelude.{◌≡◌};
-ghost use Rattle.editor_steps.specs.Closing.{counted_as, refused_as, edited_as, edits as editsAs};
+ghost use Rattle.editor_steps.specs.Closing.{counted_as, refused_as, edited_as, edits as edits_as};
 
 // What a reading becomes: nothing, or a number as its bits.
 #[derive(Clone, Copy)]
@@ -60,7 +60,7 @@ pub(crate) fn edited(place: usize, length: usize) -> Walked
 }
 
 pub(crate) fn edits(walked: Walked) -> bool
-    ensures { result ≡ editsAs walked }
+    ensures { result ≡ edits_as walked }
 {
     let found = walked.found;
     if found {

@@ -5,7 +5,7 @@ ghost use Rattle.meaning.specs.Padding.{Aligns, zeros};
 ghost use Rattle.editor_basic.specs.Elements.{behind_of, rest_now};
 ghost use Rattle.editor_basic.specs.Rows.{last_now};
 ghost use Rattle.editor_basic.specs.Puts.{rest_most, last_most};
-ghost use Rattle.editor_steps.specs.Closing.{edits as editsAs, Fits, end_now, front_of, Closes, Behind, FieldBehind, field_rest};
+ghost use Rattle.editor_steps.specs.Closing.{edits as edits_as, Fits, end_now, front_of, Closes, Behind, FieldBehind, field_rest};
 
 use crate::answers::{Walked, edited, edits};
 use editor_basic::elements::{Elements, behind};
@@ -16,7 +16,7 @@ use editor_basic::rewriter::finish_array;
 
 // A maybe of what is not fixed: one 0.
 pub fn close_maybe(walked: Walked, place: usize, out: &mut [u8]) -> Walked
-    requires { editsAs walked ≡ true → Fits place 0 walked }
+    requires { edits_as walked ≡ true → Fits place 0 walked }
     ensures { Closes place 0 (zeros 1) 1 walked out.old out.new result }
 {
     if !edits(walked) {
@@ -30,7 +30,7 @@ pub fn close_maybe(walked: Walked, place: usize, out: &mut [u8]) -> Walked
 
 // A variant: a 0 and the text of its type.
 pub fn close_variant(walked: Walked, place: usize, signature: &[u8], out: &mut [u8]) -> Walked
-    requires { (editsAs walked ≡ true → Fits place 0 walked) × (length signature.now ≤ largest_frame) }
+    requires { (edits_as walked ≡ true → Fits place 0 walked) × (length signature.now ≤ largest_frame) }
     ensures { Closes place 0 (zeros 1 ++ signature.now) 65537 walked out.old out.new result }
 {
     if !edits(walked) {
@@ -67,7 +67,7 @@ pub fn close_element(
     rest: Elements,
     out: &mut [u8],
 ) -> Walked
-    requires { (editsAs walked ≡ true → Fits place start walked) × Behind all rest end part.now }
+    requires { (edits_as walked ≡ true → Fits place start walked) × Behind all rest end part.now }
     ensures { Closes place start (rest_now (front_of all (all.count - rest.count)) (behind_of rest end) part.now (end_now start walked)) rest_most walked out.old out.new result }
 {
     if !edits(walked) {
@@ -90,7 +90,7 @@ pub fn close_last(
     width: usize,
     out: &mut [u8],
 ) -> Walked
-    requires { (editsAs walked ≡ true → Fits place start walked) × (end ≤ length part.now) × (length part.now ≤ largest_frame) × Aligns width }
+    requires { (edits_as walked ≡ true → Fits place start walked) × (end ≤ length part.now) × (length part.now ≤ largest_frame) × Aligns width }
     ensures { Closes place start (last_now end width part.now (end_now start walked)) last_most walked out.old out.new result }
 {
     if !edits(walked) {
@@ -113,7 +113,7 @@ pub fn close_field(
     field: Field,
     out: &mut [u8],
 ) -> Walked
-    requires { (editsAs walked ≡ true → Fits place field.start walked) × FieldBehind text.now tables.now row field part.now }
+    requires { (edits_as walked ≡ true → Fits place field.start walked) × FieldBehind text.now tables.now row field part.now }
     ensures { Closes place field.start (field_rest text.now row field part.now (end_now field.start walked)) rest_most walked out.old out.new result }
 {
     let start = field.start;

@@ -5,7 +5,7 @@ ghost use Rattle.std.specs.Prelude.{◌≡◌, true, ◌+◌, ◌*◌, ◌≤◌
 ghost use Rattle.std.proofs.Math.Option.{none, some};
 ghost use Rattle.std.proofs.lemmas.List.Edits.{sets};
 ghost use Rattle.numerals.specs.Storing.{Stores};
-ghost use Rattle.numerals.specs.Hexadecimal.{digit as digitOf, has_byte, bytes_of, spelt, all_digits, Spells};
+ghost use Rattle.numerals.specs.Hexadecimal.{digit as digit_of, has_byte, bytes_of, spelt, all_digits, Spells};
 ghost use Rattle.numerals.specs.Decimals.{digits, numeral, number_of, understood};
 
 // Whether a text spells bytes, and how many.
@@ -24,7 +24,7 @@ pub struct Number {
 
 // The value of a hexadecimal digit, 16 for any other byte.
 pub fn digit(byte: u8) -> u8
-    ensures { (result ≡ digitOf byte) × (result ≤ 16) }
+    ensures { (result ≡ digit_of byte) × (result ≤ 16) }
 {
     if byte < b'0' {
         return 16;

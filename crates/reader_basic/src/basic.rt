@@ -2,7 +2,7 @@
 ghost use Rattle.std.specs.Prelude.{◌≡◌, ℕ, ◌+◌, ◌-◌, ◌≤◌, List, Bool, length};
 ghost use Rattle.meaning.specs.Depths.{Depths};
 ghost use Rattle.meaning.specs.Outcome.{Outcome, chain, closing_at};
-ghost use Rattle.meaning.specs.Reading.{read_bool, read_number, read_text, separator as separatorOf};
+ghost use Rattle.meaning.specs.Reading.{read_bool, read_number, read_text, separator as separator_of};
 ghost use Rattle.meaning.specs.Padding.{Aligns};
 ghost use Rattle.meaning.specs.Limits.{largest_frame};
 ghost use Rattle.byte_order.specs.Standing.{number_at};
@@ -134,7 +134,7 @@ pub fn offset_before(part: &[u8], lead: usize, size: FramingOffsetSize, end: usi
 
 // The last nul before the final byte of a part: the number of bytes up to it, itself counted, or 0.
 pub fn separator(part: &[u8]) -> usize
-    ensures { (result ≡ separatorOf part.now) × (result ≤ length part.now - 1) }
+    ensures { (result ≡ separator_of part.now) × (result ≤ length part.now - 1) }
 {
     if part.len() == 0 {
         return 0;

@@ -9,7 +9,7 @@ ghost use Rattle.meaning.specs.Offsets.{encoded_width, written_width};
 ghost use Rattle.meaning_writing.specs.Shapes.{part as part_of, one_more, last_end, field_end, offsets_left};
 ghost use Rattle.meaning_writing.specs.Strict.{all_zero, element_end, fields_finished};
 ghost use Rattle.framing_offset_size.specs.Widths.{width_of};
-ghost use Rattle.strict_ends.specs.Ends.{extent as extentAs, start as startAs, rows as rowsAs, Laid, end_of, StartAt, RowsOf, TableOf};
+ghost use Rattle.strict_ends.specs.Ends.{extent as extent_as, start as start_as, rows as rows_as, Laid, end_of, StartAt, RowsOf, TableOf};
 
 use framing_offset_size::FramingOffsetSize;
 use framing_offsets::table::{last_in, next_in};
@@ -42,7 +42,7 @@ pub struct Rows {
 }
 
 pub fn laid(alignment: usize, fixed: bool, size: usize) -> Extent
-    ensures { result ≡ extentAs alignment fixed size }
+    ensures { result ≡ extent_as alignment fixed size }
 {
     Extent {
         alignment,
@@ -52,13 +52,13 @@ pub fn laid(alignment: usize, fixed: bool, size: usize) -> Extent
 }
 
 fn start_if(there: bool, at: usize) -> Start
-    ensures { result ≡ startAs there at }
+    ensures { result ≡ start_as there at }
 {
     Start { there, at }
 }
 
 fn rows_if(stands: bool, body: usize, count: usize, width: usize, from: usize) -> Rows
-    ensures { result ≡ rowsAs stands body count width from }
+    ensures { result ≡ rows_as stands body count width from }
 {
     Rows {
         stands,

@@ -5,7 +5,7 @@
 
 ghost use Rattle.std.specs.Prelude.{◌≡◌, true, ◌≤◌, length};
 ghost use Rattle.meaning.specs.Limits.{largest_frame};
-ghost use Rattle.meaning_writing.specs.Writing.{write as writeOf, write_slice};
+ghost use Rattle.meaning_writing.specs.Writing.{write as write_of, write_slice};
 ghost use Rattle.signature.specs.Places.{is_type};
 ghost use Rattle.signature.specs.Shapes.{Shaped};
 ghost use Rattle.writer.specs.Answers.{answer_of, frame_of, WroteFrame, Judged};
@@ -29,7 +29,7 @@ pub struct Written {
 // Writes the value that the events spell at the front of the output, where all is well and there is room for it. An event is three
 // numbers: kind, place, payload; place and payload of a text are where it stands among the texts, and its length.
 pub fn write(signature: &[u8], big: bool, events: &[u64], texts: &[u8], out: &mut [u8]) -> Written
-    ensures answer { answer_of result ≡ writeOf signature.now big events.now texts.now out.old }
+    ensures answer { answer_of result ≡ write_of signature.now big events.now texts.now out.old }
     ensures slice { out.new ≡ write_slice signature.now big events.now texts.now out.old }
 {
     let mut shapes = [0u16; LONGEST_TYPE];
@@ -63,7 +63,7 @@ fn write_by_walks(
     out: &mut [u8],
 ) -> Written
     requires { (is_type signature.now ≡ true) × Shaped signature.now shapes.now × (length held.old ≤ largest_frame) }
-    ensures answer { answer_of result ≡ writeOf signature.now big events.now texts.now out.old }
+    ensures answer { answer_of result ≡ write_of signature.now big events.now texts.now out.old }
     ensures slice { out.new ≡ write_slice signature.now big events.now texts.now out.old }
 {
     let walked = whole(signature, shapes, big, events, texts, held);

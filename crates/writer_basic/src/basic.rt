@@ -1,7 +1,7 @@
 // One event at a time: what stands at a place of the events, and the values that take one event.
 ghost use Rattle.std.specs.Prelude.{◌≡◌, List, Bool, ℕ, ◌+◌, ◌≤◌, ◌^◌, ltb, length, drop};
 ghost use Rattle.meaning.specs.Depths.{Depths};
-ghost use Rattle.meaning.specs.Types.{Number as NumberType, Text as TextType, bool, number as numberBasic, text as textBasic, number_width};
+ghost use Rattle.meaning.specs.Types.{Number as NumberType, Text as TextType, bool, number as number_basic, text as text_basic, number_width};
 ghost use Rattle.meaning.specs.Letters.{number_letter, text_letter};
 ghost use Rattle.meaning.specs.Padding.{Aligns};
 ghost use Rattle.meaning_writing.specs.Emitting.{emit_basic};
@@ -136,7 +136,7 @@ pub fn number(
     start: usize,
 ) -> Answer
     requires { (i ≤ length events.now) × (start ≤ cap) × Aligns width }
-    ensures { (n : NumberType) (texts : List ℕ) (d : Depths) (top : ℕ) (s : List ℕ) → code ≡ number_letter n → width ≡ number_width n → Done (emit_basic texts big (numberBasic n) d (drop i events.now)) events.now i start top out.old out.new s s result }
+    ensures { (n : NumberType) (texts : List ℕ) (d : Depths) (top : ℕ) (s : List ℕ) → code ≡ number_letter n → width ≡ number_width n → Done (emit_basic texts big (number_basic n) d (drop i events.now)) events.now i start top out.old out.new s s result }
 {
     if events.len() - i < 3 {
         return refused(NO_VALUE);
@@ -161,7 +161,7 @@ pub fn text_value(
     start: usize,
 ) -> Answer
     requires { (i ≤ length events.now) × (start ≤ cap + cap) }
-    ensures { (n : TextType) (big : Bool) (d : Depths) (top : ℕ) (s : List ℕ) → code ≡ text_letter n → Done (emit_basic texts.now big (textBasic n) d (drop i events.now)) events.now i start top out.old out.new s s result }
+    ensures { (n : TextType) (big : Bool) (d : Depths) (top : ℕ) (s : List ℕ) → code ≡ text_letter n → Done (emit_basic texts.now big (text_basic n) d (drop i events.now)) events.now i start top out.old out.new s s result }
 {
     let view = text_at(events, texts, i, code_of(code));
     let refusal = view.refusal;

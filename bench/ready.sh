@@ -11,10 +11,11 @@ mkdir -p "$room"
 c_flags=(-std=c11 -O2 -Wall -Wextra -Wpedantic -Werror)
 
 archive_ready() {
-    (cd "$top" && RT_JOBS=${RT_JOBS:-1} rt staticlib bogtassel) >&2 </dev/null && archive=$top/target/staticlib/libbogtassel.a
+    archive=$top/crates/bogtassel/out/libbogtassel.a
+    (cd "$top/crates/bogtassel" && rt lib) >&2 </dev/null && [ -f "$archive" ]
 }
 
-# Debian's emulator; the kit's takes no plugin.
+# Debian's emulator.
 takes_plugins() {
     command -v qemu-x86_64 >/dev/null && qemu-x86_64 -h | grep -q -e '^-plugin'
 }

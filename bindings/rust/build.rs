@@ -1,5 +1,6 @@
-//! Links libbogtassel.a: the archive that BOGTASSEL_ARCHIVE names, or the one that `rt staticlib bogtassel` proves and writes.
+//! Links libbogtassel.a: the archive that BOGTASSEL_ARCHIVE names, or the one that `rt lib` proves and writes.
 use std::env;
+use std::fs;
 use std::path::{Path, PathBuf};
 use std::process::{exit, Command};
 
@@ -8,18 +9,28 @@ fn fail(what: &str) -> ! {
     exit(1)
 }
 
+/// Has cargo run this script again where a source of the repository changed. What is built stands beside the sources, in `out`, and is none.
+fn watch(top: &Path) {
+    println!("cargo:rerun-if-changed={}", top.join("crates.txt").display());
+    let crates = fs::read_dir(top.join("crates"))
+        .unwrap_or_else(|error| fail(&format!("{}: {error}", top.join("crates").display())));
+    for each in crates.flatten() {
+        for part in ["src", "specs", "proofs"] {
+            let source = each.path().join(part);
+            if source.is_dir() {
+                println!("cargo:rerun-if-changed={}", source.display());
+            }
+        }
+    }
+}
+
 /// The archive of the repository that this crate stands in, proved and written by Rattle's kit.
 fn proved(top: &Path) -> PathBuf {
-    for source in ["crates", "crates.txt"] {
-        println!("cargo:rerun-if-changed={}", top.join(source).display());
-    }
-    match Command::new("rt")
-        .args(["staticlib", "bogtassel"])
-        .current_dir(top)
-        .status()
-    {
-        Ok(status) if status.success() => top.join("target/staticlib/libbogtassel.a"),
-        Ok(status) => fail(&format!("`rt staticlib bogtassel` ended with {status}")),
+    watch(top);
+    let folder = top.join("crates/bogtassel");
+    match Command::new("rt").arg("lib").current_dir(&folder).status() {
+        Ok(status) if status.success() => folder.join("out/libbogtassel.a"),
+        Ok(status) => fail(&format!("`rt lib` in crates/bogtassel ended with {status}")),
         Err(error) => fail(&format!(
             "no Rattle kit ({error}): put `rt` on the path, or name an archive by BOGTASSEL_ARCHIVE"
         )),

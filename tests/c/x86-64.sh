@@ -4,7 +4,7 @@
 # `x86_64_ready` sets two arrays and succeeds, or sets x86_64_lack to what is missing and fails:
 #   x86_64_cc    the compiler, with the words that it needs before all others
 #   x86_64_run   what a built program is run by; empty where the machine runs it itself
-# On Arm that is Debian's cross compiler, linking statically, and an emulator: the kit's, else Debian's.
+# On Arm, where an archive is given, that is Debian's cross compiler, linking statically, and Debian's emulator: the kit proves and builds on x86-64 alone.
 # shellcheck shell=bash disable=SC2034
 
 debian_install() { # PACKAGE..
@@ -18,17 +18,8 @@ debian_install() { # PACKAGE..
         { "${be[@]}" apt-get update >&2 </dev/null && "${be[@]}" apt-get install -y --no-install-recommends "$@" >&2 </dev/null; }
 }
 
-# The kit's emulator, beside its compiler, as the script `run` of the top folder finds it; else one on the path.
 x86_64_emulator() {
-    local rt kit own
-    rt=$(command -v rt) || return 1
-    kit=${RATTLE_HOME:-$(cd "$(dirname "$(readlink -f "$rt")")/.." && pwd -P)}
-    own=$kit/on/$(uname -m)/toolchain/bin/qemu-x86_64
-    if [ -x "$own" ]; then
-        printf '%s\n' "$own"
-    else
-        command -v qemu-x86_64
-    fi
+    command -v qemu-x86_64
 }
 
 x86_64_native() {

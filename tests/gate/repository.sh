@@ -5,15 +5,15 @@
 room=$(mktemp -d)
 trap 'rm -rf "$room"' EXIT
 cd "$room" || exit 2
-mkdir -p .ci bench oracle tools path crates/lister/{src,proofs} target/{bin,staticlib}
+mkdir -p .ci bench oracle tools path crates/lister/{src,proofs,out} crates/bogtassel/{src,out}
 cp "$top/.ci/run" .ci/run
-echo 'lister:' >crates.txt
+printf 'lister: # a program\nbogtassel staticlib:\n' >crates.txt
 echo 'one = two' >crates/lister/proofs/One.antt
-touch crates/lister/src/main.rt
+touch crates/lister/src/main.rt crates/bogtassel/src/lib.rt
 echo '#!/usr/bin/env bash' | tee run >release
-printf '#!/usr/bin/env bash\ncat\n' >target/bin/lister
-chmod +x target/bin/lister
-echo archive >target/staticlib/libbogtassel.a
+printf '#!/usr/bin/env bash\ncat\n' >crates/lister/out/lister
+chmod +x crates/lister/out/lister
+echo archive >crates/bogtassel/out/libbogtassel.a
 
 # A stand-in notes that it was called, does what NAME.does has, says what NAME.says has, and fails where there is NAME.ends.
 standin() { # FILE NAME
@@ -28,15 +28,15 @@ echo "\$name" >>'$room/calls'
 END
     chmod +x "$1"
 }
-standin path/rt "\$1"
+standin path/rt "\$*"
 own=$(sed -n 's#^tests/\([a-z]*\)/run.*#\1#p' .ci/run)
 for name in $own; do
     standin "tests/$name/run" "$name"
 done
-printf 'rt: one proved\n7 passed, 0 failed\n' >ci.says
+printf 'rt: lister proved\nrt: ok; handles allowed: none; must-fail edits: 5 refused; every proof was done\n7 passed, 0 failed\n' >ci.says
 echo 'kit-1' >version.says
 
-printf '%s\n' /target/ /calls /said /beside '/*.says' '/*.ends' '/*.does' >.gitignore
+printf '%s\n' /target/ '/crates/*/out/' /calls /said /beside '/*.says' '/*.ends' '/*.does' /well >.gitignore
 # shellcheck disable=SC2046
 unset $(git rev-parse --local-env-vars)
 export GIT_AUTHOR_NAME=one GIT_AUTHOR_EMAIL=one GIT_COMMITTER_NAME=one GIT_COMMITTER_EMAIL=one

@@ -9,7 +9,7 @@ use lib.ListN.{length}
 use Rattle.meaning.specs.Padding.{padding}
 use Rattle.meaning.specs.Depths as Depth
 use Rattle.meaning.specs.Depths.{Depths, opened}
-use Rattle.meaning.specs.Types.{Fields, structure, largest_alignment}
+use Rattle.meaning.specs.Types.{Fields, largest_alignment}
 use Rattle.meaning.specs.Written.{deeper}
 use Rattle.meaning_writing.specs.Shapes.{one_more, offset_count, last_end, field_end, offsets_left, fixed_end}
 use Rattle.meaning_writing.specs.Strict.{Test, test_shapes, child_written, fields_finished, fields_written, structure_written, structure_test, test_of, tests_of}

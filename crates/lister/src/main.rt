@@ -8,7 +8,7 @@ use std::env::{Env, FillError};
 use std::io;
 use std::io::Read;
 
-// The state behind a block, unless the output did not take all that was printed.
+// Lists a block, and gives the state behind it, unless the output did not take all that was printed.
 fn list_block(
     out: &impl Print,
     state: State,

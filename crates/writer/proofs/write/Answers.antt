@@ -4,13 +4,13 @@ use mathlib.Core.Path.{refl}
 use borrow.Author.Tests.{not-true, not-false}
 use Rattle.signature.proofs.ShapeLaws.{table_filled, table_refused, table_type}
 use Rattle.writer.proofs.Frames.{write_untyped}
-use borrow.Author.Rules.{rules}
 use Rattle.writer.proofs.write.Goals as goal
 
 pub returns-then-not-shapes_of : goal.returns-then-not-shapes_of
 returns-then-not-shapes_of c =
-    let whole = (rw c.unwritten.ensures (write_untyped _ _ _ _ _ (table_refused _ _ _ _ refl c.shapes_of.ensures (not-true _ c.if-not-shapes_of.true-raw)))) in
-    record { answer = whole.0; slice = whole.1 }
+    rw c.unwritten.ensures (
+      let whole = write_untyped _ _ _ _ _ (table_refused _ _ _ _ refl c.shapes_of.ensures (not-true _ c.if-not-shapes_of.true-raw)) in
+      record { answer = whole.0; slice = whole.1 })
 
 pub write_by_walks-requires : goal.write_by_walks-requires
 write_by_walks-requires c =

@@ -3,13 +3,13 @@ use lib.Seq.{length-take-le}
 use native.Mathlib.Omega.{arith}
 use mathlib.Core.Path.{sym}
 use Rattle.writer.proofs.Frames.{write_refused, judged_good, write_again, write_held, held_fits}
-use borrow.Author.Rules.{rules}
 use Rattle.writer.proofs.write_by_walks.Goals as goal
 
 pub returns-then-refusal-ne0 : goal.returns-then-refusal-ne0
 returns-then-refusal-ne0 c =
-    let whole = (rw c.unwritten.ensures (write_refused _ _ _ _ _ c.requires.0 _ _ _ c.whole-walked.ensures _ c.refusal_of-refusal.ensures c.if-refusal-ne0.true)) in
-    record { answer = whole.0; slice = whole.1 }
+    rw c.unwritten.ensures (
+      let whole = write_refused _ _ _ _ _ c.requires.0 _ _ _ c.whole-walked.ensures _ c.refusal_of-refusal.ensures c.if-refusal-ne0.true in
+      record { answer = whole.0; slice = whole.1 })
 
 pub slice_bounds-whole-end : goal.slice_bounds-whole-end
 slice_bounds-whole-end c = (judged_good _ _ _ _ c.refusal_of-refusal.ensures c.if-refusal-ne0.false).fits

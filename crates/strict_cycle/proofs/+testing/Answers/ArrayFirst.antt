@@ -11,11 +11,6 @@ use native.Mathlib.Nat.{div-mul-le_self}
 use native.Mathlib.Omega.{arith}
 use Rattle.strict_cycle.proofs.+testing.Goals as goal
 
--- LOST nonzero-div-many
--- array::first-div-many t c =
---     let start = c.before.before.before.before in
---     omega (arith, start.requires.1.0.known.positive (start.requires.1.0.any start.requires.1.1).fixed)
-
 pub overflow_mul-many : goal.array::first-overflow_mul-many
 overflow_mul-many t c =
     omega (arith, div-mul-le_self (length c.args.part.now) c.args.item.extent.size, c.requires.3.in_frame)

@@ -8,57 +8,68 @@ mod print;
 mod words;
 
 use calls::answer;
-use libc::STDIN_FILENO;
 use lines::{front, gather};
+use std::env::{Env, FillError};
+use std::io;
+use std::io::Read;
 
 // Answers the lines that end in a block, and says how many bytes of the next are counted.
-fn answer_block(block: &[u8], line: &mut [u8], before: usize) -> usize {
+fn answer_block(
+    out: &impl Print,
+    block: &[u8],
+    line: &mut [u8],
+    before: usize,
+) -> io::Result<usize> {
     let mut kept = before;
     let mut from = 0;
     while from < block.len() {
         let gathered = gather(&block[from..], line, kept);
         kept = gathered.kept;
         if !gathered.ended {
-            return kept;
+            return Ok(kept);
         }
         from += gathered.passed;
-        answer(front(line, kept));
+        answer(out, front(line, kept))?;
         kept = 0;
     }
-    kept
+    Ok(kept)
 }
 
 // Answers a last line that has no line end.
-fn answer_rest(line: &[u8], kept: usize) {
+fn answer_rest(out: &impl Print, line: &[u8], kept: usize) -> io::Result<()> {
     if 0 < kept {
-        answer(front(line, kept));
+        return answer(out, front(line, kept));
     }
+    Ok(())
 }
 
-fn answer_input() {
-    let mut line = io::large_buffer();
+// Answers the input to its end. A run ends sooner only where it cannot read or write.
+fn answer_input(rt: &(impl Input + Print)) -> io::Result<()> {
+    let mut input = rt.reader();
+    let mut line = [0u8; 65536];
     let mut kept = 0;
-    let mut turns = u64::MAX;
-    while turns > 0 {
-        let mut block = io::large_buffer();
-        let got = libc::read(STDIN_FILENO, &mut block);
-        let n = io::count(got, &block);
+    for _ in 0..u64::MAX {
+        let mut block = [0u8; 65536];
+        let n = input.read(&mut block)?;
         if n == 0 {
-            answer_rest(&line, kept);
-            return;
+            return answer_rest(rt, &line, kept);
         }
-        kept = answer_block(&block[..n], &mut line, kept);
-        turns -= 1;
+        kept = answer_block(rt, &block[..n], &mut line, kept)?;
     }
+    Ok(())
 }
 
-fn main() {
-    if os::arg_count() > 1 {
-        io::write_all(
-            2,
-            b"leaves_check: unknown argument; it takes none and answers the lines of standard input\n",
+// Whether the program was given an argument behind its name.
+fn has_argument(rt: &impl Env) -> bool {
+    let mut start = [0u8; 1];
+    !matches!(rt.arg(1, &mut start), Err(FillError::NotPresent))
+}
+
+fn main(rt: HostRuntime) -> io::Result<()> {
+    if has_argument(&rt) {
+        return rt.eprintln(
+            "leaves_check: unknown argument; it takes none and answers the lines of standard input",
         );
-        return;
     }
-    answer_input();
+    answer_input(&rt)
 }

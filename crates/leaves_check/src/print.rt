@@ -1,34 +1,32 @@
-// The answers on standard output.
-use libc::STDOUT_FILENO;
+// The answers, put out piece by piece.
+use std::io;
 use utils::Checked;
 
-pub fn first(number: usize) {
-    io::print_decimal(STDOUT_FILENO, number as u64);
+pub fn first(out: &impl Print, number: usize) -> io::Result<()> {
+    out.print(number)
 }
 
-pub fn then(number: usize) {
-    io::write_all(STDOUT_FILENO, b" ");
-    io::print_decimal(STDOUT_FILENO, number as u64);
+pub fn then(out: &impl Print, number: usize) -> io::Result<()> {
+    print!(out; " {number}")
 }
 
-pub fn then_bytes(bytes: &[u8]) {
-    io::write_all(STDOUT_FILENO, b" ");
+pub fn then_bytes(out: &impl Print, bytes: &[u8]) -> io::Result<()> {
+    out.print(" ")?;
     if bytes.len() == 0 {
-        io::write_all(STDOUT_FILENO, b"-");
+        out.print("-")?;
     }
-    let mut i = 0;
-    while i < bytes.len() {
-        io::print_hex(STDOUT_FILENO, bytes[i] as u64, 2);
-        i += 1;
+    for byte in bytes {
+        print!(out; "{byte:02x}")?;
     }
+    Ok(())
 }
 
-pub fn end() {
-    io::write_all(STDOUT_FILENO, b"\n");
+pub fn end(out: &impl Print) -> io::Result<()> {
+    out.print("\n")
 }
 
-pub fn answer(a: Checked) {
-    first(a.refusal as usize);
-    then(a.value);
-    end();
+pub fn answer(out: &impl Print, a: Checked) -> io::Result<()> {
+    first(out, a.refusal as usize)?;
+    then(out, a.value)?;
+    end(out)
 }

@@ -3,85 +3,83 @@
 // is read and output written, block by block.
 #![tactic(auto)]
 
-use libc::{STDERR_FILENO, STDIN_FILENO, STDOUT_FILENO};
 use listing::{State, finish, fresh, list};
+use std::env::{Env, FillError};
+use std::io;
+use std::io::Read;
 
-// The state behind a block, and whether the output took all that was printed.
-#[derive(Clone, Copy)]
-pub struct Turn {
+// Lists a block, and gives the state behind it, unless the output did not take all that was printed.
+fn list_block(
+    out: &impl Print,
     state: State,
-    open: bool,
-}
-
-fn list_block(state: State, text: &mut [u8; 256], frame: &mut [u8; 16384], block: &[u8]) -> Turn {
-    let mut out = [0u8; 8192];
+    text: &mut [u8; 256],
+    frame: &mut [u8; 16384],
+    block: &[u8],
+) -> io::Result<State> {
+    let mut lines = [0u8; 8192];
     let mut s = state;
     let mut from = 0;
     while from < block.len() {
-        let progress = list(s, text, frame, &block[from..], &mut out);
+        let progress = list(s, text, frame, &block[from..], &mut lines);
         s = progress.state;
         let written = progress.written;
-        if !io::write_all(STDOUT_FILENO, &out[..written]) {
-            return Turn {
-                state: s,
-                open: false,
-            };
-        }
+        out.write_all(&lines[..written])?;
         from += progress.passed;
     }
-    Turn {
-        state: s,
-        open: true,
-    }
+    Ok(s)
 }
 
-fn list_end(state: State, text: &[u8; 256], frame: &[u8; 16384]) -> bool {
-    let mut out = [0u8; 84];
-    let written = finish(state, text, frame, &mut out);
-    io::write_all(STDOUT_FILENO, &out[..written])
+fn list_end(
+    out: &impl Print,
+    state: State,
+    text: &[u8; 256],
+    frame: &[u8; 16384],
+) -> io::Result<()> {
+    let mut line = [0u8; 84];
+    let written = finish(state, text, frame, &mut line);
+    out.write_all(&line[..written])
 }
 
-fn output_closed() {
-    io::write_all(STDERR_FILENO, b"lister: cannot write the output\n");
+fn output_closed(rt: &impl Eprint) -> io::Result<()> {
+    rt.eprintln("lister: cannot write the output")
 }
 
-// Lists standard input to its end. A loop that is proved has to end, so its turns count down from a number that no run uses up.
-fn list_input() {
+// Lists standard input to its end.
+fn list_input(rt: &(impl Input + Print + Eprint)) -> io::Result<()> {
+    let mut input = rt.reader();
     let mut text = [0u8; 256];
     let mut frame = [0u8; 16384];
     let mut state = fresh();
-    let mut turns = u64::MAX;
-    while turns > 0 {
-        let mut block = io::large_buffer();
-        let got = libc::read(STDIN_FILENO, &mut block);
-        if got < 0 {
-            io::write_all(STDERR_FILENO, b"lister: cannot read the input\n");
-            return;
-        }
-        let n = io::count(got, &block);
+    for _ in 0..u64::MAX {
+        let mut block = [0u8; 65536];
+        let Ok(n) = input.read(&mut block) else {
+            return rt.eprintln("lister: cannot read the input");
+        };
         if n == 0 {
-            if !list_end(state, &text, &frame) {
-                output_closed();
+            if list_end(rt, state, &text, &frame).is_err() {
+                return output_closed(rt);
             }
-            return;
+            return Ok(());
         }
-        let turn = list_block(state, &mut text, &mut frame, &block[..n]);
-        if !turn.open {
-            output_closed();
-            return;
-        }
-        state = turn.state;
-        turns -= 1;
+        let Ok(next) = list_block(rt, state, &mut text, &mut frame, &block[..n]) else {
+            return output_closed(rt);
+        };
+        state = next;
     }
+    Ok(())
 }
 
-fn main() {
-    if os::arg_count() > 1 {
-        io::write_all(
-            STDERR_FILENO,
-            b"lister: unknown argument; it takes none and lists standard input: lister < FILE\n",
+// Whether the program was given an argument behind its name.
+fn has_argument(rt: &impl Env) -> bool {
+    let mut start = [0u8; 1];
+    !matches!(rt.arg(1, &mut start), Err(FillError::NotPresent))
+}
+
+fn main(rt: HostRuntime) -> io::Result<()> {
+    if has_argument(&rt) {
+        return rt.eprintln(
+            "lister: unknown argument; it takes none and lists standard input: lister < FILE",
         );
-        return;
     }
-    list_input();
+    list_input(&rt)
 }

@@ -1,14 +1,16 @@
 // Questions of editing, behind their name: `TYPE l|b BUFFER USED READING NEW`. The buffer is in hexadecimal, `-` for none, of at most 66,000
 // bytes; its used length and the reading's number are decimal, and so are the bits of what the reading becomes, or `nothing`. The answer is
 // a line `REFUSAL LENGTH BUFFER`: all of the buffer afterwards, in hexadecimal, `-` for none.
-ghost use Rattle.std.specs.Prelude.{◌≡◌, ◌≤◌, length};
+ghost use Rattle.std.specs.Prelude.{◌≡◌, ◌≤◌, length, IfOk};
 
 use lines::{find, front};
 use replay_text::print::Step;
 use replay_text::{print, words};
+use std::io;
 
 // The answer to a question, whose three numbers stand in a row; the last one counts where there is something that the reading becomes.
 fn edit(
+    to: &impl Print,
     signature: &[u8],
     big: bool,
     buffer: &mut [u8],
@@ -16,16 +18,16 @@ fn edit(
     present: bool,
     out: &mut [u8; 65536],
     at: usize,
-) -> usize
+) -> io::Result<usize>
     requires { at ≤ 65536 }
-    ensures { result ≤ 65536 }
+    ensures { IfOk result (λ n. n ≤ 65536) }
 {
     let used = numbers[0] as usize;
     let number = numbers[1] as usize;
     let new = editor::new_of(present, numbers[2] as usize);
     let edited = editor::edit(signature, big, buffer, used, number, new);
-    let next = print::refusal_and_length(out, at, edited.refusal, edited.length);
-    print::bytes(out, next, buffer)
+    let next = print::refusal_and_length(to, out, at, edited.refusal, edited.length)?;
+    print::bytes(to, out, next, buffer)
 }
 
 // The length of a text without the word for nothing at its end, or all of its length.
@@ -52,37 +54,39 @@ fn all_there(present: bool, count: usize) -> bool {
 }
 
 pub fn answer(
+    to: &impl Print,
     line: &[u8],
     buffer: &mut [u8],
     numbers: &mut [u64; 221184],
     out: &mut [u8; 65536],
     at: usize,
-) -> Step
+) -> io::Result<Step>
     requires { (length buffer.old ≡ 131072) × (at ≤ 65536) }
-    ensures { result.at ≤ 65536 }
+    ensures { IfOk result (λ s. s.at ≤ 65536) }
 {
     let head = words::understand(line);
     let signature = head.signature;
     let start = head.rest;
     if !head.understood {
-        return print::not_understood(at);
+        return Ok(print::not_understood(at));
     }
     let end = start + find(&line[start..], b' ');
     let spelt = words::bytes(&line[start..end], buffer);
     let n = spelt.value;
     if !spelt.understood {
-        return print::not_understood(at);
+        return Ok(print::not_understood(at));
     }
     if 66000 < n {
-        return print::not_understood(at);
+        return Ok(print::not_understood(at));
     }
     let stop = end + numbers_in(&line[end..]);
     let present = stop == line.len();
     let count = words::numbers(&line[end..stop], numbers);
     if !all_there(present, count) {
-        return print::not_understood(at);
+        return Ok(print::not_understood(at));
     }
     let next = edit(
+        to,
         front(line, signature),
         head.big,
         &mut buffer[..n],
@@ -90,6 +94,6 @@ pub fn answer(
         present,
         out,
         at,
-    );
-    print::understood(next)
+    )?;
+    Ok(print::understood(next))
 }

@@ -1,11 +1,12 @@
 // Frames. A question is `TYPE l|b POSITION HEX`, `-` for no bytes. Its answer is a line `REFUSAL USED NEVENTS kind:place:payload ..`,
 // without the events where there are more than 73,728 of them.
-ghost use Rattle.std.specs.Prelude.{◌≡◌, ◌≤◌, length};
+ghost use Rattle.std.specs.Prelude.{◌≡◌, ◌≤◌, length, IfOk};
 
 use lines::find;
 use numerals::decimal;
 use replay_text::print::Step;
 use replay_text::{print, words};
+use std::io;
 
 // The length of the type, the byte order, the position, and where the bytes stand.
 #[derive(Clone, Copy)]
@@ -54,6 +55,7 @@ fn understand(line: &[u8]) -> Question
 
 // The answer to a frame.
 fn read(
+    to: &impl Print,
     signature: &[u8],
     big: bool,
     position: usize,
@@ -61,43 +63,45 @@ fn read(
     room: &mut [u64; 221184],
     out: &mut [u8; 65536],
     at: usize,
-) -> usize
+) -> io::Result<usize>
     requires { at ≤ 65536 }
-    ensures { result ≤ 65536 }
+    ensures { IfOk result (λ n. n ≤ 65536) }
 {
     let r = reader::read(signature, big, position, frame, room);
     let refusal = r.refusal;
     if refusal == 13 {
         let s = reader::size(signature, big, position, frame);
-        return print::counts(out, at, s.refusal, s.used, s.count, b'\n');
+        return print::counts(to, out, at, s.refusal, s.used, s.count, b'\n');
     }
     let count = r.count;
-    let next = print::counts(out, at, refusal, r.used, count, print::behind(0, count));
-    print::events(out, next, room, count)
+    let next = print::counts(to, out, at, refusal, r.used, count, print::behind(0, count))?;
+    print::events(to, out, next, room, count)
 }
 
 pub fn answer(
+    to: &impl Print,
     line: &[u8],
     frame: &mut [u8],
     room: &mut [u64; 221184],
     out: &mut [u8; 65536],
     at: usize,
-) -> Step
+) -> io::Result<Step>
     requires { (length frame.old ≡ 131072) × (at ≤ 65536) }
-    ensures { result.at ≤ 65536 }
+    ensures { IfOk result (λ s. s.at ≤ 65536) }
 {
     let question = understand(line);
     let signature = question.signature;
     let bytes = question.bytes;
     if !question.understood {
-        return print::not_understood(at);
+        return Ok(print::not_understood(at));
     }
     let spelt = words::bytes(&line[bytes..], frame);
     let n = spelt.value;
     if !spelt.understood {
-        return print::not_understood(at);
+        return Ok(print::not_understood(at));
     }
     let next = read(
+        to,
         &line[..signature],
         question.big,
         question.position,
@@ -105,6 +109,6 @@ pub fn answer(
         room,
         out,
         at,
-    );
-    print::understood(next)
+    )?;
+    Ok(print::understood(next))
 }

@@ -7,12 +7,14 @@ mod edit;
 mod frame;
 mod write;
 
-ghost use Rattle.std.specs.Prelude.{◌≡◌, ◌≤◌, length};
+ghost use Rattle.std.specs.Prelude.{◌≡◌, ◌≤◌, length, IfOk};
 
 use lines::{front, gather};
 use replay_text::print::Step;
 use replay_text::{print, words};
-use std::num::wrapping_add_u64;
+use std::env::{Env, FillError};
+use std::io;
+use std::io::Read;
 
 // How many bytes of the present line are kept, the number of that line, and whether all lines before it were understood.
 #[derive(Clone, Copy)]
@@ -24,61 +26,69 @@ pub struct Progress {
 
 // The answer to a line. A line of writing or of editing has its name in front.
 fn answer(
+    to: &impl Print,
     line: &[u8],
     frame: &mut [u8],
     room: &mut [u64; 221184],
     out: &mut [u8; 65536],
     at: usize,
-) -> Step
+) -> io::Result<Step>
     requires { (length frame.old ≡ 131072) × (at ≤ 65536) }
-    ensures { result.at ≤ 65536 }
+    ensures { IfOk result (λ s. s.at ≤ 65536) }
 {
     let written = words::named(line, b"write: ");
     if 0 < written {
-        return write::answer(&line[written..], frame, room, out, at);
+        return write::answer(to, &line[written..], frame, room, out, at);
     }
     let edited = words::named(line, b"edit: ");
     if 0 < edited {
-        return edit::answer(&line[edited..], frame, room, out, at);
+        return edit::answer(to, &line[edited..], frame, room, out, at);
     }
-    frame::answer(line, frame, room, out, at)
+    frame::answer(to, line, frame, room, out, at)
 }
 
 // What goes before a line that is not understood is answered all the same.
-fn stopped(out: &[u8; 65536], at: usize, number: u64) -> Progress
+fn stopped(to: &impl Print, out: &[u8; 65536], at: usize, number: u64) -> io::Result<Progress>
     requires { at ≤ 65536 }
 {
-    print::flush(out, at);
-    Progress {
+    print::flush(to, out, at)?;
+    Ok(Progress {
         kept: 0,
         number,
         going: false,
-    }
+    })
 }
 
 // A block is answered, and its last bytes begin the next line.
-fn answered(out: &[u8; 65536], at: usize, number: u64, kept: usize) -> Progress
+fn answered(
+    to: &impl Print,
+    out: &[u8; 65536],
+    at: usize,
+    number: u64,
+    kept: usize,
+) -> io::Result<Progress>
     requires { at ≤ 65536 }
 {
-    print::flush(out, at);
-    Progress {
+    print::flush(to, out, at)?;
+    Ok(Progress {
         kept,
         number,
         going: true,
-    }
+    })
 }
 
 // The answers to the lines that end in a block.
 fn answer_block(
+    to: &impl Print,
     block: &[u8],
     line: &mut [u8],
     frame: &mut [u8],
     room: &mut [u64; 221184],
     before: Progress,
-) -> Progress
+) -> io::Result<Progress>
     requires { length frame.old ≡ 131072 }
 {
-    let mut out = io::large_buffer();
+    let mut out = [0u8; 65536];
     let mut at = 0;
     let mut kept = before.kept;
     let mut number = before.number;
@@ -87,86 +97,97 @@ fn answer_block(
         let gathered = gather(&block[from..], line, kept);
         kept = gathered.kept;
         if line.len() < kept {
-            return stopped(&out, at, number);
+            return stopped(to, &out, at, number);
         }
         if !gathered.ended {
-            return answered(&out, at, number, kept);
+            return answered(to, &out, at, number, kept);
         }
         from += gathered.passed;
-        let step = answer(front(line, kept), frame, room, &mut out, at);
+        let step = answer(to, front(line, kept), frame, room, &mut out, at)?;
         at = step.at;
         if !step.understood {
-            return stopped(&out, at, number);
+            return stopped(to, &out, at, number);
         }
-        number = wrapping_add_u64(number, 1);
+        number = number.wrapping_add(1);
         kept = 0;
     }
-    answered(&out, at, number, kept)
+    answered(to, &out, at, number, kept)
 }
 
-fn complain(number: u64) {
-    io::write_all(2, b"line ");
-    io::print_decimal(2, number);
-    io::write_all(
-        2,
-        b": a line is TYPE l|b POSITION HEX, or write: TYPE l|b TEXTS ROOM NUMBER .., or edit: TYPE l|b BUFFER USED READING NEW\n",
-    );
+fn complain(rt: &impl Eprint, number: u64) -> io::Result<()> {
+    eprintln!(rt;
+        "line {number}: a line is TYPE l|b POSITION HEX, or write: TYPE l|b TEXTS ROOM NUMBER .., or edit: TYPE l|b BUFFER USED READING NEW"
+    )
 }
 
 // The answer to a last line that has no line end.
-fn answer_rest(line: &mut [u8], frame: &mut [u8], room: &mut [u64; 221184], before: Progress)
+fn answer_rest(
+    rt: &(impl Print + Eprint),
+    line: &mut [u8],
+    frame: &mut [u8],
+    room: &mut [u64; 221184],
+    before: Progress,
+) -> io::Result<()>
     requires { length frame.old ≡ 131072 }
 {
     if before.kept == 0 {
-        return;
+        return Ok(());
     }
     let end = [b'\n'; 1];
-    let after = answer_block(&end, line, frame, room, before);
+    let after = answer_block(rt, &end, line, frame, room, before)?;
     if !after.going {
-        complain(after.number);
+        return complain(rt, after.number);
     }
+    Ok(())
 }
 
-fn answer_all(line: &mut [u8], frame: &mut [u8], room: &mut [u64; 221184])
+// Answers the input up to its end, or to a line that is not understood. A run ends sooner only where it cannot read or write.
+fn answer_all(
+    rt: &(impl Input + Print + Eprint),
+    line: &mut [u8],
+    frame: &mut [u8],
+    room: &mut [u64; 221184],
+) -> io::Result<()>
     requires { length frame.old ≡ 131072 }
 {
+    let mut input = rt.reader();
     let mut progress = Progress {
         kept: 0,
         number: 1,
         going: true,
     };
-    let mut turns = u64::MAX;
-    while turns > 0 {
-        let mut block = io::large_buffer();
-        let got = libc::read(0, &mut block);
-        let n = io::count(got, &block);
+    for _ in 0..u64::MAX {
+        let mut block = [0u8; 65536];
+        let n = input.read(&mut block)?;
         if n == 0 {
-            answer_rest(line, frame, room, progress);
-            return;
+            return answer_rest(rt, line, frame, room, progress);
         }
-        progress = answer_block(&block[..n], line, frame, room, progress);
+        progress = answer_block(rt, &block[..n], line, frame, room, progress)?;
         if !progress.going {
-            complain(progress.number);
-            return;
+            return complain(rt, progress.number);
         }
-        turns -= 1;
     }
+    Ok(())
 }
 
-fn answer_input() {
+fn answer_input(rt: &(impl Input + Print + Eprint)) -> io::Result<()> {
     let mut line = [0u8; 2097152];
     let mut frame = [0u8; 131072];
     let mut room = [0u64; 221184];
-    answer_all(&mut line, &mut frame, &mut room);
+    answer_all(rt, &mut line, &mut frame, &mut room)
 }
 
-fn main() {
-    if os::arg_count() > 1 {
-        io::write_all(
-            2,
-            b"replay: unknown argument; it takes none and answers the lines of standard input\n",
+// Whether the program was given an argument behind its name.
+fn has_argument(rt: &impl Env) -> bool {
+    let mut start = [0u8; 1];
+    !matches!(rt.arg(1, &mut start), Err(FillError::NotPresent))
+}
+
+fn main(rt: HostRuntime) -> io::Result<()> {
+    if has_argument(&rt) {
+        return rt.eprintln(
+            "replay: unknown argument; it takes none and answers the lines of standard input",
         );
-        return;
     }
-    answer_input();
+    answer_input(&rt)
 }

@@ -1,7 +1,8 @@
-// The answers, put into a block of 65,536 bytes, which is written to standard output when it is full.
-ghost use Rattle.std.specs.Prelude.{◌+◌, ◌≤◌, ◌<◌, length};
+// The answers, put into a block of 65,536 bytes, which is written when it is full.
+ghost use Rattle.std.specs.Prelude.{◌+◌, ◌≤◌, ◌<◌, length, IfOk};
 
 use numerals::put_decimal;
+use std::io;
 
 // Whether a line was understood, and how many bytes of the block are filled.
 #[derive(Clone, Copy)]
@@ -28,29 +29,29 @@ pub fn not_understood(at: usize) -> Step
     }
 }
 
-fn write(out: &[u8], at: usize)
+fn write(to: &impl Print, out: &[u8], at: usize) -> io::Result<()>
     requires { at ≤ length out.now }
 {
-    io::write_all(1, &out[..at]);
+    to.write_all(&out[..at])
 }
 
 // Writes what is there.
-pub fn flush(out: &[u8; 65536], at: usize)
+pub fn flush(to: &impl Print, out: &[u8; 65536], at: usize) -> io::Result<()>
     requires { at ≤ 65536 }
 {
-    write(out, at);
+    write(to, out, at)
 }
 
 // Where the next bytes go, with room for 64 of them.
-fn with_room(out: &[u8; 65536], at: usize) -> usize
+fn with_room(to: &impl Print, out: &[u8; 65536], at: usize) -> io::Result<usize>
     requires { at ≤ 65536 }
-    ensures { result + 64 ≤ 65536 }
+    ensures { IfOk result (λ n. n + 64 ≤ 65536) }
 {
     if at <= 65472 {
-        return at;
+        return Ok(at);
     }
-    flush(out, at);
-    0
+    flush(to, out, at)?;
+    Ok(0)
 }
 
 // A number and a byte behind it.
@@ -70,67 +71,87 @@ pub fn behind(events: usize, count: usize) -> u8 {
 }
 
 // The refusal and a length, and a blank behind each.
-pub fn refusal_and_length(out: &mut [u8; 65536], at: usize, refusal: u8, length: usize) -> usize
+pub fn refusal_and_length(
+    to: &impl Print,
+    out: &mut [u8; 65536],
+    at: usize,
+    refusal: u8,
+    length: usize,
+) -> io::Result<usize>
     requires { at ≤ 65536 }
-    ensures { result ≤ 65536 }
+    ensures { IfOk result (λ n. n ≤ 65536) }
 {
-    let start = with_room(out, at);
+    let start = with_room(to, out, at)?;
     let first = number(out, start, refusal as u64, b' ');
-    number(out, first, length as u64, b' ')
+    Ok(number(out, first, length as u64, b' '))
 }
 
 // The refusal, the bytes used and the number of events, and the byte behind them.
 pub fn counts(
+    to: &impl Print,
     out: &mut [u8; 65536],
     at: usize,
     refusal: u8,
     used: usize,
     count: usize,
     behind: u8,
-) -> usize
+) -> io::Result<usize>
     requires { at ≤ 65536 }
-    ensures { result ≤ 65536 }
+    ensures { IfOk result (λ n. n ≤ 65536) }
 {
-    let next = refusal_and_length(out, at, refusal, used);
-    number(out, next, count as u64, behind)
+    let next = refusal_and_length(to, out, at, refusal, used)?;
+    Ok(number(out, next, count as u64, behind))
 }
 
 // An event, three numbers, and the byte behind it.
-fn event(out: &mut [u8; 65536], at: usize, room: &[u64; 221184], i: usize, behind: u8) -> usize
+fn event(
+    to: &impl Print,
+    out: &mut [u8; 65536],
+    at: usize,
+    room: &[u64; 221184],
+    i: usize,
+    behind: u8,
+) -> io::Result<usize>
     requires { (at ≤ 65536) × (i < 73728) }
-    ensures { result ≤ 65536 }
+    ensures { IfOk result (λ n. n ≤ 65536) }
 {
-    let start = with_room(out, at);
+    let start = with_room(to, out, at)?;
     let first = 3 * i;
     let kind = number(out, start, room[first], b':');
     let place = number(out, kind, room[first + 1], b':');
-    number(out, place, room[first + 2], behind)
+    Ok(number(out, place, room[first + 2], behind))
 }
 
 // The first `count` events, or all that there is room for.
-pub fn events(out: &mut [u8; 65536], at: usize, room: &[u64; 221184], count: usize) -> usize
+pub fn events(
+    to: &impl Print,
+    out: &mut [u8; 65536],
+    at: usize,
+    room: &[u64; 221184],
+    count: usize,
+) -> io::Result<usize>
     requires { at ≤ 65536 }
-    ensures { result ≤ 65536 }
+    ensures { IfOk result (λ n. n ≤ 65536) }
 {
     let mut next = at;
     let mut i = 0;
     while i < 73728 {
         if count <= i {
-            return next;
+            return Ok(next);
         }
-        next = event(out, next, room, i, behind(i + 1, count));
+        next = event(to, out, next, room, i, behind(i + 1, count))?;
         i += 1;
     }
-    next
+    Ok(next)
 }
 
-fn byte(out: &mut [u8; 65536], at: usize, value: u8) -> usize
+fn byte(to: &impl Print, out: &mut [u8; 65536], at: usize, value: u8) -> io::Result<usize>
     requires { at ≤ 65536 }
-    ensures { result ≤ 65536 }
+    ensures { IfOk result (λ n. n ≤ 65536) }
 {
-    let start = with_room(out, at);
+    let start = with_room(to, out, at)?;
     out[start] = value;
-    start + 1
+    Ok(start + 1)
 }
 
 // The last hexadecimal digit of a value.
@@ -143,20 +164,20 @@ fn digit(value: u8) -> u8 {
 }
 
 // Bytes in hexadecimal, `-` for none, and the line's end.
-pub fn bytes(out: &mut [u8; 65536], at: usize, bytes: &[u8]) -> usize
+pub fn bytes(to: &impl Print, out: &mut [u8; 65536], at: usize, bytes: &[u8]) -> io::Result<usize>
     requires { at ≤ 65536 }
-    ensures { result ≤ 65536 }
+    ensures { IfOk result (λ n. n ≤ 65536) }
 {
     if bytes.len() == 0 {
-        let none = byte(out, at, b'-');
-        return byte(out, none, b'\n');
+        let none = byte(to, out, at, b'-')?;
+        return byte(to, out, none, b'\n');
     }
     let mut next = at;
     let mut i = 0;
     while i < bytes.len() {
-        next = byte(out, next, digit(bytes[i] / 16));
-        next = byte(out, next, digit(bytes[i]));
+        next = byte(to, out, next, digit(bytes[i] / 16))?;
+        next = byte(to, out, next, digit(bytes[i]))?;
         i += 1;
     }
-    byte(out, next, b'\n')
+    byte(to, out, next, b'\n')
 }

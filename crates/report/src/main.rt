@@ -3,80 +3,75 @@
 // arguments and input are read and output written, block by block.
 #![tactic(auto)]
 
-use libc::{STDERR_FILENO, STDIN_FILENO, STDOUT_FILENO};
 use numerals::{Number, decimal};
 use reporting::print::print;
 use reporting::states::{State, finish, fresh, take};
+use std::env::{Env, FillError};
+use std::io;
+use std::io::Read;
 
 // A second that stands in the arguments; one of more than 64 bytes is none.
-fn second_given(i: usize) -> Number {
+fn second_given(rt: &impl Env, i: usize) -> Number {
     let mut word = [0u8; 64];
-    let n = os::arg(i, &mut word);
+    let n = rt.arg(i, &mut word).unwrap_or(0);
     decimal(&word[..n])
 }
 
 // Writes the report, for which there is room: 66 lines of 192 bytes.
-fn write_report(state: State, figures: &[u64; 512]) {
+fn write_report(rt: &(impl Print + Eprint), state: State, figures: &[u64; 512]) -> io::Result<()> {
     let mut out = [0u8; 12672];
     let printed = print(state, figures, 0, &mut out);
     let written = printed.written;
     if written == 0 {
-        io::write_all(
-            STDERR_FILENO,
-            b"report: 20, more than 2678400 lines; no report\n",
-        );
-        return;
+        return rt.eprintln("report: 20, more than 2678400 lines; no report");
     }
-    if !io::write_all(STDOUT_FILENO, &out[..written]) {
-        io::write_all(STDERR_FILENO, b"report: cannot write the output\n");
+    if rt.write_all(&out[..written]).is_err() {
+        return rt.eprintln("report: cannot write the output");
     }
+    Ok(())
 }
 
-// Reports standard input, to its end. A loop that is proved has to end, so its turns count down from a number that no run uses up.
-fn report_input(first: u64, last: u64) {
+// Reports standard input, to its end.
+fn report_input(rt: &(impl Input + Print + Eprint), first: u64, last: u64) -> io::Result<()> {
+    let mut input = rt.reader();
     let mut frame = [0u8; 16384];
     let mut figures = [0u64; 512];
     let mut state = fresh(first, last);
-    let mut turns = u64::MAX;
-    while turns > 0 {
-        let mut block = io::large_buffer();
-        let got = libc::read(STDIN_FILENO, &mut block);
-        if got < 0 {
-            io::write_all(STDERR_FILENO, b"report: cannot read the input\n");
-            return;
-        }
-        let n = io::count(got, &block);
+    for _ in 0..u64::MAX {
+        let mut block = [0u8; 65536];
+        let Ok(n) = input.read(&mut block) else {
+            return rt.eprintln("report: cannot read the input");
+        };
         if n == 0 {
             let end = finish(state, &frame, &mut figures);
-            write_report(end, &figures);
-            return;
+            return write_report(rt, end, &figures);
         }
         state = take(state, &mut frame, &mut figures, &block[..n]);
-        turns -= 1;
     }
+    Ok(())
 }
 
-fn wrong_arguments() {
-    io::write_all(
-        STDERR_FILENO,
-        b"report: wants the first and the last second, in decimal: report FIRST LAST < FILE\n",
-    );
+fn wrong_arguments(rt: &impl Eprint) -> io::Result<()> {
+    rt.eprintln("report: wants the first and the last second, in decimal: report FIRST LAST < FILE")
 }
 
-fn main() {
-    if os::arg_count() != 3 {
-        wrong_arguments();
-        return;
+// Whether the program was given an argument of a number, where that of 0 is its name.
+fn has_argument(rt: &impl Env, i: usize) -> bool {
+    let mut start = [0u8; 1];
+    !matches!(rt.arg(i, &mut start), Err(FillError::NotPresent))
+}
+
+fn main(rt: HostRuntime) -> io::Result<()> {
+    if !has_argument(&rt, 2) || has_argument(&rt, 3) {
+        return wrong_arguments(&rt);
     }
-    let first = second_given(1);
-    let last = second_given(2);
+    let first = second_given(&rt, 1);
+    let last = second_given(&rt, 2);
     if !first.understood {
-        wrong_arguments();
-        return;
+        return wrong_arguments(&rt);
     }
     if !last.understood {
-        wrong_arguments();
-        return;
+        return wrong_arguments(&rt);
     }
-    report_input(first.value, last.value);
+    report_input(&rt, first.value, last.value)
 }

@@ -5,6 +5,9 @@
 ghost use Rattle.std.specs.Prelude.{◌≡◌, ◌≤◌, length};
 
 use lines::{front, gather};
+use std::env::{Env, FillError};
+use std::io;
+use std::io::Read;
 
 // How many bytes of the present line are counted, and how many of the answer are written. A line keeps no more than 256 of its bytes:
 // a text of so many is no type, whatever stands in it.
@@ -45,42 +48,45 @@ fn judge_block(block: &[u8], line: &mut [u8], before: usize, out: &mut [u8]) -> 
 }
 
 // The answer to a last line that has no line end.
-fn judge_rest(line: &[u8], kept: usize) {
+fn judge_rest(output: &impl Print, line: &[u8], kept: usize) -> io::Result<()> {
     if kept == 0 {
-        return;
+        return Ok(());
     }
     let answer = [verdict(line, kept), b'\n'];
-    io::write_all(1, &answer);
+    output.write_all(&answer)
 }
 
-fn judge_input() {
+// Judges the input to its end. A run ends sooner only where it cannot read or write.
+fn judge_input(rt: &(impl Input + Print)) -> io::Result<()> {
+    let mut input = rt.reader();
     let mut line = [0u8; 256];
     let mut kept = 0;
-    let mut turns = u64::MAX;
-    while turns > 0 {
+    for _ in 0..u64::MAX {
         let mut block = [0u8; 4096];
-        let got = libc::read(0, &mut block);
-        let n = io::count(got, &block);
+        let n = input.read(&mut block)?;
         if n == 0 {
-            judge_rest(&line, kept);
-            return;
+            return judge_rest(rt, &line, kept);
         }
         let mut out = [0u8; 8192];
         let progress = judge_block(&block[..n], &mut line, kept, &mut out);
         let written = progress.written;
-        io::write_all(1, &out[..written]);
+        rt.write_all(&out[..written])?;
         kept = progress.kept;
-        turns -= 1;
     }
+    Ok(())
 }
 
-fn main() {
-    if os::arg_count() > 1 {
-        io::write_all(
-            2,
-            b"signature_check: unknown argument; it takes none and judges the lines of standard input\n",
+// Whether the program was given an argument behind its name.
+fn has_argument(rt: &impl Env) -> bool {
+    let mut start = [0u8; 1];
+    !matches!(rt.arg(1, &mut start), Err(FillError::NotPresent))
+}
+
+fn main(rt: HostRuntime) -> io::Result<()> {
+    if has_argument(&rt) {
+        return rt.eprintln(
+            "signature_check: unknown argument; it takes none and judges the lines of standard input",
         );
-        return;
     }
-    judge_input();
+    judge_input(&rt)
 }

@@ -16,7 +16,7 @@ use framing_offsets::{OffsetTable, from_encoded_array};
 use reader_basic::basic::close;
 use reader_basic::{Answer, behind, done, refused};
 use reader_runs::numbers::{numbers, readings};
-use reader_runs::texts::texts;
+use reader_runs::texts_run::texts;
 use reader_steps::array::{empty, kind_by, repeats_fixed};
 use reader_steps::codes::{held_width, is_text, number_width};
 use reader_steps::opening::in_array;

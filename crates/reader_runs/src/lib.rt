@@ -2,4 +2,4 @@
 #![tactic(auto)]
 
 pub mod numbers;
-pub mod texts;
+pub mod texts_run;

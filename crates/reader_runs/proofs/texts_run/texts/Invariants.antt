@@ -1,10 +1,10 @@
--- `reader_runs::texts::texts` meets its contract. Assumes nothing.
+-- `reader_runs::texts_run::texts` meets its contract. Assumes nothing.
 -- what a turn knows
 use Prim.Native.Nat.{◌+◌, ◌-◌}
 use Rattle.meaning.specs.Depths.{Depths}
 use Rattle.meaning.specs.Reading.{child_step, read_text}
 use Rattle.reader_runs.proofs.Turns.{Left}
-use Rattle.reader_runs.proofs.texts.texts.Given as goal
+use Rattle.reader_runs.proofs.texts_run.texts.Given as goal
 
 abbrev pub invariant-loop-i : goal.invariant-loop-i
 invariant-loop-i l =

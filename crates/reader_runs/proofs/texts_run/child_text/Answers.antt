@@ -1,6 +1,6 @@
--- `reader_runs::texts::child_text` meets its contract. Assumes nothing.
+-- `reader_runs::texts_run::child_text` meets its contract. Assumes nothing.
 use Rattle.reader_basic.proofs.Leaves.{child_before, child_there}
-use Rattle.reader_runs.proofs.texts.child_text.Goals as goal
+use Rattle.reader_runs.proofs.texts_run.child_text.Goals as goal
 
 pub returns-then-e-j : goal.returns-then-e-j
 returns-then-e-j c =

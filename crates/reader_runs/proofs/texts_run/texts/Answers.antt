@@ -1,10 +1,10 @@
--- `reader_runs::texts::texts` meets its contract. Assumes nothing.
+-- `reader_runs::texts_run::texts` meets its contract. Assumes nothing.
 use native.Mathlib.Omega.{arith}
 use borrow.Author.Rules.{rules}
 use Rattle.meaning.specs.Depths.{none_open}
 use Rattle.meaning.specs.Reading.{child_step}
 use Rattle.reader_runs.proofs.Turns.{body_ends, left_begin, left_passes, left_end, turn_of, turn_starts, turn_ends, turn_fits, turn_stop, turn_next}
-use Rattle.reader_runs.proofs.texts.texts.Goals as goal
+use Rattle.reader_runs.proofs.texts_run.texts.Goals as goal
 
 pub slice_bounds-table-count : goal.slice_bounds-table-count
 slice_bounds-table-count c =

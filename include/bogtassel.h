@@ -1,6 +1,6 @@
 /*
  * bogtassel.h: reads and writes GVariant frames, tells which frames are as writing makes them, and edits a reading in such a
- * frame. Link with libbogtassel.a, which `rt staticlib bogtassel` writes to target/staticlib.
+ * frame. Link with libbogtassel.a, which `rt lib` writes to out/ in crates/bogtassel.
  *
  * The archive is for x86-64 Linux. It allocates nothing and keeps nothing between calls, so calls may run in several threads
  * at once, each with memory of its own.

@@ -22,7 +22,6 @@ use Rattle.meaning.specs.Letters.{number_letter, text_letter}
 use Rattle.meaning.specs.TypeText.{type_of}
 use Rattle.meaning.specs.Events.{event, text_event, present, nothing}
 use Rattle.meaning.specs.Outcome.{Outcome, done, refused, chain, passing, enclosed}
-use Rattle.meaning.specs.Reading
 use Rattle.meaning.specs.Reading.{Reader, child, within, padding_of, text_as, read_text, read_bool, number_in, end_byte, present_in, maybe_in, further, elements, elements_to, Step, tabled, array_body, array_in, child_step, Field, offset_stands, field_offset, last_nul, separator, remaining, variant_value, variant_type, variant_typed, variant_body, variant_in, pad, read_number, read_basic, read_maybe, read_array, end_padding, fields_in, structure_body, structure_in, read_structure, value_from, fixed_key, value_before, key_to, text_key, entry_from, read_entry, entry_step, read_variant, read_tree, readers, reading}
 use Rattle.meaning.specs.Limits.{largest_frame, most_variants}
 use Rattle.meaning.specs.Refusals.{room_too_small}

@@ -25,7 +25,6 @@ use Rattle.meaning.specs.Letters.{is_text_letter, bool_letter, number_letter, te
 use Rattle.meaning.specs.TypeText.{type_of}
 use Rattle.meaning.specs.Events.{Event, event, text_event, present, nothing, opening, closing, text_named}
 use Rattle.meaning.specs.Outcome.{Outcome, done, refused, after, chain, unused, passing, closing_at, enclosed}
-use Rattle.meaning.specs.Reading
 use Rattle.meaning.specs.Reading.{Reader, child, within, padding_of, text_as, read_text, read_bool, number_in, end_byte, present_in, maybe_in, further, elements, elements_to, Step, tabled, array_body, array_in, child_step, Field, offset_stands, field_offset, padded, separator, remaining, variant_value, variant_type, variant_typed, variant_body, variant_in, pad, read_number, read_basic, read_maybe, read_array, end_padding, fields_in, structure_body, structure_in, read_structure, value_from, fixed_key, value_before, key_to, text_key, entry_from, read_entry, entry_step, read_variant, read_tree, readers, reading}
 use Rattle.meaning.specs.Calls.{frame_of, frame_reading, Counts, counts, sized, fitted, size, read}
 use Rattle.meaning.proofs.Bounds.{last_nul_most}

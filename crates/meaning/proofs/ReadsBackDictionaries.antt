@@ -8,7 +8,7 @@ use lib.Dec.{T}
 use lib.ListN.{length, take, drop, length-append, length-replicate}
 use lib.Seq.{drop_at, take_at}
 use borrow.Author.Tests.{le-leb}
-use Rattle.meaning.specs.Numbers.{bytes, value}
+use Rattle.meaning.specs.Numbers.{bytes}
 use Rattle.meaning.specs.Padding.{padding, zeros, Aligns}
 use Rattle.meaning.specs.Offsets.{encoded_width, written_width, last_offset, back_table}
 use Rattle.meaning.specs.Depths.{Depths}

@@ -1,5 +1,5 @@
 -- `size` and `read` as the public calls answer them. Assumes nothing: these are definitions.
-use Rattle.std.specs.Prelude.{List, ◌++◌, Bool, ◌&&◌, ℕ, ◌+◌, ◌*◌, leb, eqb, length, drop}
+use Rattle.std.specs.Prelude.{List, ◌++◌, Bool, ◌&&◌, ℕ, ◌*◌, leb, eqb, length, drop}
 use Rattle.std.proofs.Math.Option.{Option, none, some}
 use Rattle.meaning.specs.Choice.{pick}
 use Rattle.meaning.specs.Limits.{largest_frame, most_variants}

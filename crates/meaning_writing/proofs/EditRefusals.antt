@@ -30,7 +30,7 @@ use Rattle.meaning_writing.proofs.Parts.{take_bytes}
 use Rattle.meaning.proofs.Faithful.{Met, reading_met}
 use Rattle.meaning_writing.proofs.StrictVariants.{strict_sound, strict_reads}
 use Rattle.meaning_writing.proofs.ChangedLaws.{change}
-use Rattle.meaning_writing.proofs.EditingLaws.{edit_refusal, Holds, refusal_is, answer_refusal}
+use Rattle.meaning_writing.proofs.EditingLaws.{edit_refusal, Holds, answer_refusal}
 
 -- ---- refusals
 

@@ -9,7 +9,7 @@ use lib.Dec.{T, ltb}
 use lib.ListN.{length, length-append, length-replicate}
 use borrow.Author.Tests.{ltb-true, ltb-false, lt-ltb}
 use Rattle.meaning.specs.Choice.{pick}
-use Rattle.meaning.specs.Numbers.{bytes, value}
+use Rattle.meaning.specs.Numbers.{value}
 use Rattle.meaning.specs.Padding.{padding, zeros}
 use Rattle.meaning.specs.Offsets.{encoded_width, written_width, table, last_offset}
 use Rattle.meaning.specs.Depths as Depth

@@ -10,7 +10,6 @@ use lib.ListN.{length, drop, length-append}
 use borrow.Author.Tests.{ne_eqb}
 use Rattle.meaning.specs.Choice.{pick}
 use Rattle.meaning.specs.Limits.{largest_frame}
-use Rattle.meaning.specs.Numbers.{bytes}
 use Rattle.meaning.specs.Padding.{padding}
 use Rattle.meaning.specs.Depths as Depth
 use Rattle.meaning.specs.Depths.{Depths, opened}

@@ -15,7 +15,7 @@ use Rattle.meaning.specs.Padding.{Aligns, padding, zeros}
 use Rattle.meaning.specs.Offsets.{first_width, written_width, table, back_table}
 use Rattle.meaning.specs.Depths as Depth
 use Rattle.meaning.specs.Depths.{opened}
-use Rattle.meaning.specs.Types.{Basic, bool, number, text, Tree, Fields, basic, variant, maybe, array, dictionary, structure, last, next, alignment, fixed, all_fixed, entry_alignment, entry_fixed}
+use Rattle.meaning.specs.Types.{Basic, bool, number, text, Tree, Fields, basic, variant, maybe, array, dictionary, structure, last, next, fixed, all_fixed, entry_alignment, entry_fixed}
 use Rattle.meaning.specs.Letters.{bool_letter, number_letter, text_letter, signature_letter, variant_letter, maybe_letter, nothing_letter, array_letter, dictionary_letter, structure_letter, container_end}
 use Rattle.meaning.specs.Events.{Event, event, text_event}
 use Rattle.meaning.specs.TypeText.{type_text}

@@ -2,8 +2,7 @@
 use mathlib.Core.Path.{sym}
 use native.Mathlib.Omega.{arith}
 use lib.Seq.{length-take-le}
-use Rattle.lines.proofs.WordLaws.{Reaching, reaching_begin, reaching_next, reaching_none, reaching_end}
-use borrow.Author.Rules.{rules}
+use Rattle.lines.proofs.WordLaws.{reaching_begin, reaching_next, reaching_none, reaching_end}
 use Rattle.lines.proofs.word.Goals as goal
 
 pub loop-left-init : goal.loop-left-init

@@ -1,9 +1,5 @@
 -- `lines::word` meets its contract. The invariant: the word by the number left in the rest of the line is the word asked for. Assumes nothing.
-use mathlib.Core.Path.{sym}
-use native.Mathlib.Omega.{arith}
-use lib.Seq.{length-take-le}
-use Rattle.lines.proofs.WordLaws.{Reaching, reaching_begin, reaching_next, reaching_none, reaching_end}
-use borrow.Author.Rules.{rules}
+use Rattle.lines.proofs.WordLaws.{Reaching}
 use Rattle.lines.proofs.word.Given as goal
 
 abbrev pub invariant-loop-left : goal.invariant-loop-left

@@ -12,17 +12,15 @@ returns-then-not-shapes_of c =
     record { answer = ap counts_of c.refused.ensures ∙ type_read _ _ _ _ w _; slice = type_slice _ _ _ _ w _ }
 
 pub read_once-requires : goal.read_once-requires
-read_once-requires c =
-    (
-      table_type _ _ _ _ refl c.shapes_of.ensures (not-false _ c.if-not-shapes_of.false-raw),
-      table_filled _ _ _ _ refl
-          c.shapes_of.ensures c.shapes_of.auto.shapes (not-false _ c.if-not-shapes_of.false-raw),
-    )
+read_once-requires c = (
+  table_type _ _ _ _ refl c.shapes_of.ensures (not-false _ c.if-not-shapes_of.false-raw),
+  table_filled _ _ _ _ refl
+      c.shapes_of.ensures c.shapes_of.auto.shapes (not-false _ c.if-not-shapes_of.false-raw),
+)
 
 pub read_twice-requires : goal.read_twice-requires
-read_twice-requires c =
-    (
-      table_type _ _ _ _ refl c.shapes_of.ensures (not-false _ c.if-not-shapes_of.false-raw),
-      table_filled _ _ _ _ refl
-          c.shapes_of.ensures c.shapes_of.auto.shapes (not-false _ c.if-not-shapes_of.false-raw),
-    )
+read_twice-requires c = (
+  table_type _ _ _ _ refl c.shapes_of.ensures (not-false _ c.if-not-shapes_of.false-raw),
+  table_filled _ _ _ _ refl
+      c.shapes_of.ensures c.shapes_of.auto.shapes (not-false _ c.if-not-shapes_of.false-raw),
+)

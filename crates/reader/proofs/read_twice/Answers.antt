@@ -12,5 +12,8 @@ returns-then-out-count c = record { answer = ap counts_of c.refused.ensures ∙ 
 
 pub returns : goal.returns
 returns c =
-    record { answer = read_done _ _ _ _ _ _ c.sized-s.ensures c.if-refusal-ne0.false c.if-out-count.false _ _ c.whole.ensures; slice = slice_done _ _ _ _ _ _
-          c.sized-s.ensures c.if-refusal-ne0.false c.if-out-count.false _ _ c.whole.ensures }
+    record {
+      answer = read_done _ _ _ _ _ _ c.sized-s.ensures c.if-refusal-ne0.false c.if-out-count.false _ _ c.whole.ensures;
+      slice = slice_done _ _ _ _ _ _
+          c.sized-s.ensures c.if-refusal-ne0.false c.if-out-count.false _ _ c.whole.ensures;
+    }

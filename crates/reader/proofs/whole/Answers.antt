@@ -20,13 +20,12 @@ pub ride_of-ride-requires : goal.ride_of-ride-requires
 ride_of-ride-requires c = c.if-position-gt-LARGEST_FRAME.false
 
 pub value-requires : goal.value-requires
-value-requires c =
-    (
-      front_described _ _ c.requires.1 (front _ c.requires.0),
-      within_frame c.if-frame-gt-LARGEST_FRAME.false
-          (omega (arith, c.ride_of-ride.ensures.at, c.if-position-gt-LARGEST_FRAME.false)) c.ride_of-ride.ensures.none,
-      omega arith,
-    )
+value-requires c = (
+  front_described _ _ c.requires.1 (front _ c.requires.0),
+  within_frame c.if-frame-gt-LARGEST_FRAME.false
+      (omega (arith, c.ride_of-ride.ensures.at, c.if-position-gt-LARGEST_FRAME.false)) c.ride_of-ride.ensures.none,
+  omega arith,
+)
 
 pub returns : goal.returns
 returns c =

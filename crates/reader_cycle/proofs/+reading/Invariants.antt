@@ -85,7 +85,8 @@ decreases-variant::variant l =
 
 abbrev pub invariant-structure::structure-loop-field : goal.invariant-structure::structure-loop-field
 invariant-structure::structure-loop-field l =
-    FieldsLeft (context_of l.deeper).position (context_of l.deeper).big (context_of l.deeper).depths.variant l.text (l.at + 1) (shape_in l.text l.shapes l.at).fixed (shape_in l.text l.shapes l.at).alignment l.place l.part l.lead (encoded_width (length l.part - l.lead)) (depths_of (context_of l.deeper).depths) l.initial.m l.initial.out l.i l.end l.u l.m l.out
+    FieldsLeft (context_of l.deeper).position (context_of l.deeper).big (context_of l.deeper).depths.variant l.text (l.at + 1) (shape_in l.text l.shapes l.at).fixed (shape_in l.text l.shapes l.at).alignment
+    l.place l.part l.lead (encoded_width (length l.part - l.lead)) (depths_of (context_of l.deeper).depths) l.initial.m l.initial.out l.i l.end l.u l.m l.out
 
 abbrev pub decreases-structure::structure-loop-field : goal.decreases-structure::structure-loop-field
 decreases-structure::structure-loop-field l =

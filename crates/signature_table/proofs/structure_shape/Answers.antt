@@ -35,18 +35,17 @@ overflow_add-place-then-stands c =
     )
 
 pub pack-requires : goal.pack-requires
-pack-requires c =
-    (
-      fits c.args.text.now c.next_of-place.result CloseStructure 41 c.requires.0.few
-          (closes_structure _ _ (c.stands.ensures.here c.if-stands.true)) refl,
-      fielded_most c.args.text.now c.args.at
-          c.loop-at.place c.loop-at.alignment c.loop-at.fixed c.requires.0.few c.loop-at.invariant c.seen-field.result
-          (known c.args.text.now c.loop-at.place c.seen-field.result
-          (c.seen-field.ensures (c.args.at + 1) (omega (arith, c.loop-at.invariant.fielding.onward)) c.requires.0.table) c.if-field-eq0.false)
-          c.next_of-place.result c.larger-alignment.result c.both-fixed.result c.next_of-place.ensures
-          (c.larger-alignment.ensures ∙ ap (λ (x : ℕ). max c.loop-at.alignment x) c.alignment_of.ensures)
-          (c.both-fixed.ensures ∙ ap (λ (x : Bool). c.loop-at.fixed && x) c.fixed_of.ensures),
-    )
+pack-requires c = (
+  fits c.args.text.now c.next_of-place.result CloseStructure 41 c.requires.0.few
+      (closes_structure _ _ (c.stands.ensures.here c.if-stands.true)) refl,
+  fielded_most c.args.text.now c.args.at
+      c.loop-at.place c.loop-at.alignment c.loop-at.fixed c.requires.0.few c.loop-at.invariant c.seen-field.result
+      (known c.args.text.now c.loop-at.place c.seen-field.result
+      (c.seen-field.ensures (c.args.at + 1) (omega (arith, c.loop-at.invariant.fielding.onward)) c.requires.0.table) c.if-field-eq0.false)
+      c.next_of-place.result c.larger-alignment.result c.both-fixed.result c.next_of-place.ensures
+      (c.larger-alignment.ensures ∙ ap (λ (x : ℕ). max c.loop-at.alignment x) c.alignment_of.ensures)
+      (c.both-fixed.ensures ∙ ap (λ (x : Bool). c.loop-at.fixed && x) c.fixed_of.ensures),
+)
 
 pub returns-then-stands : goal.returns-then-stands
 returns-then-stands c =

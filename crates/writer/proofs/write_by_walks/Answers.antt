@@ -8,8 +8,8 @@ use Rattle.writer.proofs.write_by_walks.Goals as goal
 pub returns-then-refusal-ne0 : goal.returns-then-refusal-ne0
 returns-then-refusal-ne0 c =
     rw c.unwritten.ensures (
-      let whole = write_refused _ _ _ _ _ c.requires.0 _ _ _ c.whole-walked.ensures _ c.refusal_of-refusal.ensures c.if-refusal-ne0.true in
-      record { answer = whole.0; slice = whole.1 })
+    let whole = write_refused _ _ _ _ _ c.requires.0 _ _ _ c.whole-walked.ensures _ c.refusal_of-refusal.ensures c.if-refusal-ne0.true in
+    record { answer = whole.0; slice = whole.1 })
 
 pub slice_bounds-whole-end : goal.slice_bounds-whole-end
 slice_bounds-whole-end c = (judged_good _ _ _ _ c.refusal_of-refusal.ensures c.if-refusal-ne0.false).fits

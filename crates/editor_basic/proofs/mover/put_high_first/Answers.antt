@@ -31,7 +31,7 @@ loop-i-preserved c =
     let l = c.loop-i in (
       omega arith,
       elim c.if-at-i.branch [
-          then-at-i w ↦ rw w.out-is (falling_next _ _ _ _ _ l.i (l.i - 1) l.rest (omega arith) l.invariant.1)
+        | then-at-i w ↦ rw w.out-is (falling_next _ _ _ _ _ l.i (l.i - 1) l.rest (omega arith) l.invariant.1)
         | else-at-i w ↦ rw w.out-is (falling_past _ _ _ _ _ l.i (l.i - 1) l.rest (omega arith) w.if-at-i.false l.invariant.1)
       ],
     )

@@ -30,24 +30,23 @@ returns-then-is_slot t c =
     (sym c.is_slot.ensures ∙ c.if-is_slot.true)) _ _ _ c.args.aim _ _ _ _ c.readings.ensures)
 
 pub elements-requires : goal.array::array-elements-requires
-elements-requires t c =
-    (
-      omega (
-        arith,
-        (array_deeper (item_is c.args.text.now c.args.tables.now c.args.shape c.requires.0 c.requires.1
-            c.item_of-item.result c.item_of-item.ensures) c.args.d c.if-fixed.false c.inc_array-raised.result c.inc_array-raised.ensures
-            c.args.place c.args.part.now c.requires.2).falls,
-        c.decreases,
-      ),
-      (
-        repeats (item_is c.args.text.now c.args.tables.now
-            c.args.shape c.requires.0 c.requires.1 c.item_of-item.result c.item_of-item.ensures) c.args.d
-            c.if-fixed.false,
-        elements_ready (item_is c.args.text.now c.args.tables.now c.args.shape c.requires.0 c.requires.1
-            c.item_of-item.result c.item_of-item.ensures) c.args.d c.if-fixed.false c.inc_array-raised.result c.inc_array-raised.ensures
-            c.args.place c.args.part.now c.requires.2,
-      ),
-    )
+elements-requires t c = (
+  omega (
+    arith,
+    (array_deeper (item_is c.args.text.now c.args.tables.now c.args.shape c.requires.0 c.requires.1
+        c.item_of-item.result c.item_of-item.ensures) c.args.d c.if-fixed.false c.inc_array-raised.result c.inc_array-raised.ensures
+        c.args.place c.args.part.now c.requires.2).falls,
+    c.decreases,
+  ),
+  (
+    repeats (item_is c.args.text.now c.args.tables.now
+        c.args.shape c.requires.0 c.requires.1 c.item_of-item.result c.item_of-item.ensures) c.args.d
+        c.if-fixed.false,
+    elements_ready (item_is c.args.text.now c.args.tables.now c.args.shape c.requires.0 c.requires.1
+        c.item_of-item.result c.item_of-item.ensures) c.args.d c.if-fixed.false c.inc_array-raised.result c.inc_array-raised.ensures
+        c.args.place c.args.part.now c.requires.2,
+  ),
+)
 
 pub returns : goal.array::array-returns
 returns t c =

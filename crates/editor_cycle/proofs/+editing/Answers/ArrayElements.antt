@@ -15,13 +15,12 @@ elements_of-all-requires t c =
     body_inside (item_test c.args.d.variant c.args.text.now c.args.item) (depths_of c.args.d) c.args.part.now c.requires.1.written
 
 pub loop-rest-init : goal.array::elements-loop-rest-init
-loop-rest-init t c =
-    (
-      elements_begin (item_test c.args.d.variant c.args.text.now c.args.item) (item_editor c.args.aim.big c.args.d.variant
-          c.args.text.now c.args.item) (depths_of c.args.d) c.args.part.now c.args.item.alignment _ _ c.elements_of-all.ensures
-          c.requires.0.aligned (c.requires.0.test_alignment c.args.d.variant) (omega (arith, c.requires.1.near)) c.requires.1.written,
-      refl,
-    )
+loop-rest-init t c = (
+  elements_begin (item_test c.args.d.variant c.args.text.now c.args.item) (item_editor c.args.aim.big c.args.d.variant
+      c.args.text.now c.args.item) (depths_of c.args.d) c.args.part.now c.args.item.alignment _ _ c.elements_of-all.ensures
+      c.requires.0.aligned (c.requires.0.test_alignment c.args.d.variant) (omega (arith, c.requires.1.near)) c.requires.1.written,
+  refl,
+)
 
 pub first_element-child-requires : goal.array::elements-first_element-child-requires
 first_element-child-requires t c = (c.loop-rest.invariant.0.stands, c.loop-rest-test.true)
@@ -47,15 +46,14 @@ step-walked-requires t c =
     (omega (arith, c.decreases), (c.requires.0, element_ready c.args.d c.loop-rest.invariant.0 c.loop-rest-test.true c.first_element-child.ensures c.args.place c.requires.1.shallow c.requires.1.near))
 
 pub close_element-requires : goal.array::elements-close_element-requires
-close_element-requires t c =
-    (
-      element_fits c.elements_of-all.ensures (c.requires.0.editor_alignment c.args.aim.big c.args.d.variant) (c.requires.0.editor_fixed
-          c.args.aim.big c.args.d.variant) c.loop-rest.invariant.0 c.args.place (new_of c.args.aim.new) (most c.args.d + container_most)
-          c.loop-rest-test.true c.first_element-child.ensures (most c.args.d + entry_most) _ _ _ c.loop-rest.invariant.1 _ c.step-walked.ensures (omega
-          (arith, most_small c.args.d, c.first_element-child.ensures.order, c.first_element-child.ensures.inside, c.requires.1.near)),
-      elements_behind
-          c.loop-rest.invariant.0 c.loop-rest-test.true c.first_element-child.ensures,
-    )
+close_element-requires t c = (
+  element_fits c.elements_of-all.ensures (c.requires.0.editor_alignment c.args.aim.big c.args.d.variant) (c.requires.0.editor_fixed
+      c.args.aim.big c.args.d.variant) c.loop-rest.invariant.0 c.args.place (new_of c.args.aim.new) (most c.args.d + container_most)
+      c.loop-rest-test.true c.first_element-child.ensures (most c.args.d + entry_most) _ _ _ c.loop-rest.invariant.1 _ c.step-walked.ensures (omega
+      (arith, most_small c.args.d, c.first_element-child.ensures.order, c.first_element-child.ensures.inside, c.requires.1.near)),
+  elements_behind
+      c.loop-rest.invariant.0 c.loop-rest-test.true c.first_element-child.ensures,
+)
 
 pub shape_of-out-then-found : goal.array::elements-shape_of-out-then-found
 shape_of-out-then-found t c =

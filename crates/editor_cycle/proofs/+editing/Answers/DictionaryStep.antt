@@ -72,17 +72,16 @@ value-walked-requires t c =
     (omega (arith, c.decreases), (c.requires.0.child, entry_ready c.requires.0 c.args.d c.args.place c.args.part.now c.requires.1 (not-false _ c.if-not-entry.false-raw) c.if-fixed.false c.entry_of-lies.result c.entry_of-lies.ensures))
 
 pub close_last-requires : goal.dictionary::step-close_last-requires
-close_last-requires t c =
-    (
-      entry_fits c.requires.0 c.args.d c.args.place c.args.part.now c.requires.1 (not-false _ c.if-not-entry.false-raw) c.if-fixed.false
-          c.entry_of-lies.result c.entry_of-lies.ensures c.args.aim.big _ _ _ _ _ c.value-walked.ensures,
-      (entry_order c.requires.0
-          c.args.d c.args.place c.args.part.now c.requires.1 (not-false _ c.if-not-entry.false-raw) c.if-fixed.false c.entry_of-lies.result
-          c.entry_of-lies.ensures).1,
-      omega (arith, c.requires.1.near),
-      entry_wide c.requires.0 c.args.d c.args.place c.args.part.now
-          c.requires.1 (not-false _ c.if-not-entry.false-raw) c.if-fixed.false c.entry_of-lies.result c.entry_of-lies.ensures,
-    )
+close_last-requires t c = (
+  entry_fits c.requires.0 c.args.d c.args.place c.args.part.now c.requires.1 (not-false _ c.if-not-entry.false-raw) c.if-fixed.false
+      c.entry_of-lies.result c.entry_of-lies.ensures c.args.aim.big _ _ _ _ _ c.value-walked.ensures,
+  (entry_order c.requires.0
+      c.args.d c.args.place c.args.part.now c.requires.1 (not-false _ c.if-not-entry.false-raw) c.if-fixed.false c.entry_of-lies.result
+      c.entry_of-lies.ensures).1,
+  omega (arith, c.requires.1.near),
+  entry_wide c.requires.0 c.args.d c.args.place c.args.part.now
+      c.requires.1 (not-false _ c.if-not-entry.false-raw) c.if-fixed.false c.entry_of-lies.result c.entry_of-lies.ensures,
+)
 
 pub returns : goal.dictionary::step-returns
 returns t c =

@@ -36,22 +36,21 @@ pub slice_bounds-value-end : goal.maybe::maybe-slice_bounds-value-end
 slice_bounds-value-end t c = simp length-take (omega arith)
 
 pub value-walked-requires : goal.maybe::maybe-value-walked-requires
-value-walked-requires t c =
-    (
-      omega (
-        arith,
-        (maybe_deeper c.requires.0 c.requires.1 _ c.shape_in-held.ensures (sym c.is_slot.ensures ∙ c.if-is_slot.false) c.args.d
-            c.args.part.now c.if-len-eq0.false c.if-fixed.false c.inc_maybe-raised.result c.inc_maybe-raised.ensures c.args.place
-            c.requires.2).falls,
-        c.decreases,
-      ),
-      (
-        held_placed c.requires.0 c.requires.1 _ c.shape_in-held.ensures,
-        held_ready c.requires.0
-            c.requires.1 _ c.shape_in-held.ensures (sym c.is_slot.ensures ∙ c.if-is_slot.false) c.args.d c.args.part.now c.if-len-eq0.false
-            c.if-fixed.false c.inc_maybe-raised.result c.inc_maybe-raised.ensures c.args.place c.requires.2,
-      ),
-    )
+value-walked-requires t c = (
+  omega (
+    arith,
+    (maybe_deeper c.requires.0 c.requires.1 _ c.shape_in-held.ensures (sym c.is_slot.ensures ∙ c.if-is_slot.false) c.args.d
+        c.args.part.now c.if-len-eq0.false c.if-fixed.false c.inc_maybe-raised.result c.inc_maybe-raised.ensures c.args.place
+        c.requires.2).falls,
+    c.decreases,
+  ),
+  (
+    held_placed c.requires.0 c.requires.1 _ c.shape_in-held.ensures,
+    held_ready c.requires.0
+        c.requires.1 _ c.shape_in-held.ensures (sym c.is_slot.ensures ∙ c.if-is_slot.false) c.args.d c.args.part.now c.if-len-eq0.false
+        c.if-fixed.false c.inc_maybe-raised.result c.inc_maybe-raised.ensures c.args.place c.requires.2,
+  ),
+)
 
 pub close_maybe-requires : goal.maybe::maybe-close_maybe-requires
 close_maybe-requires t c =

@@ -35,38 +35,36 @@ overflow_add-place t c =
     omega (arith, c.first_field-field.ensures.order, c.first_field-field.ensures.inside, c.requires.1.near)
 
 pub value-walked-requires : goal.structure::fields-value-walked-requires
-value-walked-requires t c =
-    (
-      omega (arith, c.decreases),
-      (
-        field_placed c.args.aim.big c.args.d c.loop-aim.invariant.0 c.first_field-field.ensures
-            c.shape_in-inner.result c.shape_in-inner.ensures,
-        field_asked c.args.aim.big c.args.d c.loop-aim.invariant.0
-            c.first_field-field.ensures c.shape_in-inner.result c.shape_in-inner.ensures c.args.place c.requires.1.shallow
-            c.requires.1.near,
-      ),
-    )
+value-walked-requires t c = (
+  omega (arith, c.decreases),
+  (
+    field_placed c.args.aim.big c.args.d c.loop-aim.invariant.0 c.first_field-field.ensures
+        c.shape_in-inner.result c.shape_in-inner.ensures,
+    field_asked c.args.aim.big c.args.d c.loop-aim.invariant.0
+        c.first_field-field.ensures c.shape_in-inner.result c.shape_in-inner.ensures c.args.place c.requires.1.shallow
+        c.requires.1.near,
+  ),
+)
 
 pub close_field-requires : goal.structure::fields-close_field-requires
-close_field-requires t c =
-    (
-      field_fits c.args.d.variant c.args.aim.big c.requires.0 c.loop-aim.invariant.0 c.first_field-field.ensures c.args.place (new_of
-          c.args.aim.new) (most c.args.d + container_most) _ (field_at c.args.aim.big c.args.d c.loop-aim.invariant.0
-          c.first_field-field.ensures c.shape_in-inner.result c.shape_in-inner.ensures) (most c.args.d) _ _ _ c.loop-aim.invariant.1 _
-          c.value-walked.ensures (omega (
-            arith,
-            most_small
-                c.args.d,
-            c.first_field-field.ensures.order,
-            c.first_field-field.ensures.inside,
-            c.requires.1.near,
-          )),
-      field_behind
-          c.args.d.variant c.args.aim.big c.requires.0 c.loop-aim.invariant.0 c.first_field-field.ensures c.args.place (new_of
-          c.args.aim.new) (most c.args.d + container_most) _ (field_at c.args.aim.big c.args.d c.loop-aim.invariant.0
-          c.first_field-field.ensures c.shape_in-inner.result c.shape_in-inner.ensures) (most c.args.d) _ _ _ c.loop-aim.invariant.1 _
-          c.value-walked.ensures c.if-found.true,
-    )
+close_field-requires t c = (
+  field_fits c.args.d.variant c.args.aim.big c.requires.0 c.loop-aim.invariant.0 c.first_field-field.ensures c.args.place (new_of
+      c.args.aim.new) (most c.args.d + container_most) _ (field_at c.args.aim.big c.args.d c.loop-aim.invariant.0
+      c.first_field-field.ensures c.shape_in-inner.result c.shape_in-inner.ensures) (most c.args.d) _ _ _ c.loop-aim.invariant.1 _
+      c.value-walked.ensures (omega (
+        arith,
+        most_small
+            c.args.d,
+        c.first_field-field.ensures.order,
+        c.first_field-field.ensures.inside,
+        c.requires.1.near,
+      )),
+  field_behind
+      c.args.d.variant c.args.aim.big c.requires.0 c.loop-aim.invariant.0 c.first_field-field.ensures c.args.place (new_of
+      c.args.aim.new) (most c.args.d + container_most) _ (field_at c.args.aim.big c.args.d c.loop-aim.invariant.0
+      c.first_field-field.ensures c.shape_in-inner.result c.shape_in-inner.ensures) (most c.args.d) _ _ _ c.loop-aim.invariant.1 _
+      c.value-walked.ensures c.if-found.true,
+)
 
 pub shape_of-out-then-found : goal.structure::fields-shape_of-out-then-found
 shape_of-out-then-found t c =

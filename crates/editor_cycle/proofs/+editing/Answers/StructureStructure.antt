@@ -23,23 +23,22 @@ row_of-row-requires t c =
     row_room c.requires.0 c.requires.1 c.args.d c.if-fixed.false c.inc_structure-raised.result c.inc_structure-raised.ensures c.args.place c.args.part.now c.requires.2 _ c.offsets_in.ensures
 
 pub fields-requires : goal.structure::structure-fields-requires
-fields-requires t c =
-    (
-      omega (
-        arith,
-        (structure_deeper c.requires.0 c.requires.1 c.args.d c.if-fixed.false c.inc_structure-raised.result
-            c.inc_structure-raised.ensures c.args.place c.args.part.now c.requires.2).falls,
-        c.decreases,
-      ),
-      (
-        all_row c.requires.0
-            c.requires.1 c.args.d c.if-fixed.false c.inc_structure-raised.result c.inc_structure-raised.ensures c.args.place
-            c.args.part.now c.requires.2 _ c.offsets_in.ensures _ c.row_of-row.ensures,
-        fields_ready c.requires.0 c.requires.1
-            c.args.d c.if-fixed.false c.inc_structure-raised.result c.inc_structure-raised.ensures c.args.place c.args.part.now
-            c.requires.2 _ c.offsets_in.ensures _ c.row_of-row.ensures,
-      ),
-    )
+fields-requires t c = (
+  omega (
+    arith,
+    (structure_deeper c.requires.0 c.requires.1 c.args.d c.if-fixed.false c.inc_structure-raised.result
+        c.inc_structure-raised.ensures c.args.place c.args.part.now c.requires.2).falls,
+    c.decreases,
+  ),
+  (
+    all_row c.requires.0
+        c.requires.1 c.args.d c.if-fixed.false c.inc_structure-raised.result c.inc_structure-raised.ensures c.args.place
+        c.args.part.now c.requires.2 _ c.offsets_in.ensures _ c.row_of-row.ensures,
+    fields_ready c.requires.0 c.requires.1
+        c.args.d c.if-fixed.false c.inc_structure-raised.result c.inc_structure-raised.ensures c.args.place c.args.part.now
+        c.requires.2 _ c.offsets_in.ensures _ c.row_of-row.ensures,
+  ),
+)
 
 pub returns : goal.structure::structure-returns
 returns t c =

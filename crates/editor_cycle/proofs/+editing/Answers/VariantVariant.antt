@@ -62,34 +62,32 @@ close_variant-requires t c =
     )
 
 pub value-walked-requires : goal.variant::variant-value-walked-requires
-value-walked-requires t c =
-    (
-      omega (
-        arith,
-        (variant_deeper c.args.d c.args.place c.args.part.now c.requires c.separator-s.result
-            c.separator-s.ensures.0 c.inc_variant-raised.result c.inc_variant-raised.ensures).falls,
-        c.decreases,
-      ),
-      (
-        front_placed _ _
-            (c.tables_of.ensures.filled (not-false _ c.if-not-tables_of.false-raw)) (front _ (sym c.tables_of.ensures.judged ∙ not-false _ c.if-not-tables_of.false-raw)) _
-            c.shape_in-shape.ensures,
-        typed_ready c.args.d c.args.place c.args.part.now c.requires c.separator-s.result
-            c.separator-s.ensures.0 c.inc_variant-raised.result c.inc_variant-raised.ensures _ (tail c.separator-s.result
-            c.args.part.now) (front _ (sym c.tables_of.ensures.judged ∙ not-false _ c.if-not-tables_of.false-raw)) _ (ap (λ (x : Shape). x.at)
-            c.shape_in-shape.ensures) _ refl (omega (arith, c.separator-s.ensures.1)),
-      ),
-    )
+value-walked-requires t c = (
+  omega (
+    arith,
+    (variant_deeper c.args.d c.args.place c.args.part.now c.requires c.separator-s.result
+        c.separator-s.ensures.0 c.inc_variant-raised.result c.inc_variant-raised.ensures).falls,
+    c.decreases,
+  ),
+  (
+    front_placed _ _
+        (c.tables_of.ensures.filled (not-false _ c.if-not-tables_of.false-raw)) (front _ (sym c.tables_of.ensures.judged ∙ not-false _ c.if-not-tables_of.false-raw)) _
+        c.shape_in-shape.ensures,
+    typed_ready c.args.d c.args.place c.args.part.now c.requires c.separator-s.result
+        c.separator-s.ensures.0 c.inc_variant-raised.result c.inc_variant-raised.ensures _ (tail c.separator-s.result
+        c.args.part.now) (front _ (sym c.tables_of.ensures.judged ∙ not-false _ c.if-not-tables_of.false-raw)) _ (ap (λ (x : Shape). x.at)
+        c.shape_in-shape.ensures) _ refl (omega (arith, c.separator-s.ensures.1)),
+  ),
+)
 
 pub close_variant-requires-in_default : goal.variant::variant-close_variant-requires-in_default
-close_variant-requires-in_default t c =
-    (
-      variant_fits c.args.d c.args.place c.args.part.now c.requires c.separator-s.result c.separator-s.ensures.0
-          c.inc_variant-raised.result c.inc_variant-raised.ensures _ (tail c.separator-s.result c.args.part.now) (front _ (sym
-          c.tables_of.ensures.judged ∙ not-false _ c.if-not-tables_of.false-raw)) _ (ap (λ (x : Shape). x.at) c.shape_in-shape.ensures) _ refl
-          c.args.aim.big _ _ _ _ _ c.value-walked.ensures,
-      signature_short c.separator-s.result c.args.part.now c.requires,
-    )
+close_variant-requires-in_default t c = (
+  variant_fits c.args.d c.args.place c.args.part.now c.requires c.separator-s.result c.separator-s.ensures.0
+      c.inc_variant-raised.result c.inc_variant-raised.ensures _ (tail c.separator-s.result c.args.part.now) (front _ (sym
+      c.tables_of.ensures.judged ∙ not-false _ c.if-not-tables_of.false-raw)) _ (ap (λ (x : Shape). x.at) c.shape_in-shape.ensures) _ refl
+      c.args.aim.big _ _ _ _ _ c.value-walked.ensures,
+  signature_short c.separator-s.result c.args.part.now c.requires,
+)
 
 pub returns-in-Variant : goal.variant::variant-returns-in-Variant
 returns-in-Variant t c =

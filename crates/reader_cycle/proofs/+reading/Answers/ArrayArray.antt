@@ -42,17 +42,16 @@ overflow_add-place-then-repeats_fixed t c =
     omega (arith, c.requires.2.in_frame, c.requires.3)
 
 pub elements-r-requires : goal.array::array-elements-r-requires
-elements-r-requires t c =
-    (
-      omega (arith, level_falls (c.in_array-inner.ensures.deeper c.if-refusal-ne0.false), c.decreases),
-      (
-        (repeats _ _ _ c.requires.0 c.requires.1).repeated,
-        sym c.repeats_fixed.ensures ∙ c.if-repeats_fixed.true,
-        inside_deeper
-            (c.in_array-inner.ensures.deeper c.if-refusal-ne0.false) c.requires.2,
-        c.requires.3,
-      ),
-    )
+elements-r-requires t c = (
+  omega (arith, level_falls (c.in_array-inner.ensures.deeper c.if-refusal-ne0.false), c.decreases),
+  (
+    (repeats _ _ _ c.requires.0 c.requires.1).repeated,
+    sym c.repeats_fixed.ensures ∙ c.if-repeats_fixed.true,
+    inside_deeper
+        (c.in_array-inner.ensures.deeper c.if-refusal-ne0.false) c.requires.2,
+    c.requires.3,
+  ),
+)
 
 pub overflow_add-place-then-repeats_fixed-2 : goal.array::array-overflow_add-place-then-repeats_fixed-2
 overflow_add-place-then-repeats_fixed-2 t c =
@@ -88,19 +87,18 @@ overflow_add-place-2 t c =
     omega (arith, c.requires.2.in_frame, c.requires.3)
 
 pub framed-r-requires : goal.array::array-framed-r-requires
-framed-r-requires t c =
-    (
-      omega (arith, level_falls (c.in_array-inner.ensures.deeper c.if-refusal-ne0.false), c.decreases),
-      (
-        (repeats _ _ _ c.requires.0 c.requires.1).repeated,
-        sym c.repeats_fixed.ensures ∙ c.if-repeats_fixed.false,
-        inside_deeper
-            (c.in_array-inner.ensures.deeper c.if-refusal-ne0.false) c.requires.2,
-        c.requires.3,
-        stands_by _ _
-            (rw (tail c.args.lead c.args.part.now) at c.from_encoded_array-table.ensures) c.if-fault-ne0.false,
-      ),
-    )
+framed-r-requires t c = (
+  omega (arith, level_falls (c.in_array-inner.ensures.deeper c.if-refusal-ne0.false), c.decreases),
+  (
+    (repeats _ _ _ c.requires.0 c.requires.1).repeated,
+    sym c.repeats_fixed.ensures ∙ c.if-repeats_fixed.false,
+    inside_deeper
+        (c.in_array-inner.ensures.deeper c.if-refusal-ne0.false) c.requires.2,
+    c.requires.3,
+    stands_by _ _
+        (rw (tail c.args.lead c.args.part.now) at c.from_encoded_array-table.ensures) c.if-fault-ne0.false,
+  ),
+)
 
 pub overflow_add-place-3 : goal.array::array-overflow_add-place-3
 overflow_add-place-3 t c =

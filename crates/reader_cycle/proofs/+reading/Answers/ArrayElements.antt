@@ -25,13 +25,12 @@ bounds-text-child t c =
     omega (arith, item_within c.args.text.now c.args.shapes.now c.args.at _ c.requires.0)
 
 pub numbers-requires : goal.array::elements-numbers-requires
-numbers-requires t c =
-    (
-      inside_as c.context_of.ensures c.requires.2,
-      c.requires.3,
-      (c.requires.0.number _ _ (item_number c.args.text.now c.args.shapes.now c.args.at (item_within
-          c.args.text.now c.args.shapes.now c.args.at _ c.requires.0) _ c.number_width-width.ensures c.if-width-ne0.true)).aligned,
-    )
+numbers-requires t c = (
+  inside_as c.context_of.ensures c.requires.2,
+  c.requires.3,
+  (c.requires.0.number _ _ (item_number c.args.text.now c.args.shapes.now c.args.at (item_within
+      c.args.text.now c.args.shapes.now c.args.at _ c.requires.0) _ c.number_width-width.ensures c.if-width-ne0.true)).aligned,
+)
 
 pub returns-then-width-ne0 : goal.array::elements-returns-then-width-ne0
 returns-then-width-ne0 t c =
@@ -64,73 +63,73 @@ value-r-requires t c =
 pub behind-requires : goal.array::elements-behind-requires
 behind-requires t c =
     let turned : Between (step_in (context_of c.args.ride) c.args.text.now (item_of c.args.text.now c.args.shapes.now c.args.at) c.args.place c.args.part.now (length c.args.part.now) (c.args.lead + c.loop-u.u) (length c.args.part.now))
-        c.args.part.now (c.args.lead + c.loop-u.u) (length c.args.part.now) c.loop-u.m c.loop-u.out c.if-is_entry.out c.if-is_entry.r =
-      elim c.if-is_entry.branch [
-        array::elements-then-is_entry w ↦ arrived w.out-is w.r-is (step_entry (context_of c.args.ride) c.args.text.now c.args.shapes.now c.args.at _ c.args.place
+    c.args.part.now (c.args.lead + c.loop-u.u) (length c.args.part.now) c.loop-u.m c.loop-u.out c.if-is_entry.out c.if-is_entry.r =
+    elim c.if-is_entry.branch [
+      | array::elements-then-is_entry w ↦ arrived w.out-is w.r-is (step_entry (context_of c.args.ride) c.args.text.now c.args.shapes.now c.args.at _ c.args.place
           c.args.part.now (length c.args.part.now) (c.args.lead + c.loop-u.u) (length c.args.part.now) _ _ _ _ w.if-is_entry.true-raw w.entry-r.ensures)
       | array::elements-else-is_entry w ↦ arrived w.out-is w.r-is (step_element (context_of c.args.ride) c.args.text.now c.args.shapes.now c.args.at _ c.args.place
           c.args.part.now (length c.args.part.now) (c.args.lead + c.loop-u.u) (length c.args.part.now) _ _ _ _ w.if-is_entry.false-raw w.value-r.ensures)
-      ] in
+    ] in
     omega (arith, turned.fits, c.loop-u.invariant.bound, c.requires.2.in_frame)
 
 pub shape_of-out-then-refusal-ne0 : goal.array::elements-shape_of-out-then-refusal-ne0
 shape_of-out-then-refusal-ne0 t c =
     let turned : Between (step_in (context_of c.args.ride) c.args.text.now (item_of c.args.text.now c.args.shapes.now c.args.at) c.args.place c.args.part.now (length c.args.part.now) (c.args.lead + c.loop-u.u) (length c.args.part.now))
-        c.args.part.now (c.args.lead + c.loop-u.u) (length c.args.part.now) c.loop-u.m c.loop-u.out c.if-is_entry.out c.if-is_entry.r =
-      elim c.if-is_entry.branch [
-        array::elements-then-is_entry w ↦ arrived w.out-is w.r-is (step_entry (context_of c.args.ride) c.args.text.now c.args.shapes.now c.args.at _ c.args.place
+    c.args.part.now (c.args.lead + c.loop-u.u) (length c.args.part.now) c.loop-u.m c.loop-u.out c.if-is_entry.out c.if-is_entry.r =
+    elim c.if-is_entry.branch [
+      | array::elements-then-is_entry w ↦ arrived w.out-is w.r-is (step_entry (context_of c.args.ride) c.args.text.now c.args.shapes.now c.args.at _ c.args.place
           c.args.part.now (length c.args.part.now) (c.args.lead + c.loop-u.u) (length c.args.part.now) _ _ _ _ w.if-is_entry.true-raw w.entry-r.ensures)
       | array::elements-else-is_entry w ↦ arrived w.out-is w.r-is (step_element (context_of c.args.ride) c.args.text.now c.args.shapes.now c.args.at _ c.args.place
           c.args.part.now (length c.args.part.now) (c.args.lead + c.loop-u.u) (length c.args.part.now) _ _ _ _ w.if-is_entry.false-raw w.value-r.ensures)
-      ] in
+    ] in
     kept turned ∙ c.loop-u.invariant.same
 
 pub returns-then-refusal-ne0 : goal.array::elements-returns-then-refusal-ne0
 returns-then-refusal-ne0 t c =
     let turned : Between (step_in (context_of c.args.ride) c.args.text.now (item_of c.args.text.now c.args.shapes.now c.args.at) c.args.place c.args.part.now (length c.args.part.now) (c.args.lead + c.loop-u.u) (length c.args.part.now))
-        c.args.part.now (c.args.lead + c.loop-u.u) (length c.args.part.now) c.loop-u.m c.loop-u.out c.if-is_entry.out c.if-is_entry.r =
-      elim c.if-is_entry.branch [
-        array::elements-then-is_entry w ↦ arrived w.out-is w.r-is (step_entry (context_of c.args.ride) c.args.text.now c.args.shapes.now c.args.at _ c.args.place
+    c.args.part.now (c.args.lead + c.loop-u.u) (length c.args.part.now) c.loop-u.m c.loop-u.out c.if-is_entry.out c.if-is_entry.r =
+    elim c.if-is_entry.branch [
+      | array::elements-then-is_entry w ↦ arrived w.out-is w.r-is (step_entry (context_of c.args.ride) c.args.text.now c.args.shapes.now c.args.at _ c.args.place
           c.args.part.now (length c.args.part.now) (c.args.lead + c.loop-u.u) (length c.args.part.now) _ _ _ _ w.if-is_entry.true-raw w.entry-r.ensures)
       | array::elements-else-is_entry w ↦ arrived w.out-is w.r-is (step_element (context_of c.args.ride) c.args.text.now c.args.shapes.now c.args.at _ c.args.place
           c.args.part.now (length c.args.part.now) (c.args.lead + c.loop-u.u) (length c.args.part.now) _ _ _ _ w.if-is_entry.false-raw w.value-r.ensures)
-      ] in
+    ] in
     told c.behind.ensures (elements_stop _ _ _ _ _ _ _ _ c.loop-u.invariant c.loop-u-test.true _ _ turned c.if-refusal-ne0.true)
 
 pub overflow_add-u : goal.array::elements-overflow_add-u
 overflow_add-u t c =
     let turned : Between (step_in (context_of c.args.ride) c.args.text.now (item_of c.args.text.now c.args.shapes.now c.args.at) c.args.place c.args.part.now (length c.args.part.now) (c.args.lead + c.loop-u.u) (length c.args.part.now))
-        c.args.part.now (c.args.lead + c.loop-u.u) (length c.args.part.now) c.loop-u.m c.loop-u.out c.if-is_entry.out c.if-is_entry.r =
-      elim c.if-is_entry.branch [
-        array::elements-then-is_entry w ↦ arrived w.out-is w.r-is (step_entry (context_of c.args.ride) c.args.text.now c.args.shapes.now c.args.at _ c.args.place
+    c.args.part.now (c.args.lead + c.loop-u.u) (length c.args.part.now) c.loop-u.m c.loop-u.out c.if-is_entry.out c.if-is_entry.r =
+    elim c.if-is_entry.branch [
+      | array::elements-then-is_entry w ↦ arrived w.out-is w.r-is (step_entry (context_of c.args.ride) c.args.text.now c.args.shapes.now c.args.at _ c.args.place
           c.args.part.now (length c.args.part.now) (c.args.lead + c.loop-u.u) (length c.args.part.now) _ _ _ _ w.if-is_entry.true-raw w.entry-r.ensures)
       | array::elements-else-is_entry w ↦ arrived w.out-is w.r-is (step_element (context_of c.args.ride) c.args.text.now c.args.shapes.now c.args.at _ c.args.place
           c.args.part.now (length c.args.part.now) (c.args.lead + c.loop-u.u) (length c.args.part.now) _ _ _ _ w.if-is_entry.false-raw w.value-r.ensures)
-      ] in
+    ] in
     omega (arith, turned.fits, c.loop-u.invariant.bound, c.requires.2.in_frame)
 
 pub loop-u-smaller : goal.array::elements-loop-u-smaller
 loop-u-smaller t c =
     let turned : Between (step_in (context_of c.args.ride) c.args.text.now (item_of c.args.text.now c.args.shapes.now c.args.at) c.args.place c.args.part.now (length c.args.part.now) (c.args.lead + c.loop-u.u) (length c.args.part.now))
-        c.args.part.now (c.args.lead + c.loop-u.u) (length c.args.part.now) c.loop-u.m c.loop-u.out c.if-is_entry.out c.if-is_entry.r =
-      elim c.if-is_entry.branch [
-        array::elements-then-is_entry w ↦ arrived w.out-is w.r-is (step_entry (context_of c.args.ride) c.args.text.now c.args.shapes.now c.args.at _ c.args.place
+    c.args.part.now (c.args.lead + c.loop-u.u) (length c.args.part.now) c.loop-u.m c.loop-u.out c.if-is_entry.out c.if-is_entry.r =
+    elim c.if-is_entry.branch [
+      | array::elements-then-is_entry w ↦ arrived w.out-is w.r-is (step_entry (context_of c.args.ride) c.args.text.now c.args.shapes.now c.args.at _ c.args.place
           c.args.part.now (length c.args.part.now) (c.args.lead + c.loop-u.u) (length c.args.part.now) _ _ _ _ w.if-is_entry.true-raw w.entry-r.ensures)
       | array::elements-else-is_entry w ↦ arrived w.out-is w.r-is (step_element (context_of c.args.ride) c.args.text.now c.args.shapes.now c.args.at _ c.args.place
           c.args.part.now (length c.args.part.now) (c.args.lead + c.loop-u.u) (length c.args.part.now) _ _ _ _ w.if-is_entry.false-raw w.value-r.ensures)
-      ] in
+    ] in
     omega (arith, (item_least _ _ _ c.requires.0 c.requires.1 _ _ _ _ _ _ _ _ _ _ _ _ _ _ c.loop-u.invariant.bound turned c.if-refusal-ne0.false), turned.fits, c.loop-u-test.true)
 
 pub loop-u-preserved : goal.array::elements-loop-u-preserved
 loop-u-preserved t c =
     let turned : Between (step_in (context_of c.args.ride) c.args.text.now (item_of c.args.text.now c.args.shapes.now c.args.at) c.args.place c.args.part.now (length c.args.part.now) (c.args.lead + c.loop-u.u) (length c.args.part.now))
-        c.args.part.now (c.args.lead + c.loop-u.u) (length c.args.part.now) c.loop-u.m c.loop-u.out c.if-is_entry.out c.if-is_entry.r =
-      elim c.if-is_entry.branch [
-        array::elements-then-is_entry w ↦ arrived w.out-is w.r-is (step_entry (context_of c.args.ride) c.args.text.now c.args.shapes.now c.args.at _ c.args.place
+    c.args.part.now (c.args.lead + c.loop-u.u) (length c.args.part.now) c.loop-u.m c.loop-u.out c.if-is_entry.out c.if-is_entry.r =
+    elim c.if-is_entry.branch [
+      | array::elements-then-is_entry w ↦ arrived w.out-is w.r-is (step_entry (context_of c.args.ride) c.args.text.now c.args.shapes.now c.args.at _ c.args.place
           c.args.part.now (length c.args.part.now) (c.args.lead + c.loop-u.u) (length c.args.part.now) _ _ _ _ w.if-is_entry.true-raw w.entry-r.ensures)
       | array::elements-else-is_entry w ↦ arrived w.out-is w.r-is (step_element (context_of c.args.ride) c.args.text.now c.args.shapes.now c.args.at _ c.args.place
           c.args.part.now (length c.args.part.now) (c.args.lead + c.loop-u.u) (length c.args.part.now) _ _ _ _ w.if-is_entry.false-raw w.value-r.ensures)
-      ] in
+    ] in
     elements_next _ _ _ _ _ _ _ _ c.loop-u.invariant c.loop-u-test.true _ _ turned c.if-refusal-ne0.false
     (item_least _ _ _ c.requires.0 c.requires.1 _ _ _ _ _ _ _ _ _ _ _ _ _ _ c.loop-u.invariant.bound turned
     c.if-refusal-ne0.false)

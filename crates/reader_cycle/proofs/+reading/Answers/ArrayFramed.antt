@@ -35,13 +35,12 @@ bounds-text-at t c =
     omega (arith, (c.held_width-width.ensures c.if-width-ne0.true).within)
 
 pub readings-requires : goal.array::framed-readings-requires
-readings-requires t c =
-    (
-      inside_as c.context_of-context.ensures c.requires.2,
-      record { begins = c.requires.3; stands = c.requires.4 },
-      (c.requires.0.number _ _ (item_held c.args.text.now
-          c.args.shapes.now c.args.at (item_within c.args.text.now c.args.shapes.now c.args.at _ c.requires.0) _ (c.held_width-width.ensures c.if-width-ne0.true))).aligned,
-    )
+readings-requires t c = (
+  inside_as c.context_of-context.ensures c.requires.2,
+  record { begins = c.requires.3; stands = c.requires.4 },
+  (c.requires.0.number _ _ (item_held c.args.text.now
+      c.args.shapes.now c.args.at (item_within c.args.text.now c.args.shapes.now c.args.at _ c.requires.0) _ (c.held_width-width.ensures c.if-width-ne0.true))).aligned,
+)
 
 pub returns-then-width-ne0 : goal.array::framed-returns-then-width-ne0
 returns-then-width-ne0 t c =
@@ -101,73 +100,71 @@ overflow_add-e t c =
     )
 
 pub entry-r-requires : goal.array::framed-entry-r-requires
-entry-r-requires t c =
-    (
-      omega (arith, c.decreases),
-      (
-        repeated_as c.args.text.now c.args.shapes.now c.args.at c.if-is_entry.true-raw c.requires.0,
-        c.requires.2,
-        omega
-            (arith, c.loop-i.invariant.bound, c.requires.4.start, length-drop c.args.lead c.args.part.now, c.requires.3),
-        omega (
-          arith,
-          (next_end c.requires.4 c.loop-i.i c.next_in-offset.result c.loop-i-test.true
-              (offset_told c.args.offsets c.loop-i.i c.args.lead c.args.part.now c.loop-i-test.true c.next_in-offset.ensures)),
-          ends_below c.requires.4 c.loop-i.i,
-        ),
-        omega
-            (arith, c.requires.4.start, length-drop c.args.lead c.args.part.now, c.requires.3),
-        λ z. absurd
-            (false≢true (sym (fixed_as c.args.text.now c.args.shapes.now c.args.at c.if-is_entry.true-raw c.requires.1) ∙ z)),
-      ),
-    )
+entry-r-requires t c = (
+  omega (arith, c.decreases),
+  (
+    repeated_as c.args.text.now c.args.shapes.now c.args.at c.if-is_entry.true-raw c.requires.0,
+    c.requires.2,
+    omega
+        (arith, c.loop-i.invariant.bound, c.requires.4.start, length-drop c.args.lead c.args.part.now, c.requires.3),
+    omega (
+      arith,
+      (next_end c.requires.4 c.loop-i.i c.next_in-offset.result c.loop-i-test.true
+          (offset_told c.args.offsets c.loop-i.i c.args.lead c.args.part.now c.loop-i-test.true c.next_in-offset.ensures)),
+      ends_below c.requires.4 c.loop-i.i,
+    ),
+    omega
+        (arith, c.requires.4.start, length-drop c.args.lead c.args.part.now, c.requires.3),
+    λ z. absurd
+        (false≢true (sym (fixed_as c.args.text.now c.args.shapes.now c.args.at c.if-is_entry.true-raw c.requires.1) ∙ z)),
+  ),
+)
 
 pub value-r-requires : goal.array::framed-value-r-requires
-value-r-requires t c =
-    (
-      omega (arith, c.decreases),
-      (
-        (repeated_as c.args.text.now c.args.shapes.now c.args.at c.if-is_entry.false-raw c.requires.0).child,
-        c.requires.2,
-        omega
-            (arith, c.loop-i.invariant.bound, c.requires.4.start, length-drop c.args.lead c.args.part.now, c.requires.3),
-      ),
-    )
+value-r-requires t c = (
+  omega (arith, c.decreases),
+  (
+    (repeated_as c.args.text.now c.args.shapes.now c.args.at c.if-is_entry.false-raw c.requires.0).child,
+    c.requires.2,
+    omega
+        (arith, c.loop-i.invariant.bound, c.requires.4.start, length-drop c.args.lead c.args.part.now, c.requires.3),
+  ),
+)
 
 pub behind-requires : goal.array::framed-behind-requires
 behind-requires t c =
     let turned : Between (step_in (context_of c.args.ride) c.args.text.now (item_of c.args.text.now c.args.shapes.now c.args.at) c.args.place c.args.part.now (c.args.lead + c.args.offsets.start) (c.args.lead + c.loop-i.stopped) (c.args.lead + c.next_in-offset.result.value))
-        c.args.part.now (c.args.lead + c.loop-i.stopped) (c.args.lead + c.next_in-offset.result.value) c.loop-i.m c.loop-i.out c.if-is_entry.out c.if-is_entry.r =
-      elim c.if-is_entry.branch [
-        array::framed-then-is_entry w ↦ arrived w.out-is w.r-is (step_entry (context_of c.args.ride) c.args.text.now c.args.shapes.now c.args.at _ c.args.place
+    c.args.part.now (c.args.lead + c.loop-i.stopped) (c.args.lead + c.next_in-offset.result.value) c.loop-i.m c.loop-i.out c.if-is_entry.out c.if-is_entry.r =
+    elim c.if-is_entry.branch [
+      | array::framed-then-is_entry w ↦ arrived w.out-is w.r-is (step_entry (context_of c.args.ride) c.args.text.now c.args.shapes.now c.args.at _ c.args.place
           c.args.part.now (c.args.lead + c.args.offsets.start) (c.args.lead + c.loop-i.stopped) (c.args.lead + c.next_in-offset.result.value) _ _ _ _ w.if-is_entry.true-raw w.entry-r.ensures)
       | array::framed-else-is_entry w ↦ arrived w.out-is w.r-is (step_element (context_of c.args.ride) c.args.text.now c.args.shapes.now c.args.at _ c.args.place
           c.args.part.now (c.args.lead + c.args.offsets.start) (c.args.lead + c.loop-i.stopped) (c.args.lead + c.next_in-offset.result.value) _ _ _ _ w.if-is_entry.false-raw w.value-r.ensures)
-      ] in
+    ] in
     omega (arith, turned.fits, c.loop-i.invariant.bound, c.requires.4.start, length-drop c.args.lead c.args.part.now, c.requires.2.in_frame, c.requires.3)
 
 pub shape_of-out-then-refusal-ne0 : goal.array::framed-shape_of-out-then-refusal-ne0
 shape_of-out-then-refusal-ne0 t c =
     let turned : Between (step_in (context_of c.args.ride) c.args.text.now (item_of c.args.text.now c.args.shapes.now c.args.at) c.args.place c.args.part.now (c.args.lead + c.args.offsets.start) (c.args.lead + c.loop-i.stopped) (c.args.lead + c.next_in-offset.result.value))
-        c.args.part.now (c.args.lead + c.loop-i.stopped) (c.args.lead + c.next_in-offset.result.value) c.loop-i.m c.loop-i.out c.if-is_entry.out c.if-is_entry.r =
-      elim c.if-is_entry.branch [
-        array::framed-then-is_entry w ↦ arrived w.out-is w.r-is (step_entry (context_of c.args.ride) c.args.text.now c.args.shapes.now c.args.at _ c.args.place
+    c.args.part.now (c.args.lead + c.loop-i.stopped) (c.args.lead + c.next_in-offset.result.value) c.loop-i.m c.loop-i.out c.if-is_entry.out c.if-is_entry.r =
+    elim c.if-is_entry.branch [
+      | array::framed-then-is_entry w ↦ arrived w.out-is w.r-is (step_entry (context_of c.args.ride) c.args.text.now c.args.shapes.now c.args.at _ c.args.place
           c.args.part.now (c.args.lead + c.args.offsets.start) (c.args.lead + c.loop-i.stopped) (c.args.lead + c.next_in-offset.result.value) _ _ _ _ w.if-is_entry.true-raw w.entry-r.ensures)
       | array::framed-else-is_entry w ↦ arrived w.out-is w.r-is (step_element (context_of c.args.ride) c.args.text.now c.args.shapes.now c.args.at _ c.args.place
           c.args.part.now (c.args.lead + c.args.offsets.start) (c.args.lead + c.loop-i.stopped) (c.args.lead + c.next_in-offset.result.value) _ _ _ _ w.if-is_entry.false-raw w.value-r.ensures)
-      ] in
+    ] in
     kept turned ∙ c.loop-i.invariant.same
 
 pub returns-then-refusal-ne0 : goal.array::framed-returns-then-refusal-ne0
 returns-then-refusal-ne0 t c =
     let turned : Between (step_in (context_of c.args.ride) c.args.text.now (item_of c.args.text.now c.args.shapes.now c.args.at) c.args.place c.args.part.now (c.args.lead + c.args.offsets.start) (c.args.lead + c.loop-i.stopped) (c.args.lead + c.next_in-offset.result.value))
-        c.args.part.now (c.args.lead + c.loop-i.stopped) (c.args.lead + c.next_in-offset.result.value) c.loop-i.m c.loop-i.out c.if-is_entry.out c.if-is_entry.r =
-      elim c.if-is_entry.branch [
-        array::framed-then-is_entry w ↦ arrived w.out-is w.r-is (step_entry (context_of c.args.ride) c.args.text.now c.args.shapes.now c.args.at _ c.args.place
+    c.args.part.now (c.args.lead + c.loop-i.stopped) (c.args.lead + c.next_in-offset.result.value) c.loop-i.m c.loop-i.out c.if-is_entry.out c.if-is_entry.r =
+    elim c.if-is_entry.branch [
+      | array::framed-then-is_entry w ↦ arrived w.out-is w.r-is (step_entry (context_of c.args.ride) c.args.text.now c.args.shapes.now c.args.at _ c.args.place
           c.args.part.now (c.args.lead + c.args.offsets.start) (c.args.lead + c.loop-i.stopped) (c.args.lead + c.next_in-offset.result.value) _ _ _ _ w.if-is_entry.true-raw w.entry-r.ensures)
       | array::framed-else-is_entry w ↦ arrived w.out-is w.r-is (step_element (context_of c.args.ride) c.args.text.now c.args.shapes.now c.args.at _ c.args.place
           c.args.part.now (c.args.lead + c.args.offsets.start) (c.args.lead + c.loop-i.stopped) (c.args.lead + c.next_in-offset.result.value) _ _ _ _ w.if-is_entry.false-raw w.value-r.ensures)
-      ] in
+    ] in
     told c.behind.ensures (framed_stop _ _ _ _ _ _ _ _ _ _ _ c.loop-i.invariant
     (omega (arith, c.requires.4.start, length-drop c.args.lead c.args.part.now, c.requires.3))
     (omega (arith, length_ends (table_in c.args.offsets) (drop c.args.lead c.args.part.now), c.loop-i-test.true)) _ _
@@ -178,13 +175,13 @@ returns-then-refusal-ne0 t c =
 pub overflow_add-stopped : goal.array::framed-overflow_add-stopped
 overflow_add-stopped t c =
     let turned : Between (step_in (context_of c.args.ride) c.args.text.now (item_of c.args.text.now c.args.shapes.now c.args.at) c.args.place c.args.part.now (c.args.lead + c.args.offsets.start) (c.args.lead + c.loop-i.stopped) (c.args.lead + c.next_in-offset.result.value))
-        c.args.part.now (c.args.lead + c.loop-i.stopped) (c.args.lead + c.next_in-offset.result.value) c.loop-i.m c.loop-i.out c.if-is_entry.out c.if-is_entry.r =
-      elim c.if-is_entry.branch [
-        array::framed-then-is_entry w ↦ arrived w.out-is w.r-is (step_entry (context_of c.args.ride) c.args.text.now c.args.shapes.now c.args.at _ c.args.place
+    c.args.part.now (c.args.lead + c.loop-i.stopped) (c.args.lead + c.next_in-offset.result.value) c.loop-i.m c.loop-i.out c.if-is_entry.out c.if-is_entry.r =
+    elim c.if-is_entry.branch [
+      | array::framed-then-is_entry w ↦ arrived w.out-is w.r-is (step_entry (context_of c.args.ride) c.args.text.now c.args.shapes.now c.args.at _ c.args.place
           c.args.part.now (c.args.lead + c.args.offsets.start) (c.args.lead + c.loop-i.stopped) (c.args.lead + c.next_in-offset.result.value) _ _ _ _ w.if-is_entry.true-raw w.entry-r.ensures)
       | array::framed-else-is_entry w ↦ arrived w.out-is w.r-is (step_element (context_of c.args.ride) c.args.text.now c.args.shapes.now c.args.at _ c.args.place
           c.args.part.now (c.args.lead + c.args.offsets.start) (c.args.lead + c.loop-i.stopped) (c.args.lead + c.next_in-offset.result.value) _ _ _ _ w.if-is_entry.false-raw w.value-r.ensures)
-      ] in
+    ] in
     omega (arith, turned.fits, c.loop-i.invariant.bound, c.requires.4.start, length-drop c.args.lead c.args.part.now, c.requires.2.in_frame, c.requires.3)
 
 pub overflow_add-i : goal.array::framed-overflow_add-i
@@ -197,13 +194,13 @@ loop-i-smaller t c =
 pub loop-i-preserved : goal.array::framed-loop-i-preserved
 loop-i-preserved t c =
     let turned : Between (step_in (context_of c.args.ride) c.args.text.now (item_of c.args.text.now c.args.shapes.now c.args.at) c.args.place c.args.part.now (c.args.lead + c.args.offsets.start) (c.args.lead + c.loop-i.stopped) (c.args.lead + c.next_in-offset.result.value))
-        c.args.part.now (c.args.lead + c.loop-i.stopped) (c.args.lead + c.next_in-offset.result.value) c.loop-i.m c.loop-i.out c.if-is_entry.out c.if-is_entry.r =
-      elim c.if-is_entry.branch [
-        array::framed-then-is_entry w ↦ arrived w.out-is w.r-is (step_entry (context_of c.args.ride) c.args.text.now c.args.shapes.now c.args.at _ c.args.place
+    c.args.part.now (c.args.lead + c.loop-i.stopped) (c.args.lead + c.next_in-offset.result.value) c.loop-i.m c.loop-i.out c.if-is_entry.out c.if-is_entry.r =
+    elim c.if-is_entry.branch [
+      | array::framed-then-is_entry w ↦ arrived w.out-is w.r-is (step_entry (context_of c.args.ride) c.args.text.now c.args.shapes.now c.args.at _ c.args.place
           c.args.part.now (c.args.lead + c.args.offsets.start) (c.args.lead + c.loop-i.stopped) (c.args.lead + c.next_in-offset.result.value) _ _ _ _ w.if-is_entry.true-raw w.entry-r.ensures)
       | array::framed-else-is_entry w ↦ arrived w.out-is w.r-is (step_element (context_of c.args.ride) c.args.text.now c.args.shapes.now c.args.at _ c.args.place
           c.args.part.now (c.args.lead + c.args.offsets.start) (c.args.lead + c.loop-i.stopped) (c.args.lead + c.next_in-offset.result.value) _ _ _ _ w.if-is_entry.false-raw w.value-r.ensures)
-      ] in
+    ] in
     framed_next _ _ _ _ _ _ _ _ _ _ _ c.loop-i.invariant (omega
     (arith, c.requires.4.start, length-drop c.args.lead c.args.part.now, c.requires.3))
     (omega (arith, length_ends (table_in c.args.offsets) (drop c.args.lead c.args.part.now), c.loop-i-test.true)) _ _

@@ -36,18 +36,17 @@ bounds-text-at t c =
     omega (arith, value_within c.args.text.now c.args.shapes.now c.args.at c.requires.0)
 
 pub fixed_key-r-requires : goal.dictionary::entry-fixed_key-r-requires
-fixed_key-r-requires t c =
-    (
-      omega (arith, c.decreases),
-      (
-        c.requires.0,
-        c.requires.1,
-        entry_within (entry_padded (context_of c.args.ride) c.args.part.now _ _ c.requires.0 refl c.requires.1 c.requires.2 c.padded-padding.ensures),
-        omega (arith, c.requires.3, c.requires.4),
-        c.requires.5,
-        sym (keyed_as c.args.text.now c.args.at (omega (arith, value_within c.args.text.now c.args.shapes.now c.args.at c.requires.0)) c.is_fixed.ensures) ∙ c.if-is_fixed.true,
-      ),
-    )
+fixed_key-r-requires t c = (
+  omega (arith, c.decreases),
+  (
+    c.requires.0,
+    c.requires.1,
+    entry_within (entry_padded (context_of c.args.ride) c.args.part.now _ _ c.requires.0 refl c.requires.1 c.requires.2 c.padded-padding.ensures),
+    omega (arith, c.requires.3, c.requires.4),
+    c.requires.5,
+    sym (keyed_as c.args.text.now c.args.at (omega (arith, value_within c.args.text.now c.args.shapes.now c.args.at c.requires.0)) c.is_fixed.ensures) ∙ c.if-is_fixed.true,
+  ),
+)
 
 pub behind-requires : goal.dictionary::entry-behind-requires
 behind-requires t c =
@@ -61,11 +60,10 @@ returns-then-is_fixed t c =
     (c.fixed_key-r.ensures _))
 
 pub text_key-r-requires : goal.dictionary::entry-text_key-r-requires
-text_key-r-requires t c =
-    (
-      omega (arith, c.decreases),
-      (c.requires.0, c.requires.1, entry_within (entry_padded (context_of c.args.ride) c.args.part.now _ _ c.requires.0 refl c.requires.1 c.requires.2 c.padded-padding.ensures), c.requires.3, c.requires.4),
-    )
+text_key-r-requires t c = (
+  omega (arith, c.decreases),
+  (c.requires.0, c.requires.1, entry_within (entry_padded (context_of c.args.ride) c.args.part.now _ _ c.requires.0 refl c.requires.1 c.requires.2 c.padded-padding.ensures), c.requires.3, c.requires.4),
+)
 
 pub behind-requires-2 : goal.dictionary::entry-behind-requires-2
 behind-requires-2 t c =

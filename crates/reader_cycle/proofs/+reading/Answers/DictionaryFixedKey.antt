@@ -78,19 +78,18 @@ bounds-shapes-at-then-fixed_of t c =
     omega (arith, value_within c.args.text.now c.args.shapes.now c.args.at c.requires.0, c.requires.0.child.typed.short)
 
 pub end_padded-r-requires : goal.dictionary::fixed_key-end_padded-r-requires
-end_padded-r-requires t c =
-    (
-      c.requires.1.in_frame,
-      c.requires.1.near,
-      omega (
-        arith,
-        part_fits c.args.part.now c.args.j c.args.e (c.leaf-k.ensures (depths_of (context_of
-            c.args.ride).depths)).fits,
-        c.value-v.ensures.fits,
-        c.requires.2,
-      ),
-      c.requires.0.aligned,
-    )
+end_padded-r-requires t c = (
+  c.requires.1.in_frame,
+  c.requires.1.near,
+  omega (
+    arith,
+    part_fits c.args.part.now c.args.j c.args.e (c.leaf-k.ensures (depths_of (context_of
+        c.args.ride).depths)).fits,
+    c.value-v.ensures.fits,
+    c.requires.2,
+  ),
+  c.requires.0.aligned,
+)
 
 pub behind-requires : goal.dictionary::fixed_key-behind-requires
 behind-requires t c =

@@ -40,15 +40,14 @@ bounds-shapes-held t c =
     omega (arith, typed_within (maybe_described _ _ c.requires.0.typed c.requires.1 _ c.requires.0.table).typed, c.requires.0.typed.short)
 
 pub value-requires : goal.maybe::maybe-value-requires
-value-requires t c =
-    (
-      omega (arith, level_falls (c.in_maybe-inner.ensures.deeper c.if-refusal-ne0.false), c.decreases),
-      (
-        (maybe_described _ _ c.requires.0.typed c.requires.1 _ c.requires.0.table),
-        inside_deeper (c.in_maybe-inner.ensures.deeper c.if-refusal-ne0.false) c.requires.2,
-        c.requires.3,
-      ),
-    )
+value-requires t c = (
+  omega (arith, level_falls (c.in_maybe-inner.ensures.deeper c.if-refusal-ne0.false), c.decreases),
+  (
+    (maybe_described _ _ c.requires.0.typed c.requires.1 _ c.requires.0.table),
+    inside_deeper (c.in_maybe-inner.ensures.deeper c.if-refusal-ne0.false) c.requires.2,
+    c.requires.3,
+  ),
+)
 
 pub returns-then-fixed : goal.maybe::maybe-returns-then-fixed
 returns-then-fixed t c =
@@ -60,15 +59,14 @@ pub overflow_sub-stop : goal.maybe::maybe-overflow_sub-stop
 overflow_sub-stop t c = omega arith
 
 pub value-r-requires : goal.maybe::maybe-value-r-requires
-value-r-requires t c =
-    (
-      omega (arith, level_falls (c.in_maybe-inner.ensures.deeper c.if-refusal-ne0.false), c.decreases),
-      (
-        (maybe_described _ _ c.requires.0.typed c.requires.1 _ c.requires.0.table),
-        inside_deeper (c.in_maybe-inner.ensures.deeper c.if-refusal-ne0.false) c.requires.2,
-        c.requires.3,
-      ),
-    )
+value-r-requires t c = (
+  omega (arith, level_falls (c.in_maybe-inner.ensures.deeper c.if-refusal-ne0.false), c.decreases),
+  (
+    (maybe_described _ _ c.requires.0.typed c.requires.1 _ c.requires.0.table),
+    inside_deeper (c.in_maybe-inner.ensures.deeper c.if-refusal-ne0.false) c.requires.2,
+    c.requires.3,
+  ),
+)
 
 pub end_byte-requires : goal.maybe::maybe-end_byte-requires
 end_byte-requires t c =

@@ -41,20 +41,19 @@ pub slice_bounds-text-end : goal.variant::variant-slice_bounds-text-end
 slice_bounds-text-end t c = omega arith
 
 pub basic_variant-requires : goal.variant::variant-basic_variant-requires
-basic_variant-requires t c =
-    (
-      c.requires.0,
-      holds_basic _ _ _ _ (rw (tail c.args.lead c.args.part.now) at c.separator-s.ensures.0)
-          c.if-s-eq0.false (omega (
-            arith,
-            c.requires.0.in_frame,
-            c.requires.1,
-            c.separator-s.ensures.1,
-            length-take
-                (length c.args.part.now - c.args.lead) (drop c.args.lead c.args.part.now),
-          ))
-          ((c.only_basic-kind.ensures c.if-kind-ne0.true).0 ∙ ap only_letter (tail (c.args.lead + c.separator-s.result) c.args.part.now)) (c.only_basic-kind.ensures c.if-kind-ne0.true).1,
-    )
+basic_variant-requires t c = (
+  c.requires.0,
+  holds_basic _ _ _ _ (rw (tail c.args.lead c.args.part.now) at c.separator-s.ensures.0)
+      c.if-s-eq0.false (omega (
+        arith,
+        c.requires.0.in_frame,
+        c.requires.1,
+        c.separator-s.ensures.1,
+        length-take
+            (length c.args.part.now - c.args.lead) (drop c.args.lead c.args.part.now),
+      ))
+      ((c.only_basic-kind.ensures c.if-kind-ne0.true).0 ∙ ap only_letter (tail (c.args.lead + c.separator-s.result) c.args.part.now)) (c.only_basic-kind.ensures c.if-kind-ne0.true).1,
+)
 
 pub returns-then-kind-ne0 : goal.variant::variant-returns-then-kind-ne0
 returns-then-kind-ne0 t c = c.basic_variant.ensures
@@ -97,18 +96,17 @@ overflow_sub-e t c =
     omega (arith, c.if-s-eq0.false)
 
 pub value-r-requires : goal.variant::variant-value-r-requires
-value-r-requires t c =
-    (
-      omega (arith, level_falls (c.in_variant-inner.ensures.deeper c.if-refusal-ne0.false), c.decreases),
-      (
-        front_described _ _
-            (table_filled _ _ _ _ refl c.shapes_of.ensures c.shapes_of.auto.shapes (not-false _ c.if-not-shapes_of.false-raw))
-            (front _ (table_type _ _ _ _ refl c.shapes_of.ensures (not-false _ c.if-not-shapes_of.false-raw))),
-        inside_deeper
-            (c.in_variant-inner.ensures.deeper c.if-refusal-ne0.false) c.requires.0,
-        c.requires.1,
-      ),
-    )
+value-r-requires t c = (
+  omega (arith, level_falls (c.in_variant-inner.ensures.deeper c.if-refusal-ne0.false), c.decreases),
+  (
+    front_described _ _
+        (table_filled _ _ _ _ refl c.shapes_of.ensures c.shapes_of.auto.shapes (not-false _ c.if-not-shapes_of.false-raw))
+        (front _ (table_type _ _ _ _ refl c.shapes_of.ensures (not-false _ c.if-not-shapes_of.false-raw))),
+    inside_deeper
+        (c.in_variant-inner.ensures.deeper c.if-refusal-ne0.false) c.requires.0,
+    c.requires.1,
+  ),
+)
 
 pub close_variant-requires : goal.variant::variant-close_variant-requires
 close_variant-requires t c =

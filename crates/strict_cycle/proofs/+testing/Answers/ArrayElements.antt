@@ -14,19 +14,18 @@ loop-i-init t c =
     elements_begin _ (item_test c.args.d.variant c.args.text.now c.args.item) _ _ _ _ _ _ c.requires.4
 
 pub element_end-stop-requires : goal.array::elements-element_end-stop-requires
-element_end-stop-requires t c =
-    (
-      omega (arith, c.loop-i.invariant.place, c.requires.3, c.requires.2.in_frame),
-      c.requires.0.known.laid,
-      (λ f. (
-        omega (
-          arith,
-          elements_room _ (item_test c.args.d.variant
-              c.args.text.now c.args.item) _ _ _ _ _ _ c.loop-i.invariant c.loop-i-test.true,
-        ),
-        c.requires.5 f,
-      )),
-    )
+element_end-stop-requires t c = (
+  omega (arith, c.loop-i.invariant.place, c.requires.3, c.requires.2.in_frame),
+  c.requires.0.known.laid,
+  (λ f. (
+    omega (
+      arith,
+      elements_room _ (item_test c.args.d.variant
+          c.args.text.now c.args.item) _ _ _ _ _ _ c.loop-i.invariant c.loop-i-test.true,
+    ),
+    c.requires.5 f,
+  )),
+)
 
 pub start_of-start-requires : goal.array::elements-start_of-start-requires
 start_of-start-requires t c =

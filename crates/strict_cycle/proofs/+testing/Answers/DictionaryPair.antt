@@ -24,16 +24,15 @@ returns-then-not-stands t c =
     c.one_more.ensures _ c.rows_behind-rows.ensures (not-true _ c.if-not-stands.true-raw)
 
 pub field_end-stop-requires : goal.dictionary::pair-field_end-stop-requires
-field_end-stop-requires t c =
-    (
-      omega arith,
-      laid_as c.extent_of-lies.ensures c.requires.0.key,
-      omega arith,
-      c.rows_behind-rows.ensures.wide,
-      entry_room c.args.d.variant
-          c.args.text.now c.args.item c.requires.1 (depths_of c.args.d) c.args.part.now _ c.extent_of-lies.ensures _ c.one_more.ensures _
-          c.rows_behind-rows.ensures (not-false _ c.if-not-stands.false-raw),
-    )
+field_end-stop-requires t c = (
+  omega arith,
+  laid_as c.extent_of-lies.ensures c.requires.0.key,
+  omega arith,
+  c.rows_behind-rows.ensures.wide,
+  entry_room c.args.d.variant
+      c.args.text.now c.args.item c.requires.1 (depths_of c.args.d) c.args.part.now _ c.extent_of-lies.ensures _ c.one_more.ensures _
+      c.rows_behind-rows.ensures (not-false _ c.if-not-stands.false-raw),
+)
 
 pub key_written-good-requires : goal.dictionary::pair-key_written-good-requires
 key_written-good-requires t c =
@@ -49,30 +48,28 @@ extent_in-extent-requires t c =
     (c.requires.0.child.table.room, placed_at c.requires.0.child)
 
 pub last_end-end-requires : goal.dictionary::pair-last_end-end-requires
-last_end-end-requires t c =
-    (
-      omega (
-        arith,
-        entry_within c.args.d.variant c.args.text.now c.args.item c.requires.1 (depths_of c.args.d) c.args.part.now _
-            c.extent_of-lies.ensures _ c.one_more.ensures _ c.rows_behind-rows.ensures (not-false _ c.if-not-stands.false-raw) _ c.field_end-stop.ensures _
-            c.key_written-good.ensures (not-false _ c.if-not-good.false-raw),
-        c.rows_behind-rows.ensures.within,
-        c.requires.2.in_frame,
-      ),
-      laid_as c.extent_in-extent.ensures (placed_known
-          c.requires.0.child).laid,
-    )
+last_end-end-requires t c = (
+  omega (
+    arith,
+    entry_within c.args.d.variant c.args.text.now c.args.item c.requires.1 (depths_of c.args.d) c.args.part.now _
+        c.extent_of-lies.ensures _ c.one_more.ensures _ c.rows_behind-rows.ensures (not-false _ c.if-not-stands.false-raw) _ c.field_end-stop.ensures _
+        c.key_written-good.ensures (not-false _ c.if-not-good.false-raw),
+    c.rows_behind-rows.ensures.within,
+    c.requires.2.in_frame,
+  ),
+  laid_as c.extent_in-extent.ensures (placed_known
+      c.requires.0.child).laid,
+)
 
 pub start_of-start-requires : goal.dictionary::pair-start_of-start-requires
-start_of-start-requires t c =
-    (
-      entry_within c.args.d.variant c.args.text.now c.args.item c.requires.1 (depths_of c.args.d) c.args.part.now _ c.extent_of-lies.ensures _
-          c.one_more.ensures _ c.rows_behind-rows.ensures (not-false _ c.if-not-stands.false-raw) _ c.field_end-stop.ensures _ c.key_written-good.ensures (not-false _
-          c.if-not-good.false-raw),
-      c.rows_behind-rows.ensures.within,
-      c.requires.2.in_frame,
-      (laid_as c.extent_in-extent.ensures (placed_known c.requires.0.child).laid).aligned,
-    )
+start_of-start-requires t c = (
+  entry_within c.args.d.variant c.args.text.now c.args.item c.requires.1 (depths_of c.args.d) c.args.part.now _ c.extent_of-lies.ensures _
+      c.one_more.ensures _ c.rows_behind-rows.ensures (not-false _ c.if-not-stands.false-raw) _ c.field_end-stop.ensures _ c.key_written-good.ensures (not-false _
+      c.if-not-good.false-raw),
+  c.rows_behind-rows.ensures.within,
+  c.requires.2.in_frame,
+  (laid_as c.extent_in-extent.ensures (placed_known c.requires.0.child).laid).aligned,
+)
 
 pub returns-then-not-there : goal.dictionary::pair-returns-then-not-there
 returns-then-not-there t c =
@@ -111,18 +108,17 @@ returns-then-not-held t c =
     c.start_of-start.ensures _ (not-false _ c.if-not-there.false-raw) c.child-held.ensures) (not-true _ c.if-not-held.true-raw))
 
 pub finished-requires : goal.dictionary::pair-finished-requires
-finished-requires t c =
-    (
-      omega (
-        arith,
-        c.start_of-start.ensures.within (not-false _
-            c.if-not-there.false-raw),
-        c.rows_behind-rows.ensures.within,
-        c.requires.2.in_frame,
-      ),
-      c.rows_behind-rows.ensures.within,
-      c.requires.0.known.laid.aligned,
-    )
+finished-requires t c = (
+  omega (
+    arith,
+    c.start_of-start.ensures.within (not-false _
+        c.if-not-there.false-raw),
+    c.rows_behind-rows.ensures.within,
+    c.requires.2.in_frame,
+  ),
+  c.rows_behind-rows.ensures.within,
+  c.requires.0.known.laid.aligned,
+)
 
 pub returns : goal.dictionary::pair-returns
 returns t c =

@@ -32,15 +32,14 @@ returns-then-is_basic t c =
     c.is_basic.ensures ∙ c.if-is_basic.true) c.letter_written.ensures)
 
 pub value-requires : goal.maybe::maybe-value-requires
-value-requires t c =
-    (
-      omega (arith, level_falls Depth.maybe c.args.d c.inc_maybe-raised.result c.inc_maybe-raised.ensures c.if-refusal-ne0.false, c.decreases),
-      (
-        held_placed c.requires.0 c.requires.1 _ c.shape_in-held.ensures,
-        inside_deeper Depth.maybe c.args.d c.inc_maybe-raised.result c.requires.2
-            c.inc_maybe-raised.ensures c.if-refusal-ne0.false,
-      ),
-    )
+value-requires t c = (
+  omega (arith, level_falls Depth.maybe c.args.d c.inc_maybe-raised.result c.inc_maybe-raised.ensures c.if-refusal-ne0.false, c.decreases),
+  (
+    held_placed c.requires.0 c.requires.1 _ c.shape_in-held.ensures,
+    inside_deeper Depth.maybe c.args.d c.inc_maybe-raised.result c.requires.2
+        c.inc_maybe-raised.ensures c.if-refusal-ne0.false,
+  ),
+)
 
 pub returns-then-fixed : goal.maybe::maybe-returns-then-fixed
 returns-then-fixed t c =
@@ -62,15 +61,14 @@ pub slice_bounds-value-end : goal.maybe::maybe-slice_bounds-value-end
 slice_bounds-value-end t c = simp length-take (omega arith)
 
 pub value-requires-2 : goal.maybe::maybe-value-requires-2
-value-requires-2 t c =
-    (
-      omega (arith, level_falls Depth.maybe c.args.d c.inc_maybe-raised.result c.inc_maybe-raised.ensures c.if-refusal-ne0.false, c.decreases),
-      (
-        held_placed c.requires.0 c.requires.1 _ c.shape_in-held.ensures,
-        inside_take (length c.args.part.now - 1) c.args.part.now
-            (inside_deeper Depth.maybe c.args.d c.inc_maybe-raised.result c.requires.2 c.inc_maybe-raised.ensures c.if-refusal-ne0.false),
-      ),
-    )
+value-requires-2 t c = (
+  omega (arith, level_falls Depth.maybe c.args.d c.inc_maybe-raised.result c.inc_maybe-raised.ensures c.if-refusal-ne0.false, c.decreases),
+  (
+    held_placed c.requires.0 c.requires.1 _ c.shape_in-held.ensures,
+    inside_take (length c.args.part.now - 1) c.args.part.now
+        (inside_deeper Depth.maybe c.args.d c.inc_maybe-raised.result c.requires.2 c.inc_maybe-raised.ensures c.if-refusal-ne0.false),
+  ),
+)
 
 pub returns : goal.maybe::maybe-returns
 returns t c =

@@ -17,18 +17,17 @@ loop-whole-init t c =
     c.requires.0 c.requires.6
 
 pub last_field-requires : goal.structure::fields-last_field-requires
-last_field-requires t c =
-    (
-      omega (arith, c.decreases),
-      (
-        last_placed c.requires.1 (last_field_of _ _ _ c.loop-whole.invariant.rowed c.requires.1.shapes _ c.shape_in-field.ensures _ refl
-            (c.closes_at.ensures.there c.if-closes_at.true)),
-        c.requires.2,
-        c.loop-whole.invariant.place,
-        c.requires.3,
-        c.requires.4,
-      ),
-    )
+last_field-requires t c = (
+  omega (arith, c.decreases),
+  (
+    last_placed c.requires.1 (last_field_of _ _ _ c.loop-whole.invariant.rowed c.requires.1.shapes _ c.shape_in-field.ensures _ refl
+        (c.closes_at.ensures.there c.if-closes_at.true)),
+    c.requires.2,
+    c.loop-whole.invariant.place,
+    c.requires.3,
+    c.requires.4,
+  ),
+)
 
 pub returns-then-closes_at : goal.structure::fields-returns-then-closes_at
 returns-then-closes_at t c =
@@ -36,35 +35,32 @@ returns-then-closes_at t c =
     (c.closes_at.ensures.there c.if-closes_at.true)) _ c.last_field.ensures
 
 pub extent_in-extent-requires : goal.structure::fields-extent_in-extent-requires
-extent_in-extent-requires t c =
-    (
-      c.requires.1.room,
-      placed_at (next_placed c.requires.1 (next_field_of _ _ _ c.loop-whole.invariant.rowed c.requires.1.shapes _ c.shape_in-field.ensures _ refl
-          (c.closes_at.ensures.missing c.if-closes_at.false))),
-    )
+extent_in-extent-requires t c = (
+  c.requires.1.room,
+  placed_at (next_placed c.requires.1 (next_field_of _ _ _ c.loop-whole.invariant.rowed c.requires.1.shapes _ c.shape_in-field.ensures _ refl
+      (c.closes_at.ensures.missing c.if-closes_at.false))),
+)
 
 pub field_end-stop-requires : goal.structure::fields-field_end-stop-requires
-field_end-stop-requires t c =
-    (
-      omega (arith, c.loop-whole.invariant.place, c.requires.3, c.requires.2.in_frame),
-      laid_as c.extent_in-extent.ensures (placed_known (next_placed c.requires.1 (next_field_of _ _ _
-          c.loop-whole.invariant.rowed c.requires.1.shapes _ c.shape_in-field.ensures _ refl (c.closes_at.ensures.missing
-          c.if-closes_at.false)))).laid,
-      c.loop-whole.invariant.inside,
-      c.requires.5,
-      fields_room c.requires.1 c.loop-whole.invariant _ (next_field_of _ _ _ c.loop-whole.invariant.rowed
-          c.requires.1.shapes _ c.shape_in-field.ensures _ refl (c.closes_at.ensures.missing c.if-closes_at.false)) _ c.extent_in-extent.ensures,
-    )
+field_end-stop-requires t c = (
+  omega (arith, c.loop-whole.invariant.place, c.requires.3, c.requires.2.in_frame),
+  laid_as c.extent_in-extent.ensures (placed_known (next_placed c.requires.1 (next_field_of _ _ _
+      c.loop-whole.invariant.rowed c.requires.1.shapes _ c.shape_in-field.ensures _ refl (c.closes_at.ensures.missing
+      c.if-closes_at.false)))).laid,
+  c.loop-whole.invariant.inside,
+  c.requires.5,
+  fields_room c.requires.1 c.loop-whole.invariant _ (next_field_of _ _ _ c.loop-whole.invariant.rowed
+      c.requires.1.shapes _ c.shape_in-field.ensures _ refl (c.closes_at.ensures.missing c.if-closes_at.false)) _ c.extent_in-extent.ensures,
+)
 
 pub start_of-start-requires : goal.structure::fields-start_of-start-requires
-start_of-start-requires t c =
-    (
-      c.loop-whole.invariant.place,
-      c.requires.3,
-      c.requires.2.in_frame,
-      (laid_as c.extent_in-extent.ensures (placed_known (next_placed c.requires.1 (next_field_of _ _ _
-          c.loop-whole.invariant.rowed c.requires.1.shapes _ c.shape_in-field.ensures _ refl (c.closes_at.ensures.missing c.if-closes_at.false)))).laid).aligned,
-    )
+start_of-start-requires t c = (
+  c.loop-whole.invariant.place,
+  c.requires.3,
+  c.requires.2.in_frame,
+  (laid_as c.extent_in-extent.ensures (placed_known (next_placed c.requires.1 (next_field_of _ _ _
+      c.loop-whole.invariant.rowed c.requires.1.shapes _ c.shape_in-field.ensures _ refl (c.closes_at.ensures.missing c.if-closes_at.false)))).laid).aligned,
+)
 
 pub returns-then-not-there : goal.structure::fields-returns-then-not-there
 returns-then-not-there t c =
@@ -87,15 +83,14 @@ slice_bounds-child-end t c =
     omega (arith, c.start_of-start.ensures.before (not-false _ c.if-not-there.false-raw), c.start_of-start.ensures.within (not-false _ c.if-not-there.false-raw), c.requires.3)
 
 pub child-good-requires : goal.structure::fields-child-good-requires
-child-good-requires t c =
-    (
-      omega (arith, c.decreases),
-      (
-        next_placed c.requires.1 (next_field_of _ _ _ c.loop-whole.invariant.rowed c.requires.1.shapes _ c.shape_in-field.ensures _ refl
-            (c.closes_at.ensures.missing c.if-closes_at.false)),
-        inside_cut c.start_of-start.result.at c.field_end-stop.result c.args.part.now c.requires.2,
-      ),
-    )
+child-good-requires t c = (
+  omega (arith, c.decreases),
+  (
+    next_placed c.requires.1 (next_field_of _ _ _ c.loop-whole.invariant.rowed c.requires.1.shapes _ c.shape_in-field.ensures _ refl
+        (c.closes_at.ensures.missing c.if-closes_at.false)),
+    inside_cut c.start_of-start.result.at c.field_end-stop.result c.args.part.now c.requires.2,
+  ),
+)
 
 pub returns-then-not-good : goal.structure::fields-returns-then-not-good
 returns-then-not-good t c =

@@ -36,27 +36,26 @@ overflow_add-shape t c =
     omega (arith, placed_at c.requires.0)
 
 pub fields-requires : goal.structure::structure-fields-requires
-fields-requires t c =
-    (
-      omega (
-        arith,
-        level_falls Depth.structure c.args.d c.inc_structure-raised.result c.inc_structure-raised.ensures c.if-refusal-ne0.false,
-        c.decreases,
-      ),
-      (
-        structure_rowed c.requires.0.shape c.requires.1,
-        c.requires.0.table,
-        inside_deeper Depth.structure c.args.d c.inc_structure-raised.result
-            c.requires.2 c.inc_structure-raised.ensures c.if-refusal-ne0.false,
-        c.rows_behind-rows.ensures.within,
-        (laid_as c.extent_in-whole.ensures
-            (placed_known c.requires.0).laid).aligned,
-        c.rows_behind-rows.ensures.wide,
-        structure_room c.requires.0 c.requires.1 c.args.d c.args.part.now
-            c.inc_structure-raised.result c.inc_structure-raised.ensures c.if-refusal-ne0.false _ c.extent_in-whole.ensures _ c.offsets_in.ensures _
-            c.rows_behind-rows.ensures (not-false _ c.if-not-stands.false-raw) _,
-      ),
-    )
+fields-requires t c = (
+  omega (
+    arith,
+    level_falls Depth.structure c.args.d c.inc_structure-raised.result c.inc_structure-raised.ensures c.if-refusal-ne0.false,
+    c.decreases,
+  ),
+  (
+    structure_rowed c.requires.0.shape c.requires.1,
+    c.requires.0.table,
+    inside_deeper Depth.structure c.args.d c.inc_structure-raised.result
+        c.requires.2 c.inc_structure-raised.ensures c.if-refusal-ne0.false,
+    c.rows_behind-rows.ensures.within,
+    (laid_as c.extent_in-whole.ensures
+        (placed_known c.requires.0).laid).aligned,
+    c.rows_behind-rows.ensures.wide,
+    structure_room c.requires.0 c.requires.1 c.args.d c.args.part.now
+        c.inc_structure-raised.result c.inc_structure-raised.ensures c.if-refusal-ne0.false _ c.extent_in-whole.ensures _ c.offsets_in.ensures _
+        c.rows_behind-rows.ensures (not-false _ c.if-not-stands.false-raw) _,
+  ),
+)
 
 pub returns : goal.structure::structure-returns
 returns t c =

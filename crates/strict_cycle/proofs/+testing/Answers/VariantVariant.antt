@@ -54,13 +54,12 @@ slice_bounds-variant-end t c =
     simp length-take (omega (arith, c.separator-s.ensures.1))
 
 pub variant-requires : goal.variant::variant-variant-requires
-variant-requires t c =
-    (
-      omega (arith, level_falls Depth.variant c.args.d c.inc_variant-raised.result c.inc_variant-raised.ensures c.if-refusal-ne0.false, c.decreases),
-      inside_take
-          (c.separator-s.result - 1) c.args.part.now (inside_deeper Depth.variant c.args.d c.inc_variant-raised.result c.requires
-          c.inc_variant-raised.ensures c.if-refusal-ne0.false),
-    )
+variant-requires t c = (
+  omega (arith, level_falls Depth.variant c.args.d c.inc_variant-raised.result c.inc_variant-raised.ensures c.if-refusal-ne0.false, c.decreases),
+  inside_take
+      (c.separator-s.result - 1) c.args.part.now (inside_deeper Depth.variant c.args.d c.inc_variant-raised.result c.requires
+      c.inc_variant-raised.ensures c.if-refusal-ne0.false),
+)
 
 pub returns-then-lone_variant : goal.variant::variant-returns-then-lone_variant
 returns-then-lone_variant t c =
@@ -79,17 +78,16 @@ slice_bounds-value-end-2 t c =
     simp length-take (omega (arith, c.separator-s.ensures.1))
 
 pub value-requires : goal.variant::variant-value-requires
-value-requires t c =
-    (
-      omega (arith, level_falls Depth.variant c.args.d c.inc_variant-raised.result c.inc_variant-raised.ensures c.if-refusal-ne0.false, c.decreases),
-      (
-        front_placed _ _
-            (c.tables_of.ensures.filled (not-false _ c.if-not-tables_of.false-raw)) (front _ (sym c.tables_of.ensures.judged ∙ not-false _ c.if-not-tables_of.false-raw)) _
-            c.shape_in-shape.ensures,
-        inside_take (c.separator-s.result - 1) c.args.part.now (inside_deeper Depth.variant c.args.d c.inc_variant-raised.result
-            c.requires c.inc_variant-raised.ensures c.if-refusal-ne0.false),
-      ),
-    )
+value-requires t c = (
+  omega (arith, level_falls Depth.variant c.args.d c.inc_variant-raised.result c.inc_variant-raised.ensures c.if-refusal-ne0.false, c.decreases),
+  (
+    front_placed _ _
+        (c.tables_of.ensures.filled (not-false _ c.if-not-tables_of.false-raw)) (front _ (sym c.tables_of.ensures.judged ∙ not-false _ c.if-not-tables_of.false-raw)) _
+        c.shape_in-shape.ensures,
+    inside_take (c.separator-s.result - 1) c.args.part.now (inside_deeper Depth.variant c.args.d c.inc_variant-raised.result
+        c.requires c.inc_variant-raised.ensures c.if-refusal-ne0.false),
+  ),
+)
 
 pub returns : goal.variant::variant-returns
 returns t c =

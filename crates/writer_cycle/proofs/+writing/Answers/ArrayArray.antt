@@ -31,16 +31,15 @@ overflow_add-inner t c =
     omega (arith, (c.plain_at.ensures.here (not-false _ c.if-not-plain_at.false-raw)).whole, c)
 
 pub elements-r-requires : goal.array::array-elements-r-requires
-elements-r-requires t c =
-    (
-      omega (arith, level_falls Depth.array c.args.context.depths (raised_of c.in_array-inside.result) c.in_array-inside.ensures.depths c.if-refusal-ne0.false, c.decreases),
-      (
-        (item_at _ _ _ c.requires.0 c.requires.1 _ c.item_of-item.ensures).repeated,
-        raised_in Depth.array _ _ c.in_array-inside.ensures.depths _ c.if-refusal-ne0.false,
-        record
-            { within = (c.plain_at.ensures.here (not-false _ c.if-not-plain_at.false-raw)).whole; near = c.requires.3.near; few = c.requires.3.few },
-      ),
-    )
+elements-r-requires t c = (
+  omega (arith, level_falls Depth.array c.args.context.depths (raised_of c.in_array-inside.result) c.in_array-inside.ensures.depths c.if-refusal-ne0.false, c.decreases),
+  (
+    (item_at _ _ _ c.requires.0 c.requires.1 _ c.item_of-item.ensures).repeated,
+    raised_in Depth.array _ _ c.in_array-inside.ensures.depths _ c.if-refusal-ne0.false,
+    record
+        { within = (c.plain_at.ensures.here (not-false _ c.if-not-plain_at.false-raw)).whole; near = c.requires.3.near; few = c.requires.3.few },
+  ),
+)
 
 pub ended-closed-requires : goal.array::array-ended-closed-requires
 ended-closed-requires t c =

@@ -83,4 +83,5 @@ returns t c =
     (λ x y e. emit_alignment _ _ _ _ _ _ x y e ∙ sym (described_alignment c.requires.0.child)) c.pad-p.ensures.count.0 c.pad-p.ensures.bytes refl refl
     (value_as c.child_spot-here.ensures _ _ _ _ _ c.value-v.ensures) c.if-fault-ne0.false c.add.ensures c.requires.3.near c.requires.3.few
     (omega (arith, c.basic_value-k.auto.out)) (omega (arith, c.keep-count.auto.out, c.keep-count.auto.ends, c.basic_value-k.auto.out))
-    (omega (arith, c.value-v.auto.out, c.value-v.auto.ends, c.pad-p.auto.out, c.keep-count.auto.out, c.keep-count.auto.ends, c.basic_value-k.auto.out)) (omega (arith, c.keep-count.auto.out, c.keep-count.auto.ends)) (omega (arith, c.value-v.auto.out, c.value-v.auto.ends, c.keep-count.auto.out, c.keep-count.auto.ends)))))
+    (omega (arith, c.value-v.auto.out, c.value-v.auto.ends, c.pad-p.auto.out, c.keep-count.auto.out, c.keep-count.auto.ends, c.basic_value-k.auto.out))
+    (omega (arith, c.keep-count.auto.out, c.keep-count.auto.ends)) (omega (arith, c.value-v.auto.out, c.value-v.auto.ends, c.keep-count.auto.out, c.keep-count.auto.ends)))))

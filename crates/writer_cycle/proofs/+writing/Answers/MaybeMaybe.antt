@@ -46,16 +46,15 @@ overflow_add-inner t c =
     omega (arith, (c.plain_at-2.ensures.here (not-false _ c.if-not-plain_at.false-raw)).whole, c)
 
 pub value-r-requires : goal.maybe::maybe-value-r-requires
-value-r-requires t c =
-    (
-      omega (arith, level_falls Depth.maybe c.args.context.depths (raised_of c.in_maybe-inside.result) c.in_maybe-inside.ensures.depths c.if-refusal-ne0.false, c.decreases),
-      (
-        (described_as c.shape_in-held.ensures (maybe_described _ _ c.requires.0.typed c.requires.1 _ c.requires.0.table)),
-        raised_in Depth.maybe _ _ c.in_maybe-inside.ensures.depths _
-            c.if-refusal-ne0.false,
-        record { within = (c.plain_at-2.ensures.here (not-false _ c.if-not-plain_at.false-raw)).whole; near = c.requires.3.near; few = c.requires.3.few },
-      ),
-    )
+value-r-requires t c = (
+  omega (arith, level_falls Depth.maybe c.args.context.depths (raised_of c.in_maybe-inside.result) c.in_maybe-inside.ensures.depths c.if-refusal-ne0.false, c.decreases),
+  (
+    (described_as c.shape_in-held.ensures (maybe_described _ _ c.requires.0.typed c.requires.1 _ c.requires.0.table)),
+    raised_in Depth.maybe _ _ c.in_maybe-inside.ensures.depths _
+        c.if-refusal-ne0.false,
+    record { within = (c.plain_at-2.ensures.here (not-false _ c.if-not-plain_at.false-raw)).whole; near = c.requires.3.near; few = c.requires.3.few },
+  ),
+)
 
 pub present-requires : goal.maybe::maybe-present-requires
 present-requires t c =

@@ -32,11 +32,10 @@ child_spot-here-requires t c =
     (c.requires.3.near, c.requires.3.few, omega (arith, c.loop-context.invariant.small, c.pad-p.ensures.count.1), c.loop-context.invariant.few)
 
 pub value-r-requires : goal.structure::fields-value-r-requires
-value-r-requires t c =
-    (
-      omega (arith, c.decreases),
-      ((field_here _ _ _ c.loop-context.invariant.rowed c.requires.1 _ c.shape_in-field.ensures _ c.letter_at-behind.ensures).shape, c.requires.2, placed_as c.child_spot-here.ensures c.loop-context.invariant.within (omega arith) (omega arith)),
-    )
+value-r-requires t c = (
+  omega (arith, c.decreases),
+  ((field_here _ _ _ c.loop-context.invariant.rowed c.requires.1 _ c.shape_in-field.ensures _ c.letter_at-behind.ensures).shape, c.requires.2, placed_as c.child_spot-here.ensures c.loop-context.invariant.within (omega arith) (omega arith)),
+)
 
 pub shape_of-out-then-refusal-ne0 : goal.structure::fields-shape_of-out-then-refusal-ne0
 shape_of-out-then-refusal-ne0 t c =

@@ -36,17 +36,16 @@ overflow_add-at t c =
     omega (arith, (cut c.args.text.now c.args.shape.at OpenStructure 40 c.requires.1 refl).within, c.requires.0.typed.short)
 
 pub fields-r-requires : goal.structure::structure-fields-r-requires
-fields-r-requires t c =
-    (
-      omega (arith, level_falls Depth.structure c.args.context.depths (raised_of c.in_structure-inside.result) c.in_structure-inside.ensures.depths c.if-refusal-ne0.false, c.decreases),
-      (
-        structure_rowed c.requires.0 c.requires.1,
-        c.requires.0.table,
-        raised_in Depth.structure _ _ c.in_structure-inside.ensures.depths _ c.if-refusal-ne0.false,
-        record
-            { within = (c.plain_at.ensures.here (not-false _ c.if-not-plain_at.false-raw)).whole; near = c.requires.3.near; few = c.requires.3.few },
-      ),
-    )
+fields-r-requires t c = (
+  omega (arith, level_falls Depth.structure c.args.context.depths (raised_of c.in_structure-inside.result) c.in_structure-inside.ensures.depths c.if-refusal-ne0.false, c.decreases),
+  (
+    structure_rowed c.requires.0 c.requires.1,
+    c.requires.0.table,
+    raised_in Depth.structure _ _ c.in_structure-inside.ensures.depths _ c.if-refusal-ne0.false,
+    record
+        { within = (c.plain_at.ensures.here (not-false _ c.if-not-plain_at.false-raw)).whole; near = c.requires.3.near; few = c.requires.3.few },
+  ),
+)
 
 pub ended-closed-requires : goal.structure::structure-ended-closed-requires
 ended-closed-requires t c =

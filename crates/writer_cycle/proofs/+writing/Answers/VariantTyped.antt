@@ -39,28 +39,26 @@ overflow_add-here t c =
     omega (arith, c.requires.1.at.whole)
 
 pub value-r-requires : goal.variant::typed-value-r-requires
-value-r-requires t c =
-    (
-      omega (arith, level_falls Depth.variant c.args.context.depths (raised_of c.in_variant-inside.result) c.in_variant-inside.ensures.depths c.if-refusal-ne0.false, c.decreases),
-      (
-        described_as c.shape_in-shape.ensures
-            (front_described _ _ (table_filled _ _ _ _ refl c.shapes_of.ensures c.shapes_of.auto.shapes (not-false _ c.if-not-shapes_of.false-raw)) (front _ (table_type _ _ _ _ refl c.shapes_of.ensures (not-false _ c.if-not-shapes_of.false-raw)))),
-        raised_in Depth.variant _ _ c.in_variant-inside.ensures.depths _ c.if-refusal-ne0.false,
-        record { within = omega (arith, c.requires.1.at.whole); near = c.requires.3.near; few = c.requires.3.few },
-      ),
-    )
+value-r-requires t c = (
+  omega (arith, level_falls Depth.variant c.args.context.depths (raised_of c.in_variant-inside.result) c.in_variant-inside.ensures.depths c.if-refusal-ne0.false, c.decreases),
+  (
+    described_as c.shape_in-shape.ensures
+        (front_described _ _ (table_filled _ _ _ _ refl c.shapes_of.ensures c.shapes_of.auto.shapes (not-false _ c.if-not-shapes_of.false-raw)) (front _ (table_type _ _ _ _ refl c.shapes_of.ensures (not-false _ c.if-not-shapes_of.false-raw)))),
+    raised_in Depth.variant _ _ c.in_variant-inside.ensures.depths _ c.if-refusal-ne0.false,
+    record { within = omega (arith, c.requires.1.at.whole); near = c.requires.3.near; few = c.requires.3.few },
+  ),
+)
 
 pub variant_end-requires : goal.variant::typed-variant_end-requires
-variant_end-requires t c =
-    (
-      c.requires.3.near,
-      λ z. (bounds z c.value-r.ensures).small,
-      λ z. (bounds z c.value-r.ensures).within,
-      c.requires.1.order,
-      c.requires.1.inside,
-      front_short _ _ _ c.requires.1.order
-          c.requires.1.inside (table_filled _ _ _ _ refl c.shapes_of.ensures c.shapes_of.auto.shapes (not-false _ c.if-not-shapes_of.false-raw)).few,
-    )
+variant_end-requires t c = (
+  c.requires.3.near,
+  λ z. (bounds z c.value-r.ensures).small,
+  λ z. (bounds z c.value-r.ensures).within,
+  c.requires.1.order,
+  c.requires.1.inside,
+  front_short _ _ _ c.requires.1.order
+      c.requires.1.inside (table_filled _ _ _ _ refl c.shapes_of.ensures c.shapes_of.auto.shapes (not-false _ c.if-not-shapes_of.false-raw)).few,
+)
 
 pub returns : goal.variant::typed-returns
 returns t c =

@@ -1,4 +1,5 @@
-// The answers, put into a block of 65,536 bytes, which is written when it is full.
+// The answers, put into a block of 65,536 bytes, which is written when it is full. Where the output does not take it, its error is given on, the
+// only one that there is; of the block nothing is promised then, as nothing is otherwise.
 ghost use Rattle.std.specs.Prelude.{◌+◌, ◌≤◌, ◌<◌, length, IfOk};
 
 use numerals::put_decimal;

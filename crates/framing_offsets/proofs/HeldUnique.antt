@@ -1,6 +1,5 @@
--- Each function over the struct that holds a table leaves one answer. Such a contract is walked by hand and has no `Learnt`, so this is said of
--- what a caller is handed by it, `ensured`: two answers that both have it are the same. Assumes nothing.
--- The functions' theorems are named only so that they are checked first: an edit of a clause then meets the walk before it meets this file.
+-- Each function over the struct that holds a table leaves one answer. This is said of what a caller is handed by it, `ensured`: two answers
+-- that both have it are the same. Assumes nothing.
 use mathlib.Core.Path.{◌≡◌, sym, ◌∙◌}
 use mathlib.Core.List.{List}
 use Prim.Native.Nat.{ℕ}

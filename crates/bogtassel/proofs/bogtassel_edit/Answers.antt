@@ -1,5 +1,4 @@
 -- `bogtassel_edit` meets its contract. Assumes nothing.
--- an answer, and the buffer afterwards
 use mathlib.Core.Path.{◌≡◌, subst}
 use mathlib.Core.List.{List}
 use mathlib.Core.Bool.{Bool}
@@ -9,6 +8,7 @@ use Rattle.editor_steps.specs.declared.answers.New.{New}
 use Rattle.editor_steps.specs.Walks.{new_of}
 use Rattle.bogtassel.proofs.bogtassel_edit.Goals as goal
 
+-- an answer, and the buffer afterwards
 abbrev Edits : List ℕ → Bool → List ℕ → ℕ → ℕ → New → EditAnswer → List ℕ → Type 0
 Edits type big buffer used i n a buffer' = (a ≡ edit type big buffer used i (new_of n)) × (buffer' ≡ edit_buffer type big buffer used i (new_of n))
 

@@ -1,5 +1,4 @@
 -- `reader_runs::numbers::readings` meets its contract. Assumes nothing.
--- what a turn knows
 use Prim.Native.Nat.{◌+◌, ◌-◌}
 use mathlib.Core.Bool.{true}
 use Rattle.meaning.specs.Reading.{child_step, read_number, read_maybe}

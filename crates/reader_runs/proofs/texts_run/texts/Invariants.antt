@@ -1,5 +1,4 @@
 -- `reader_runs::texts_run::texts` meets its contract. Assumes nothing.
--- what a turn knows
 use Prim.Native.Nat.{◌+◌, ◌-◌}
 use Rattle.meaning.specs.Depths.{Depths}
 use Rattle.meaning.specs.Reading.{child_step, read_text}

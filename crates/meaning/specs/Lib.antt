@@ -1,6 +1,7 @@
 pub mod Choice
 pub mod Limits
 pub mod Refusals
+pub mod Refused
 pub mod Numbers
 pub mod Parts
 pub mod Padding

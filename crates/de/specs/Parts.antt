@@ -7,7 +7,7 @@ use Rattle.meaning.specs.Padding.{is_alignment}
 use Rattle.meaning.specs.Depths.{none_open}
 use Rattle.meaning.specs.Reading.{pad, read_bool}
 use Rattle.meaning.specs.Parts.{holds}
-use Rattle.utils.specs.declared.Checked.{Checked}
+use Rattle.utils.specs.Checks.{Checked}
 use Rattle.utils.specs.Checks.{passed, failed, used_by, told_by}
 
 -- the padding that is due, where it is there; the sum of position and place is taken first: past 64 bits it is 3; then an alignment that

@@ -4,7 +4,7 @@ use Rattle.meaning.specs.Choice.{pick}
 use Rattle.meaning.specs.Refusals.{over_limit, out_of_bounds, room_too_small}
 use Rattle.meaning.specs.Numbers.{bytes}
 use Rattle.meaning.specs.Offsets.{bare_width, last_offset}
-use Rattle.utils.specs.declared.Checked.{Checked}
+use Rattle.utils.specs.Checks.{Checked}
 use Rattle.framing_offset_size.specs.declared.FramingOffsetSize.{FramingOffsetSize}
 use Rattle.framing_offset_size.specs.declared.FramingOffsetSize.TheVariants.{U8, U16, U32, U64}
 use Rattle.framing_offset_size.specs.declared.Fitting.{Fitting}

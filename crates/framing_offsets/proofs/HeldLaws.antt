@@ -16,7 +16,7 @@ use Rattle.meaning.specs.Offsets.{Table, table_from, table_of, ends_of, none_abo
 use Rattle.framing_offsets.specs.declared.EncodedArray.{EncodedArray}
 use Rattle.meaning.specs.Numbers.{spelled, value}
 use Rattle.meaning.proofs.NumberSteps.{spelled_byte, first_low}
-use Rattle.utils.specs.declared.Checked.{Checked}
+use Rattle.utils.specs.Checks.{Checked}
 use Rattle.utils.specs.Checks.{passed, failed}
 use Rattle.byte_order.specs.Standing.{number_at}
 use Rattle.byte_order.proofs.Standings.{number_at_is}

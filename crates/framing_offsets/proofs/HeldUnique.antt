@@ -14,7 +14,7 @@ use contract.Monad.{Fun, fact, fact_i, fact_use}
 use denote.Ref.{Bor}
 use denote.Triple.Clauses.{ensured, lasts}
 use Rattle.meaning.specs.Offsets.{encoded_width}
-use Rattle.utils.specs.declared.Checked.{Checked}
+use Rattle.utils.specs.Checks.{Checked}
 use Rattle.framing_offset_size.specs.Widths.{width_of, last_offset_in}
 use Rattle.framing_offset_size.specs.declared.FramingOffsetSize.{FramingOffsetSize}
 use Rattle.framing_offset_size.proofs.Unique.{same_width}

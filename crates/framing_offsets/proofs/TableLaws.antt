@@ -10,7 +10,7 @@ use borrow.Author.Tests.{le-leb, lt-leb, ne_eqb}
 use Rattle.meaning.specs.Refusals.{out_of_bounds}
 use Rattle.meaning.specs.Offsets.{Table, encoded_width, last_offset, table_from, table_of, table_stands}
 use Rattle.meaning.proofs.OffsetSteps.{end_at, entry_past, entry_there, own_width, rest_stands, rest_piece, rest_above, rest_next}
-use Rattle.utils.specs.declared.Checked.{Checked}
+use Rattle.utils.specs.Checks.{Checked}
 use Rattle.framing_offset_size.specs.declared.FramingOffsetSize.{FramingOffsetSize}
 use Rattle.utils.specs.Checks.{failed}
 use Rattle.byte_order.specs.Standing.{number_at}

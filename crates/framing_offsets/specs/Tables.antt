@@ -4,7 +4,7 @@ use Rattle.meaning.specs.Choice.{pick}
 use Rattle.meaning.specs.Refusals.{out_of_bounds}
 use Rattle.meaning.specs.Offsets.{Table, table_from, table_of, ends_of, table_stands}
 use Rattle.meaning.specs.Parts.{holds}
-use Rattle.utils.specs.declared.Checked.{Checked}
+use Rattle.utils.specs.Checks.{Checked}
 use Rattle.framing_offsets.specs.declared.OffsetTable.{OffsetTable}
 use Rattle.framing_offsets.specs.declared.EncodedArray.{EncodedArray}
 use Rattle.utils.specs.Checks.{passed, failed}

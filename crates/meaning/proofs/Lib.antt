@@ -23,3 +23,4 @@ pub mod Bounds
 pub mod Faithful
 pub mod Enough
 pub mod FixedSizes
+pub mod RefusalLaws

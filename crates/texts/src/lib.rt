@@ -108,7 +108,7 @@ fn plain_short(text: &[u8]) -> bool
     }
 }
 
-// As far as sixteen bytes at a time go, from a place on.
+// As far as sixteen bytes at a time go, from a place on. (A `for` over chunks would count them, and turn the count back into a place.)
 fn plain_sixteens(text: &[u8], start: usize) -> usize
     requires { start ≤ length text.now }
     ensures { Plain text.now start result }
@@ -193,7 +193,7 @@ fn three_at(text: &[u8], i: usize) -> bool
     letter_of_three(text[i], text[i + 1], text[i + 2])
 }
 
-// Where such letters of three bytes end, one behind another, from a place on: two at a time, as far as they go.
+// Where such letters of three bytes end, one behind another, from a place on: two at a time, as far as they go, by places as above.
 fn threes_end(text: &[u8], start: usize) -> usize
     requires { start ≤ length text.now }
     ensures { Plain text.now start result }
@@ -250,7 +250,7 @@ fn wide_end(text: &[u8], i: usize) -> usize
     if end == i { wanted_end(text, i) } else { end }
 }
 
-// Where a run of whole letters ends, from a place on.
+// Where a run of whole letters ends, from a place on, which goes on by whole runs: no `for` has such steps.
 #[tactic(auto, using(crate::proofs::Runs::plain_on, crate::proofs::Runs::plain_two_bytes))]
 fn letters_end(text: &[u8], start: usize) -> usize
     requires { start ≤ length text.now }
@@ -279,7 +279,7 @@ fn letters_end(text: &[u8], start: usize) -> usize
     i
 }
 
-// Checks a text from a place on, up to which it has whole letters.
+// Checks a text from a place on, up to which it has whole letters, by single bytes and whole runs: no `for` has such steps.
 fn check_from(text: &[u8], start: usize) -> Result<(), Refusal>
     requires { Plain text.now 0 start }
     ensures { refusal_in result ≡ text_refusal text.now }

@@ -1,5 +1,5 @@
 -- The value of a hexadecimal digit, by where the byte lies. Assumes nothing.
-use mathlib.Core.Path.{◌≡◌, refl, sym, ap}
+use mathlib.Core.Path.{◌≡◌, refl, sym, ap, ◌∙◌}
 use mathlib.Core.Bool.{Bool, true, false, ◌&&◌}
 use Prim.Native.Nat.{ℕ, ◌-◌, ◌%◌, ◌≤◌, ◌<◌}
 use native.Mathlib.Omega.{arith}
@@ -63,9 +63,12 @@ none_there None h = refl
 none_there (Some d) h = absurd (false≢true (sym h))
 
 -- whether a digit is there
+pub waits : (r : Answer ℕ) → ltb (digit_in r) 16 ≡ is_some r
+waits None = refl
+waits (Some d) = let h : d % 16 < 16 = omega arith in lt-ltb (d % 16) 16 h
+
 pub digit_is : (r : Answer ℕ) (b : ℕ) → digit_in r ≡ digit b → is_some r ≡ ltb (digit b) 16
-digit_is None b e = rw (← e) refl
-digit_is (Some d) b e = let h : d % 16 < 16 = omega arith in rw (← e) (sym (lt-ltb (d % 16) 16 h))
+digit_is r b e = sym (waits r) ∙ ap (λ (d : ℕ). ltb d 16) e
 
 -- a line has a byte where it is spoilt, a digit waits or a pair is kept
 module _ (spoilt : Bool) (half : Answer ℕ) (kept : ℕ) where

@@ -1,6 +1,4 @@
 -- A law for each way out of the small functions: basic values, keys, and types of one letter. Assumes nothing.
-use types.Run.{OneOf, miss}
-use denote.Enum.Declared.{tag_of}
 use mathlib.Core.Path.{◌≡◌, refl, sym, ap, ◌∙◌}
 use mathlib.Core.List.{List, [], ◌∷◌}
 use mathlib.Core.Bool.{Bool, true, false, false≢true}
@@ -16,14 +14,13 @@ use Rattle.meaning_writing.specs.Strict.{basic_written, child_written, basic_tes
 use Rattle.meaning.proofs.PaddingLaws.{by1}
 use Rattle.signature.specs.declared.Letter.{Letter}
 use Rattle.signature.specs.declared.Letter.TheVariants.{End, Bad, Boolean, Number, Text, Variant, Maybe, Array, OpenStructure, CloseStructure, OpenEntry, CloseEntry}
-use Rattle.signature.specs.contracts.Letter.{the_type}
-use Rattle.strict_basic.specs.Basics.{bool_written, text_written, letter_written, letter_extent, letter_test, is_basic, LoneType, lone_variant}
-use Rattle.strict_ends.specs.Ends.{extent, Begins, NoStart, Laid}
+use Rattle.strict_basic.specs.Basics.{text_written, letter_written, letter_extent, letter_test, is_basic, LoneType, lone_variant}
+use Rattle.strict_ends.specs.Ends.{Begins, NoStart, Laid}
 use Rattle.std.specs.Prelude.{Result, Ok, Err, is_ok}
 use Rattle.std.proofs.lemmas.List.{get_or_at, take_all, take-append-le}
 use Rattle.std.specs.List.{IsLastAndRest}
 use Rattle.meaning.specs.Refused.{number_of, refusal_in}
-use Rattle.meaning.specs.declared.refusals.Refusal.TheVariants as refusal
+use Rattle.meaning.proofs.RefusalNumbers.{number_not_0}
 use Rattle.meaning.specs.declared.refusals.Refusal.{Refusal}
 use mathlib.Core.Option.{some}
 use Rattle.meaning.specs.Types.{Basic, bool, number, text, variant}
@@ -43,29 +40,10 @@ pub text_empty : (l : List ℕ) → length l ≡ 0 → false ≡ text_written l
 unfolding basic_written
 text_empty l h = rw (lt-leb 1 (length l) (omega arith))
 
-numbered : (r : Refusal) → number_of r ≡ 0 → ⊥
-numbered refusal.TypeRefused h = omega arith
-numbered refusal.OverLimit h = omega arith
-numbered refusal.OutOfBounds h = omega arith
-numbered refusal.PaddingNotZero h = omega arith
-numbered refusal.NulInText h = omega arith
-numbered refusal.NotUtf8 h = omega arith
-numbered refusal.MaybeEndNotZero h = omega arith
-numbered refusal.NoSeparator h = omega arith
-numbered refusal.VariantTypeRefused h = omega arith
-numbered refusal.StructuresTooDeep h = omega arith
-numbered refusal.ArraysTooDeep h = omega arith
-numbered refusal.ContainersTooDeep h = omega arith
-numbered refusal.RoomTooSmall h = omega arith
-numbered refusal.NotWritten h = omega arith
-numbered refusal.NoSuchReading h = omega arith
-numbered refusal.NoValue h = omega arith
-numbered refusal.NotHexadecimal h = omega arith
-
 -- a call is done where its refusal's number is 0
 done_by : (r : Result (Unit {0}) Refusal) → is_ok r ≡ eqb (refusal_in r) 0
 done_by (Ok a) = refl
-done_by (Err r) = sym (ne_eqb (number_of r) 0 (numbered r))
+done_by (Err r) = sym (ne_eqb (number_of r) 0 (number_not_0 r))
 
 -- a text and the byte behind it
 module _ (l t : List ℕ) (x : ℕ) (is : IsLastAndRest l x t) where
@@ -84,38 +62,6 @@ module _ (l t : List ℕ) (x : ℕ) (is : IsLastAndRest l x t) where
   text_ends g r e =
       done_by r ∙ ap (λ (n : ℕ). eqb n 0) (e ∙ ap text_refusal (sym kept))
       ∙ rw (le-leb 1 (length l) (omega (arith, is.1)), eq-eqb (get_or l (length l - 1) 1) 0 (last ∙ g))
-
--- the letters of neither a number nor a text
-abbrev plain : List ℕ
-plain = 0 ∷ 1 ∷ 2 ∷ 5 ∷ 6 ∷ 7 ∷ 8 ∷ 9 ∷ 10 ∷ 11 ∷ []
-
-pub letter_bool : (k : Letter) (l : List ℕ) → OneOf plain (tag_of the_type k) → bool_written l ≡ letter_written k l
-letter_bool End l h = refl
-letter_bool Bad l h = refl
-letter_bool Boolean l h = refl
-letter_bool (Number c w) l h = absurd (miss plain 3 tt h)
-letter_bool (Text c) l h = absurd (miss plain 4 tt h)
-letter_bool Variant l h = refl
-letter_bool Maybe l h = refl
-letter_bool Array l h = refl
-letter_bool OpenStructure l h = refl
-letter_bool CloseStructure l h = refl
-letter_bool OpenEntry l h = refl
-letter_bool CloseEntry l h = refl
-
-pub extent_bool : (k : Letter) → OneOf plain (tag_of the_type k) → extent 1 true 1 ≡ letter_extent k
-extent_bool End h = refl
-extent_bool Bad h = refl
-extent_bool Boolean h = refl
-extent_bool (Number c w) h = absurd (miss plain 3 tt h)
-extent_bool (Text c) h = absurd (miss plain 4 tt h)
-extent_bool Variant h = refl
-extent_bool Maybe h = refl
-extent_bool Array h = refl
-extent_bool OpenStructure h = refl
-extent_bool CloseStructure h = refl
-extent_bool OpenEntry h = refl
-extent_bool CloseEntry h = refl
 
 -- ---- basic types by their letter
 
@@ -154,24 +100,6 @@ module _ (k : Letter) (l : List ℕ) (s e : ℕ) (x : Extent) (hx : x ≡ letter
   pub key_on : (at : ℕ) → Begins l s 0 e x.alignment at → (b : Bool) → b ≡ letter_written k (take (e - at) (drop at l)) → (d : Depths) → b ≡ child_written (letter_test k) d l s 0 e
   unfolding letter_test part
   key_on at w b g d = g ∙ sym (w.is (letter_test k) d (sym same))
-
--- the letters of no basic type, and of no number
-abbrev nested : List ℕ
-nested = 0 ∷ 1 ∷ 5 ∷ 6 ∷ 7 ∷ 8 ∷ 9 ∷ 10 ∷ 11 ∷ []
-
-pub basic_not : (k : Letter) → OneOf nested (tag_of the_type k) → false ≡ is_basic k
-basic_not End h = refl
-basic_not Bad h = refl
-basic_not Boolean h = absurd (miss nested 2 tt h)
-basic_not (Number c w) h = absurd (miss nested 3 tt h)
-basic_not (Text c) h = absurd (miss nested 4 tt h)
-basic_not Variant h = refl
-basic_not Maybe h = refl
-basic_not Array h = refl
-basic_not OpenStructure h = refl
-basic_not CloseStructure h = refl
-basic_not OpenEntry h = refl
-basic_not CloseEntry h = refl
 
 -- ---- a text of one letter
 

@@ -25,7 +25,8 @@ fn text_written(part: &[u8]) -> bool
     let Some((end, text)) = part.split_last() else {
         return false;
     };
-    *end == 0 && check(text).is_ok()
+    let closed = *end == 0;
+    closed && check(text).is_ok()
 }
 
 // Whether a letter is a basic type's.

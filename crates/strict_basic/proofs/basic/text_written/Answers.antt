@@ -8,10 +8,10 @@ pub returns-in_default : goal.returns-in_default
 returns-in_default c =
     text_empty _ c.in_default.ensures.cases
 
-pub returns-then-end-eq0 : goal.returns-then-end-eq0
-returns-then-end-eq0 c =
-    c.is_ok.ensures.value ∙ text_ends _ _ _ c.in-Some.ensures.cases c.if-end-eq0.true _ c.check.ensures
+pub returns-then-closed : goal.returns-then-closed
+returns-then-closed c =
+    c.is_ok.ensures.value ∙ text_ends _ _ _ c.in-Some.ensures.cases c.if-closed.true _ c.check.ensures
 
-pub returns-else-end-eq0 : goal.returns-else-end-eq0
-returns-else-end-eq0 c =
-    ne_eqb _ _ c.if-end-eq0.false ∙ text_open _ _ _ c.in-Some.ensures.cases c.if-end-eq0.false
+pub returns-else-closed : goal.returns-else-closed
+returns-else-closed c =
+    ne_eqb _ _ c.if-closed.false ∙ text_open _ _ _ c.in-Some.ensures.cases c.if-closed.false

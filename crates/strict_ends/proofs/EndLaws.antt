@@ -20,7 +20,7 @@ use Rattle.meaning.proofs.PaddingLaws.{by1, by2, by4, by8, by_alignment}
 use Rattle.meaning.proofs.OffsetLaws.{encoded_width_1, encoded_width_2, encoded_width_4}
 use Rattle.meaning.proofs.OffsetSteps.{own_width}
 use Rattle.utils.specs.Checks.{passed, failed, padding_for}
-use Rattle.utils.specs.declared.Checked.{Checked}
+use Rattle.utils.specs.Checks.{Checked}
 use Rattle.framing_offset_size.specs.Widths.{last_offset_in}
 use Rattle.framing_offsets.specs.Tables.{offset_in}
 use Rattle.framing_offsets.specs.Held.{held_table}

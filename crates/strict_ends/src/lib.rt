@@ -45,8 +45,8 @@ pub fn aligned(place: usize, alignment: usize) -> usize
     requires { (place ≤ 1000000) × Aligns alignment }
     ensures { result ≡ place + padding place alignment }
 {
-    let due = padding_for_n_bytes(place, alignment);
-    place + due.value
+    let due = padding_for_n_bytes(place, alignment).unwrap_or(0);
+    place + due
 }
 
 // Where a child begins behind its padding at a place, if it may stand there and end at e, not behind a limit.
@@ -95,8 +95,7 @@ pub fn offset_at(part: &[u8], place: usize, width: usize) -> usize
 {
     let size = size_of(width);
     let behind = place + size.width();
-    let found = next_in(&part[place..behind], size, 0);
-    found.value
+    next_in(&part[place..behind], size, 0).unwrap_or(0)
 }
 
 // Where an element ends, its offset at a place.
@@ -176,8 +175,7 @@ fn table_of(part: &[u8]) -> Option<Rows>
     let len = part.len();
     let size = FramingOffsetSize::for_encoded_container(len);
     let width = size.width();
-    let last = last_in(part, size);
-    let body = last.value;
+    let body = last_in(part, size).unwrap_or(0);
     if len < body {
         return None;
     }

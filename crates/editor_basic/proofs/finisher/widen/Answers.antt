@@ -1,29 +1,20 @@
 -- `widen` meets its contract.
-use mathlib.Core.Path.{◌≡◌, refl, sym, ◌∙◌}
+use mathlib.Core.Path.{◌≡◌, sym, ◌∙◌}
 use Prim.Native.Nat.{◌+◌, ◌-◌, ◌<◌}
 use native.Mathlib.Omega.{arith}
 use lib.ListN.{length}
-use Rattle.editor_basic.proofs.PutLaws.{over_beyond, less_none}
+use Rattle.editor_basic.proofs.PutLaws.{over_beyond}
 use Rattle.editor_basic.proofs.FinishLaws.{offsets_room, offsets_few, widen_turn, widen_end}
 use Rattle.editor_basic.proofs.finisher.widen.Goals as goal
 
 pub returns-then-out-at : goal.returns-then-out-at
 returns-then-out-at c = sym (over_beyond _ _ _ c.if-out-at.true)
 
-pub loop-init : goal.loop-init
-loop-init c = rw (less_none c.args.count) (refl, c.requires.0, omega arith, refl)
-
-pub offset_at-end-requires : goal.offset_at-end-requires
-offset_at-end-requires c = ((offsets_room (c.args.count - c.loop.counter) _ _ _ (omega (arith, c.loop-test.true)) c.loop.invariant.1).0, c.requires.2)
-
 pub overflow_add-next : goal.overflow_add-next
 overflow_add-next c =
     let a = c.args in
     let p = c.requires in
     omega (arith, c.loop.invariant.2, p.1, p.3, p.4, offsets_few p.2 a.count (length a.old.now) (omega (arith, p.0)))
-
-pub overflow_add-place : goal.overflow_add-place
-overflow_add-place c = omega (arith, (offsets_room (c.args.count - c.loop.counter) _ _ _ (omega (arith, c.loop-test.true)) c.loop.invariant.1).0, c.requires.1)
 
 pub loop-preserved : goal.loop-preserved
 loop-preserved c =

@@ -29,7 +29,7 @@ use Rattle.meaning_writing.proofs.EditingLaws.{passed, edit_refusal}
 use Rattle.signature.specs.Trees.{tree_at}
 use Rattle.editor_basic.specs.Puts.{over}
 use Rattle.editor_steps.specs.Walks.{new_of, barred}
-use Rattle.editor_steps.specs.declared.answers.Walked.{Walked}
+use Rattle.editor_steps.specs.Walked.{Walked}
 use Rattle.editor_change.specs.Answers.{WrittenFrame, WalksFrame, Found, Changing, Storing}
 use Rattle.editor_change.specs.declared.Target.{Target}
 use Rattle.editor_change.proofs.Edits.{Answers, changed_frame, refused_is, type_is, change_barred, changing_is}

@@ -11,7 +11,7 @@ use Rattle.signature.specs.Places.{is_type}
 use Rattle.signature.specs.Trees.{tree_at}
 use Rattle.strict_sizes.specs.Sizes.{Tabled}
 use Rattle.editor_steps.specs.Walks.{new_of, barred, Walks, most}
-use Rattle.editor_steps.specs.declared.answers.Walked.{Walked}
+use Rattle.editor_steps.specs.Walked.{Walked}
 use Rattle.editor_steps.specs.declared.answers.Aim.{Aim}
 use Rattle.editor_change.specs.declared.Edited.{Edited}
 use Rattle.editor_change.specs.declared.Target.{Target}

@@ -12,9 +12,9 @@ use Rattle.meaning_writing.specs.Readings.{MaybeNumber, Spot}
 use Rattle.meaning_writing.specs.Edited.{Editor}
 use Rattle.editor_basic.specs.Puts.{over}
 use Rattle.editor_basic.proofs.FoundLaws.{found_composed}
-use Rattle.editor_steps.specs.declared.answers.Walked.{Walked}
+use Rattle.editor_steps.specs.Walked.{Walked, counted_as}
 use Rattle.editor_steps.specs.Walks.{barred, Walks}
-use Rattle.editor_steps.specs.Closing.{counted_as, edits, Fits, end_in, Closes}
+use Rattle.editor_steps.specs.Closing.{edits, Fits, end_in, Closes}
 
 -- ---- an answer that counts
 

@@ -182,6 +182,14 @@ module _ {type tables buffer : List ℕ} {used : ℕ} {target : Target} (g : Cha
               n.bytes_is ∙ ap (λ (j : ℕ). over (take (length buffer - place) (drop place buffer)) 0 (drop j now)) at
           go false p = let h = y.past p in absurd (omega (arith, h.count_is, h.beyond, f.within))
 
+      -- which is not refused
+      pub not_refused : q.found ≡ true → q.refusal ≡ 0
+      unfolding reading_count reading_spot edited_frame
+      not_refused p =
+          let y : WalksFrame type big held i x (take (length buffer - place) (drop place buffer)) out' q =
+          subst (λ (l : List ℕ). WalksFrame type big l i x (take (length buffer - place) (drop place buffer)) out' q) c k in
+          (y.here p).refusal_is ∙ f.allowed
+
       stored_is : stored ≡ now ++ drop (length now) buffer
       stored_is =
           tail_put place (length buffer - place) buffer out' (drop place now) refl tail_is ∙ new_put now buffer used roomy place (omega (arith, f.inside, f.length_is)) same_front

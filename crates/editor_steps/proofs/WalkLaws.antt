@@ -35,6 +35,10 @@ pub walk_found : (w : Walk) → ((n : ℕ) → w ≡ Counted n → ⊥) → (wal
 walk_found (Counted n) h = absurd (h n refl)
 walk_found (Edited p n) h = refl
 
+pub walk_counted : (w : Walk) → ((p n : ℕ) → w ≡ Edited p n → ⊥) → (walk_as w).found ≡ false
+walk_counted (Counted n) h = refl
+walk_counted (Edited p n) h = absurd (h p n refl)
+
 -- ---- the same walk, by an editor that does the same
 
 pub walks_by : (e : Editor) (d : Depths) (e' : Editor) (d' : Depths) (p : ℕ) (l : List ℕ) (i : ℕ) (x : MaybeNumber) (m m' : ℕ) (out out' : List ℕ) (r : Walked)

@@ -12,7 +12,7 @@ use Rattle.meaning.specs.Padding.{is_alignment, Aligns}
 use Rattle.meaning.specs.Numbers.{ordered, spelled}
 use Rattle.meaning.specs.Reading.{number_in}
 use Rattle.meaning.specs.Parts.{holds}
-use Rattle.utils.specs.declared.Checked.{Checked}
+use Rattle.utils.specs.Checks.{Checked}
 use Rattle.utils.specs.Checks.{passed, failed, told_by}
 use Rattle.byte_order.specs.Standing.{number_at, number_of}
 

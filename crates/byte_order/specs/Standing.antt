@@ -4,7 +4,7 @@ use Rattle.meaning.specs.Choice.{pick}
 use Rattle.meaning.specs.Refusals.{no_value}
 use Rattle.meaning.specs.Padding.{is_alignment}
 use Rattle.meaning.specs.Reading.{number_in}
-use Rattle.utils.specs.declared.Checked.{Checked}
+use Rattle.utils.specs.Checks.{Checked}
 use Rattle.utils.specs.Checks.{failed, told_by}
 
 -- what a reading of it tells, whatever its kind; numbers need their bytes

@@ -13,7 +13,7 @@ use Rattle.meaning.specs.Refusals.{out_of_bounds, padding_not_zero, no_value}
 use Rattle.meaning.specs.Padding.{is_alignment, padding, leading_zeros}
 use Rattle.meaning.specs.Reading.{padding_of, pad}
 use Rattle.meaning.specs.Parts.{holds}
-use Rattle.utils.specs.declared.Checked.{Checked}
+use Rattle.utils.specs.Checks.{Checked}
 use Rattle.utils.specs.Checks.{passed, failed, used_by, padding_for}
 use Rattle.de.specs.Parts.{padding_at}
 

@@ -20,7 +20,7 @@ use Rattle.meaning_writing.specs.Shapes.{part}
 use Rattle.meaning_writing.specs.Edited.{found_piece, elements_from}
 use Rattle.meaning_writing.proofs.Parts.{length_part}
 use Rattle.utils.specs.Checks.{padding_for}
-use Rattle.utils.specs.declared.Checked.{Checked}
+use Rattle.utils.specs.Checks.{Checked}
 use Rattle.framing_offset_size.specs.Widths.{width_of, fitting_width}
 use Rattle.framing_offset_size.specs.declared.FramingOffsetSize.{FramingOffsetSize}
 use Rattle.framing_offset_size.specs.declared.FramingOffsetSize.TheVariants.{U8, U16, U32, U64}

@@ -24,3 +24,4 @@ pub mod Bounds
 pub mod Faithful
 pub mod Enough
 pub mod FixedSizes
+pub mod RefusalLaws

@@ -16,7 +16,7 @@ use Rattle.framing_offset_size.proofs.WidthLaws.{width_positive}
 use Rattle.framing_offsets.specs.Tables.{table_in, empty_table, Encoded, offset_in}
 use Rattle.framing_offsets.specs.Held.{held_table}
 use Rattle.framing_offsets.specs.declared.OffsetTable.{OffsetTable}
-use Rattle.utils.specs.declared.Checked.{Checked}
+use Rattle.utils.specs.Checks.{Checked}
 use Rattle.framing_offsets.proofs.HeldLaws.{offset_through}
 use Rattle.framing_offsets.specs.declared.EncodedArray.{EncodedArray}
 use Rattle.events.specs.Slices.{next_event, put}

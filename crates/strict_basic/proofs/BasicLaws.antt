@@ -1,12 +1,10 @@
 -- A law for each way out of the small functions: basic values, keys, and types of one letter. Assumes nothing.
-use types.Run.{OneOf, miss}
-use denote.Enum.Declared.{tag_of}
 use mathlib.Core.Path.{◌≡◌, refl, sym, ap, ◌∙◌}
 use mathlib.Core.List.{List, [], ◌∷◌}
-use mathlib.Core.Bool.{Bool, true, false, ◌&&◌}
+use mathlib.Core.Bool.{Bool, true, false, false≢true}
 use Prim.Native.Nat.{ℕ, ◌+◌, ◌-◌, ◌≤◌}
 use native.Mathlib.Omega.{arith}
-use lib.Dec.{leb, eqb}
+use lib.Dec.{eqb}
 use lib.ListN.{length, take, drop, get_or}
 use borrow.Author.Tests.{le-leb, lt-leb, eq-eqb, ne_eqb, eqb-true}
 use Rattle.meaning.specs.Depths.{Depths}
@@ -16,11 +14,14 @@ use Rattle.meaning_writing.specs.Strict.{basic_written, child_written, basic_tes
 use Rattle.meaning.proofs.PaddingLaws.{by1}
 use Rattle.signature.specs.declared.Letter.{Letter}
 use Rattle.signature.specs.declared.Letter.TheVariants.{End, Bad, Boolean, Number, Text, Variant, Maybe, Array, OpenStructure, CloseStructure, OpenEntry, CloseEntry}
-use Rattle.signature.specs.contracts.Letter.{the_type}
-use Rattle.meaning.proofs.Lists.{within_default}
-use Rattle.strict_basic.specs.Basics.{bool_written, text_written, letter_written, letter_extent, letter_test, is_basic, LoneType, lone_variant}
-use Rattle.strict_ends.specs.Ends.{extent, StartAt, Laid}
-use Rattle.strict_ends.specs.declared.Start.{Start}
+use Rattle.strict_basic.specs.Basics.{text_written, letter_written, letter_extent, letter_test, is_basic, LoneType, lone_variant}
+use Rattle.strict_ends.specs.Ends.{Begins, NoStart, Laid}
+use Rattle.std.specs.Prelude.{Result, Ok, Err, is_ok}
+use Rattle.std.proofs.lemmas.List.{get_or_at, take_all, take-append-le}
+use Rattle.std.specs.List.{IsLastAndRest}
+use Rattle.meaning.specs.Refused.{number_of, refusal_in}
+use Rattle.meaning.proofs.RefusalNumbers.{number_not_0}
+use Rattle.meaning.specs.declared.refusals.Refusal.{Refusal}
 use mathlib.Core.Option.{some}
 use Rattle.meaning.specs.Types.{Basic, bool, number, text, variant}
 use Rattle.meaning.specs.Letters.{number_letter}
@@ -35,57 +36,32 @@ use Rattle.signature.proofs.Dispatch.{is_boolean, is_number, is_text_lem, is_var
 use Rattle.signature.proofs.TreeLaws.{Front, front}
 use Rattle.strict_ends.specs.declared.Extent.{Extent}
 
-pub bool_long : (l : List ℕ) → (length l ≡ 1 → ⊥) → false ≡ bool_written l
-unfolding basic_written
-bool_long l h = rw (ne_eqb (length l) 1 h)
-
-pub bool_one : (l : List ℕ) → length l ≡ 1 → leb (get_or l 0 0) 1 ≡ bool_written l
-unfolding basic_written
-bool_one l h = rw (eq-eqb (length l) 1 h)
-
 pub text_empty : (l : List ℕ) → length l ≡ 0 → false ≡ text_written l
 unfolding basic_written
 text_empty l h = rw (lt-leb 1 (length l) (omega arith))
 
-pub text_open : (l : List ℕ) → (length l ≡ 0 → ⊥) → (get_or l (length l - 1) 0 ≡ 0 → ⊥) → false ≡ text_written l
-unfolding basic_written
-text_open l h g = rw (le-leb 1 (length l) (omega arith), ne_eqb (get_or l (length l - 1) 1) 0 (λ z. g (sym (within_default l (length l - 1) (omega arith)) ∙ z)))
+-- a call is done where its refusal's number is 0
+done_by : (r : Result (Unit {0}) Refusal) → is_ok r ≡ eqb (refusal_in r) 0
+done_by (Ok a) = refl
+done_by (Err r) = sym (ne_eqb (number_of r) 0 (number_not_0 r))
 
-pub text_ends : (l : List ℕ) (x : ℕ) → (length l ≡ 0 → ⊥) → get_or l (length l - 1) 0 ≡ 0 → x ≡ text_refusal (take (length l - 1) l) → eqb x 0 ≡ text_written l
-unfolding basic_written
-text_ends l x h g e = rw (le-leb 1 (length l) (omega arith), eq-eqb (get_or l (length l - 1) 1) 0 (within_default l (length l - 1) (omega arith) ∙ g), e)
+-- a text and the byte behind it
+module _ (l t : List ℕ) (x : ℕ) (is : IsLastAndRest l x t) where
+  kept : take (length l - 1) l ≡ t
+  kept = let n : length l - 1 ≡ length t = omega (arith, is.1) in ap (λ (i : ℕ). take i l) n ∙ ap (take (length t)) is.0 ∙ take-append-le (length t) t (x ∷ []) (omega arith) ∙ take_all (length t) t (omega arith)
 
--- the letters of neither a number nor a text
-abbrev plain : List ℕ
-plain = 0 ∷ 1 ∷ 2 ∷ 5 ∷ 6 ∷ 7 ∷ 8 ∷ 9 ∷ 10 ∷ 11 ∷ []
+  last : get_or l (length l - 1) 1 ≡ x
+  last = ap (λ (y : List ℕ). get_or y (length l - 1) 1) is.0 ∙ get_or_at t x [] 1 (length l - 1) (omega (arith, is.1))
 
-pub letter_bool : (k : Letter) (l : List ℕ) → OneOf plain (tag_of the_type k) → bool_written l ≡ letter_written k l
-letter_bool End l h = refl
-letter_bool Bad l h = refl
-letter_bool Boolean l h = refl
-letter_bool (Number c w) l h = absurd (miss plain 3 tt h)
-letter_bool (Text c) l h = absurd (miss plain 4 tt h)
-letter_bool Variant l h = refl
-letter_bool Maybe l h = refl
-letter_bool Array l h = refl
-letter_bool OpenStructure l h = refl
-letter_bool CloseStructure l h = refl
-letter_bool OpenEntry l h = refl
-letter_bool CloseEntry l h = refl
+  pub text_open : (x ≡ 0 → ⊥) → false ≡ text_written l
+  unfolding basic_written
+  text_open g = rw (le-leb 1 (length l) (omega (arith, is.1)), ne_eqb (get_or l (length l - 1) 1) 0 (λ z. g (sym last ∙ z)))
 
-pub extent_bool : (k : Letter) → OneOf plain (tag_of the_type k) → extent 1 true 1 ≡ letter_extent k
-extent_bool End h = refl
-extent_bool Bad h = refl
-extent_bool Boolean h = refl
-extent_bool (Number c w) h = absurd (miss plain 3 tt h)
-extent_bool (Text c) h = absurd (miss plain 4 tt h)
-extent_bool Variant h = refl
-extent_bool Maybe h = refl
-extent_bool Array h = refl
-extent_bool OpenStructure h = refl
-extent_bool CloseStructure h = refl
-extent_bool OpenEntry h = refl
-extent_bool CloseEntry h = refl
+  pub text_ends : x ≡ 0 → (r : Result (Unit {0}) Refusal) → refusal_in r ≡ text_refusal t → is_ok r ≡ text_written l
+  unfolding basic_written
+  text_ends g r e =
+      done_by r ∙ ap (λ (n : ℕ). eqb n 0) (e ∙ ap text_refusal (sym kept))
+      ∙ rw (le-leb 1 (length l) (omega (arith, is.1)), eq-eqb (get_or l (length l - 1) 1) 0 (last ∙ g))
 
 -- ---- basic types by their letter
 
@@ -113,34 +89,17 @@ pub laid_as : {x y : Extent} → x ≡ y → Laid y → Laid x
 laid_as e h = rw e h
 
 -- a key
-module _ (k : Letter) (l : List ℕ) (s e : ℕ) (x : Extent) (hx : x ≡ letter_extent k) (r : Start) (w : StartAt l s 0 e x.alignment r) where
-  key_by : (d : Depths) → child_written (letter_test k) d l s 0 e ≡ (r.there && letter_written k (take (e - r.at) (drop r.at l)))
+module _ (k : Letter) (l : List ℕ) (s e : ℕ) (x : Extent) (hx : x ≡ letter_extent k) where
+  same : x.alignment ≡ (letter_extent k).alignment
+  same = ap (λ (y : Extent). y.alignment) hx
+
+  pub key_not : NoStart l s 0 e x.alignment → (d : Depths) → false ≡ child_written (letter_test k) d l s 0 e
+  unfolding letter_test
+  key_not w d = sym (w.is (letter_test k) d (sym same))
+
+  pub key_on : (at : ℕ) → Begins l s 0 e x.alignment at → (b : Bool) → b ≡ letter_written k (take (e - at) (drop at l)) → (d : Depths) → b ≡ child_written (letter_test k) d l s 0 e
   unfolding letter_test part
-  key_by d = w.is (letter_test k) d (ap (λ (y : Extent). y.alignment) (sym hx))
-
-  pub key_not : r.there ≡ false → (d : Depths) → false ≡ child_written (letter_test k) d l s 0 e
-  key_not h d = sym (key_by d ∙ rw h)
-
-  pub key_on : (b : Bool) → r.there ≡ true → b ≡ letter_written k (take (e - r.at) (drop r.at l)) → (d : Depths) → b ≡ child_written (letter_test k) d l s 0 e
-  key_on b h g d = g ∙ sym (key_by d ∙ rw h)
-
--- the letters of no basic type, and of no number
-abbrev nested : List ℕ
-nested = 0 ∷ 1 ∷ 5 ∷ 6 ∷ 7 ∷ 8 ∷ 9 ∷ 10 ∷ 11 ∷ []
-
-pub basic_not : (k : Letter) → OneOf nested (tag_of the_type k) → false ≡ is_basic k
-basic_not End h = refl
-basic_not Bad h = refl
-basic_not Boolean h = absurd (miss nested 2 tt h)
-basic_not (Number c w) h = absurd (miss nested 3 tt h)
-basic_not (Text c) h = absurd (miss nested 4 tt h)
-basic_not Variant h = refl
-basic_not Maybe h = refl
-basic_not Array h = refl
-basic_not OpenStructure h = refl
-basic_not CloseStructure h = refl
-basic_not OpenEntry h = refl
-basic_not CloseEntry h = refl
+  key_on at w b g d = g ∙ sym (w.is (letter_test k) d (sym same))
 
 -- ---- a text of one letter
 
@@ -168,18 +127,26 @@ module _ (l : List ℕ) (n : length l ≡ 1) where
       let m = is_text_lem l 0 _ _ c f.start h in
       record { it = text m.it; type = f.type ∙ ap some m.type; same = q ∙ h ∙ ap Text m.code_is }
 
+  pub lone_by : (k : Letter) → k ≡ letter_at l 0 → is_basic k ≡ true → LoneType l k
+  lone_by End q h = absurd (false≢true h)
+  lone_by Bad q h = absurd (false≢true h)
+  lone_by Boolean q h = lone_bool Boolean q (sym q)
+  lone_by (Number c w) q h = lone_number (Number c w) c w q (sym q)
+  lone_by (Text c) q h = lone_text (Text c) c q (sym q)
+  lone_by Variant q h = absurd (false≢true h)
+  lone_by Maybe q h = absurd (false≢true h)
+  lone_by Array q h = absurd (false≢true h)
+  lone_by OpenStructure q h = absurd (false≢true h)
+  lone_by CloseStructure q h = absurd (false≢true h)
+  lone_by OpenEntry q h = absurd (false≢true h)
+  lone_by CloseEntry q h = absurd (false≢true h)
+
   variant_lone : get_or l 0 0 ≡ 118 → type_of l ≡ some variant
   unfolding letter_by basic_among
   variant_lone q =
       let h : letter_at l 0 ≡ Variant = letter_some l 0 (omega (arith, n)) ∙ ap letter_of q in
       let f = lone_front Variant h refl refl (omega arith) in
       f.type ∙ ap some (is_variant l 0 _ _ f.start h).0
-
-pub lone_more : (l : List ℕ) → (length l ≡ 1 → ⊥) → false ≡ lone_variant l
-lone_more l h = sym (rw (ne_eqb (length l) 1 h))
-
-pub lone_one : (l : List ℕ) → length l ≡ 1 → eqb (get_or l 0 0) 118 ≡ lone_variant l
-lone_one l h = sym (rw (eq-eqb (length l) 1 h))
 
 pub lone_variant_lem : (l : List ℕ) → lone_variant l ≡ true → type_of l ≡ some variant
 lone_variant_lem l h =

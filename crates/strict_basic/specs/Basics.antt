@@ -14,7 +14,6 @@ use Rattle.signature.specs.declared.Letter.{Letter}
 use Rattle.signature.specs.declared.Letter.TheVariants.{End, Bad, Boolean, Number, Text as Texts, Variant, Maybe, Array, OpenStructure, CloseStructure, OpenEntry, CloseEntry}
 use Rattle.strict_ends.specs.declared.Extent.{Extent}
 use Rattle.strict_ends.specs.Ends.{extent, shaped}
-use Rattle.strict_basic.specs.declared.basic.Lone.{Lone}
 
 -- basic values by their letter; what is no letter of one counts as a bool
 abbrev pub bool_written : List ℕ → Bool
@@ -76,24 +75,22 @@ is_basic CloseEntry = false
 abbrev pub may_open : Depths → Bool
 may_open d = eqb (depth_refusal (opened Depth.maybe d)) 0
 
--- the bytes of a reading that is present; where no more maybe may be open there is none
-abbrev pub bytes_held : Bool → ℕ → ℕ
-bytes_held room w = pick room w 0
-
 abbrev pub reading_of : Bool → ℕ → ℕ → Bool
 reading_of room w n = pick (eqb n 0) true (room && eqb n w)
 
 unfoldable pub reading_test : ℕ → Test
 reading_test w = record { shape = shape_of w false 0; accepts = λ d l. reading_of (may_open d) w (length l) }
 
+-- what a test answers of bytes is what the test of elements of an alignment says, where so many containers are open
+pub record Judges (answers : List ℕ → Bool → Type 0) (a : ℕ) (t : Test) (d : Depths) : Type 0 where
+  pub aligned : t.shape.alignment ≡ a
+  pub same : (l : List ℕ) (b : Bool) → answers l b → b ≡ t.accepts d l
+
 -- a text that is one basic letter
 pub record LoneType (l : List ℕ) (k : Letter) : Type 0 where
   pub it : Basic
   pub type : type_of l ≡ some (basic it)
   pub same : k ≡ basic_kind it
-
-pub record LoneBasic (l : List ℕ) (r : Lone) : Type 0 where
-  pub lone : r.there ≡ true → LoneType l r.kind
 
 -- a text that is a variant's letter alone
 abbrev pub lone_variant : List ℕ → Bool

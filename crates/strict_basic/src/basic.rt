@@ -1,49 +1,42 @@
 // The values that hold no other, dictionaries' keys, arrays of texts and of readings, and types of one letter.
-ghost use Rattle.std.specs.Prelude.{◌≡◌, Bool, false, ℕ, ◌+◌, ◌*◌, ◌≤◌, length};
+ghost use Rattle.std.specs.Prelude.{◌≡◌, List, Bool, false, ℕ, ◌≤◌, length, IfSome};
+ghost use Rattle.std.specs.Fn.{FnReturnsAt};
 ghost use Rattle.meaning.specs.Depths.{Depths};
 ghost use Rattle.meaning.specs.Limits.{largest_frame};
 ghost use Rattle.meaning.specs.Padding.{Aligns};
-ghost use Rattle.meaning_writing.specs.Strict.{child_written, elements_written};
-ghost use Rattle.strict_basic.specs.Basics.{bool_written, text_written, letter_written, letter_extent, letter_test, text_test, is_basic, may_open, bytes_held, reading_of, reading_test, LoneBasic, lone_variant};
-ghost use Rattle.strict_ends.specs.Ends.{Laid};
+ghost use Rattle.meaning_writing.specs.Strict.{Test, child_written, elements_written};
+ghost use Rattle.strict_basic.specs.Basics.{bool_written, text_written, letter_written, letter_extent, letter_test, text_test, is_basic, may_open, reading_test, Judges, LoneType, lone_variant};
+ghost use Rattle.strict_ends.specs.Ends.{Laid, Standing};
 
 use signature::{Letter, letter_at};
-use strict_ends::{Extent, Rows, laid, offset_at, start_of};
-use texts::text_refusal;
+use strict_ends::{Extent, Rows, offset_at, start_of};
+use texts::check;
 
+#[tactic(auto, unfolding(meaning_writing::specs::Strict::basic_written))]
 fn boolean_written(part: &[u8]) -> bool
     ensures { result ≡ bool_written part.now }
 {
-    if part.len() != 1 {
-        return false;
-    }
-    part[0] <= 1
+    part.len() == 1 && part[0] <= 1
 }
 
 fn text_written(part: &[u8]) -> bool
     ensures { result ≡ text_written part.now }
 {
-    if part.len() == 0 {
+    let Some((end, text)) = part.split_last() else {
         return false;
-    }
-    let end = part.len() - 1;
-    if part[end] != 0 {
-        return false;
-    }
-    let refusal = text_refusal(&part[..end]);
-    refusal == 0
+    };
+    let closed = *end == 0;
+    closed && check(text).is_ok()
 }
 
 // Whether a letter is a basic type's.
 pub fn is_basic(kind: Letter) -> bool
     ensures { result ≡ is_basic kind }
 {
-    match kind {
-        Letter::Boolean => true,
-        Letter::Number { code: _, width: _ } => true,
-        Letter::Text { code: _ } => true,
-        _ => false,
-    }
+    matches!(
+        kind,
+        Letter::Boolean | Letter::Number { .. } | Letter::Text { .. }
+    )
 }
 
 // A basic value, by its letter.
@@ -61,10 +54,15 @@ pub fn letter_written(kind: Letter, part: &[u8]) -> bool
 pub fn extent_of(kind: Letter) -> Extent
     ensures { result ≡ letter_extent kind }
 {
-    match kind {
-        Letter::Number { code: _, width } => laid(width, true, width),
-        Letter::Text { code: _ } => laid(1, false, 0),
-        _ => laid(1, true, 1),
+    let (alignment, fixed, size) = match kind {
+        Letter::Number { code: _, width } => (width, true, width),
+        Letter::Text { code: _ } => (1, false, 0),
+        _ => (1, true, 1),
+    };
+    Extent {
+        alignment,
+        fixed,
+        size,
     }
 }
 
@@ -74,118 +72,63 @@ pub fn key_written(key: Letter, part: &[u8], limit: usize, e: usize) -> bool
     ensures { (d : Depths) → result ≡ child_written (letter_test key) d part.now limit 0 e }
 {
     let extent = extent_of(key);
-    let start = start_of(part, limit, 0, e, extent.alignment);
-    let from = start.at;
-    let there = start.there;
-    if !there {
+    let Some(from) = start_of(part, limit, 0, e, extent.alignment) else {
         return false;
-    }
+    };
     letter_written(key, &part[from..e])
 }
 
-// The elements of an array of texts: one behind another, no padding between them.
+// The elements of an array that are not fixed, one behind another, each behind its padding and as a test wants it.
+fn elements_written<F: Fn(&[u8]) -> bool>(
+    part: &[u8],
+    rows: Rows,
+    alignment: usize,
+    accepts: F,
+) -> bool
+    requires { (length part.now ≤ largest_frame) × Standing part.now false rows × Aligns alignment × F.IsAlwaysCallable accepts }
+    ensures { (t : Test) (d : Depths) → Judges (FnReturnsAt F.Fn accepts) alignment t d → result ≡ elements_written false t d part.now rows.width rows.body rows.count rows.from 0 }
+{
+    let mut place = 0;
+    for i in 0..rows.count {
+        let stop = offset_at(part, rows.from + i * rows.width, rows.width);
+        let Some(start) = start_of(part, rows.body, place, stop, alignment) else {
+            return false;
+        };
+        if !accepts(&part[start..stop]) {
+            return false;
+        }
+        place = stop;
+    }
+    place == rows.body
+}
+
+// The elements of an array of texts.
 pub fn texts_written(part: &[u8], rows: Rows) -> bool
-    requires { (length part.now ≤ largest_frame) × (rows.body ≤ length part.now) × (rows.from + rows.count * rows.width ≤ length part.now) × Aligns rows.width }
+    requires { (length part.now ≤ largest_frame) × Standing part.now false rows }
     ensures { (d : Depths) → result ≡ elements_written false text_test d part.now rows.width rows.body rows.count rows.from 0 }
 {
-    let limit = rows.body;
-    let width = rows.width;
-    let many = rows.count;
-    let mut i = 0;
-    let mut from = rows.from;
-    let mut place = 0;
-    while i < many {
-        let e = offset_at(part, from, width);
-        if e < place {
-            return false;
-        }
-        if limit < e {
-            return false;
-        }
-        if !text_written(&part[place..e]) {
-            return false;
-        }
-        place = e;
-        from = from + width;
-        i = i + 1;
-    }
-    place == limit
+    elements_written(part, rows, 1, |text: &[u8]| text_written(text))
 }
 
-// How many bytes a reading has that is present; none where no more maybe may be open.
-fn bytes_held(width: usize, room: bool) -> usize
-    ensures { result ≡ bytes_held room width }
-{
-    if room {
-        return width;
-    }
-    0
-}
-
-// A reading of so many bytes: none, or those of one that is present.
-fn reading_written(len: usize, held: usize) -> bool
-    ensures { (room : Bool) (width : ℕ) → held ≡ bytes_held room width → result ≡ reading_of room width len }
-{
-    if len == held {
-        return true;
-    }
-    len == 0
-}
-
-// The elements of an array of readings, whose numbers have a width.
+// The elements of an array of readings, whose numbers have a width: no byte, or that many where one more maybe may be open.
 pub fn readings_written(part: &[u8], rows: Rows, number: usize, room: bool) -> bool
-    requires { (length part.now ≤ largest_frame) × (rows.body ≤ length part.now) × (rows.from + rows.count * rows.width ≤ length part.now) × Aligns rows.width × Aligns number }
+    requires { (length part.now ≤ largest_frame) × Standing part.now false rows × Aligns number }
     ensures { (d : Depths) → room ≡ may_open d → result ≡ elements_written false (reading_test number) d part.now rows.width rows.body rows.count rows.from 0 }
 {
-    let limit = rows.body;
-    let width = rows.width;
-    let many = rows.count;
-    let held = bytes_held(number, room);
-    let mut i = 0;
-    let mut from = rows.from;
-    let mut place = 0;
-    while i < many {
-        let e = offset_at(part, from, width);
-        let start = start_of(part, limit, place, e, number);
-        let there = start.there;
-        if !there {
-            return false;
-        }
-        if !reading_written(e - start.at, held) {
-            return false;
-        }
-        place = e;
-        from = from + width;
-        i = i + 1;
-    }
-    place == limit
+    elements_written(part, rows, number, |reading: &[u8]| {
+        reading.len() == 0 || (room && reading.len() == number)
+    })
 }
 
-// A type text of one letter: whether it is a basic type, and that letter.
-#[derive(Clone, Copy)]
-pub struct Lone {
-    pub there: bool,
-    pub kind: Letter,
-}
-
-fn lone_if(there: bool, kind: Letter) -> Lone
-    ensures { (result.there ≡ there) × (result.kind ≡ kind) }
-{
-    Lone { there, kind }
-}
-
-pub fn lone_basic(text: &[u8]) -> Lone
-    ensures { LoneBasic text.now result }
+// A type text of one letter that is a basic type's: that letter.
+pub fn lone_basic(text: &[u8]) -> Option<Letter>
+    ensures { IfSome result (λ kind. LoneType text.now kind) }
 {
     let kind = letter_at(text, 0);
-    if text.len() != 1 {
-        return lone_if(false, kind);
-    }
-    match kind {
-        Letter::Boolean => lone_if(true, kind),
-        Letter::Number { code: _, width: _ } => lone_if(true, kind),
-        Letter::Text { code: _ } => lone_if(true, kind),
-        _ => lone_if(false, kind),
+    if text.len() == 1 && is_basic(kind) {
+        Some(kind)
+    } else {
+        None
     }
 }
 
@@ -193,8 +136,5 @@ pub fn lone_basic(text: &[u8]) -> Lone
 pub fn lone_variant(text: &[u8]) -> bool
     ensures { result ≡ lone_variant text.now }
 {
-    if text.len() != 1 {
-        return false;
-    }
-    text[0] == b'v'
+    text.len() == 1 && text[0] == b'v'
 }

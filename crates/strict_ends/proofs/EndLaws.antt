@@ -1,68 +1,44 @@
 -- A law for each way out of the functions: where children begin and end, and the offsets of a container. Assumes nothing.
-use mathlib.Core.Path.{◌≡◌, refl, sym, ap, subst⁻¹, ◌∙◌}
+use mathlib.Core.Path.{◌≡◌, refl, sym, ap, ◌∙◌}
 use mathlib.Core.List.{List, [], ◌∷◌}
 use mathlib.Core.Bool.{Bool, true, false, ◌&&◌, ◌||◌, false≢true}
 use Prim.Native.Nat.{ℕ, zero, suc, ◌+◌, ◌-◌, ◌*◌, ◌/◌, ◌≤◌, ◌<◌}
 use native.Mathlib.Omega.{arith}
 use native.Mathlib.Nat.{div-mul-le_self, div-le_self}
-use lib.Dec.{leb, eqb}
-use lib.ListN.{length, take, drop, get_or, length-take, length-drop}
-use lib.Seq.{drop-cons}
-use borrow.Author.Tests.{le-leb, lt-leb, eq-eqb, ne_eqb, leb-true, leb-false}
+use lib.Dec.{leb, ltb, eqb}
+use lib.ListN.{length, take, drop, length-take, length-drop}
+use borrow.Author.Tests.{le-leb, lt-leb, eq-eqb, ne_eqb, leb-true, leb-false, ltb-true, ltb-false}
 use Rattle.meaning.specs.Choice.{pick}
 use Rattle.meaning.specs.Refusals.{no_value}
 use Rattle.meaning.specs.Numbers.{value}
 use Rattle.meaning.specs.Padding.{padding, Aligns}
 use Rattle.meaning.specs.Depths.{Depths}
 use Rattle.meaning.specs.Offsets.{first_width, encoded_width, written_width, last_offset}
-use Rattle.meaning_writing.specs.Shapes.{part, offset_count, last_end, field_end, offsets_left, one_more}
-use Rattle.meaning_writing.specs.Strict.{Test, test_shapes, all_zero, child_written, element_end, elements_written, table_written, array_written, fields_finished, fields_written, offsets_written, structure_written}
+use Rattle.meaning_writing.specs.Shapes.{part, offset_count}
+use Rattle.meaning_writing.specs.Strict.{Test, test_shapes, all_zero, child_written, elements_written, table_written, array_written, fields_finished, fields_written, offsets_written, structure_written}
 use Rattle.meaning.proofs.PaddingLaws.{by1, by2, by4, by8, by_alignment}
 use Rattle.meaning.proofs.OffsetLaws.{encoded_width_1, encoded_width_2, encoded_width_4}
 use Rattle.meaning.proofs.OffsetSteps.{own_width}
 use Rattle.utils.specs.Checks.{passed, failed, padding_for}
-use Rattle.utils.specs.declared.Checked.{Checked}
+use Rattle.utils.specs.Checks.{Checked}
 use Rattle.framing_offset_size.specs.Widths.{last_offset_in}
 use Rattle.framing_offsets.specs.Tables.{offset_in}
 use Rattle.framing_offsets.specs.Held.{held_table}
 use Rattle.framing_offsets.proofs.HeldLaws.{only_held}
-use Rattle.strict_ends.specs.Ends.{start, rows, StartAt, RowsOf, TableOf}
-use Rattle.strict_ends.specs.declared.Start.{Start}
+use Rattle.strict_ends.specs.Ends.{rows, Begins, NoStart, RowsAre, NoRows, RowsOf, TableIs, NoTable}
 use Rattle.strict_ends.specs.declared.Rows.{Rows}
+use Rattle.std.specs.Prelude.{Option, Some, None}
+use Rattle.std.specs.List.{list_all}
 
 pub no : {A : Type 0} → true ≡ false → A
 no h = absurd (false≢true (sym h))
 
--- an answer is the one that was made
-pub start_by : {l : List ℕ} {s k e a : ℕ} {r x : Start} → r ≡ x → StartAt l s k e a x → StartAt l s k e a r
-start_by {l} {s} {k} {e} {a} q w = subst⁻¹ (λ (y : Start). StartAt l s k e a y) q w
-
-pub rows_by : {l : List ℕ} {fx : Bool} {n : ℕ} {r x : Rows} → r ≡ x → RowsOf l fx n x → RowsOf l fx n r
-rows_by {l} {fx} {n} q w = subst⁻¹ (λ (y : Rows). RowsOf l fx n y) q w
-
-pub table_by : {len count : ℕ} {r x : Rows} → r ≡ x → TableOf len count x → TableOf len count r
-table_by {len} {count} q w = subst⁻¹ (λ (y : Rows). TableOf len count y) q w
-
 -- ---- a run of zeros
 
-pub run_on : (l : List ℕ) (i : ℕ) → i < length l → get_or l i 0 ≡ 0 → all_zero (drop i l) ≡ all_zero (drop (i + 1) l)
+pub zeros_all : (l : List ℕ) → list_all (λ x. eqb x 0) l ≡ all_zero l
 unfolding all_zero
-run_on l i h z =
-    let c : suc i ≡ i + 1 = omega arith in
-    ap all_zero (drop-cons l i 0 h) ∙ ap (λ (x : ℕ). all_zero (x ∷ drop (suc i) l)) z ∙ ap (λ (x : ℕ). all_zero (drop x l)) c
-
-pub run_stop : (l : List ℕ) (i : ℕ) → i < length l → (get_or l i 0 ≡ 0 → ⊥) → all_zero (drop i l) ≡ false
-unfolding all_zero
-run_stop l i h z = rw (drop-cons l i 0 h) (rw (ne_eqb (get_or l i 0) 0 z))
-
-pub run_end : (l : List ℕ) (i : ℕ) → length l ≤ i → all_zero (drop i l) ≡ true
-run_end l i h = ap all_zero (none l i h) ∙ (unfold all_zero in refl)
-  where
-    none : (l : List ℕ) (i : ℕ) → length l ≤ i → drop i l ≡ []
-    none [] zero h = refl
-    none [] (suc i) h = refl
-    none (x ∷ l) zero h = absurd (omega arith)
-    none (x ∷ l) (suc i) h = none l i (omega arith)
+zeros_all [] = refl
+zeros_all (x ∷ l) = ap (λ (b : Bool). eqb x 0 && b) (zeros_all l)
 
 -- ---- padding
 
@@ -80,15 +56,19 @@ module _ (l : List ℕ) (s k e a : ℕ) (at : ℕ) (q : at ≡ k + padding k a) 
       let u : k + padding k t.shape.alignment ≡ at = ap (λ (i : ℕ). k + padding k i) h ∙ sym q in
       ap (λ (i : ℕ). leb i e && (leb e s && (all_zero (part k i l) && t.accepts d (part i e l)))) u
 
-  pub start_below : e < at → StartAt l s k e a (start false at)
-  start_below h = record { is = λ t d p. child_is t d p ∙ rw (lt-leb at e h); before = λ z. absurd (false≢true z); within = λ z. absurd (false≢true z) }
+  pub start_below : e < at → NoStart l s k e a
+  start_below h = record { is = λ t d p. child_is t d p ∙ rw (lt-leb at e h) }
 
-  pub start_past : at ≤ e → s < e → StartAt l s k e a (start false at)
-  start_past h g = record { is = λ t d p. child_is t d p ∙ rw (le-leb at e h, lt-leb e s g); before = λ z. absurd (false≢true z); within = λ z. absurd (false≢true z) }
+  pub start_past : at ≤ e → s < e → NoStart l s k e a
+  start_past h g = record { is = λ t d p. child_is t d p ∙ rw (le-leb at e h, lt-leb e s g) }
 
-  pub start_here : (b : Bool) → at ≤ e → e ≤ s → b ≡ all_zero (take (at - k) (drop k l)) → StartAt l s k e a (start b at)
+  pub start_dirty : at ≤ e → e ≤ s → false ≡ all_zero (take (at - k) (drop k l)) → NoStart l s k e a
   unfolding part
-  start_here b h g i = record { is = λ t d p. child_is t d p ∙ rw (le-leb at e h, le-leb e s g, ← i); before = λ z. h; within = λ z. g }
+  start_dirty h g i = record { is = λ t d p. child_is t d p ∙ rw (le-leb at e h, le-leb e s g, ← i) }
+
+  pub start_here : at ≤ e → e ≤ s → true ≡ all_zero (take (at - k) (drop k l)) → Begins l s k e a at
+  unfolding part
+  start_here h g i = record { is = λ t d p. child_is t d p ∙ rw (le-leb at e h, le-leb e s g, ← i); before = h; within = g }
 
 pub child_within : (t : Test) (d : Depths) (l : List ℕ) (s k e : ℕ) → child_written t d l s k e ≡ true → e ≤ s
 unfolding child_written
@@ -101,14 +81,9 @@ child_within t d l s k e h = go (leb (k + padding k t.shape.alignment) e) (leb e
 
 -- ---- offsets
 
--- a width is known by its bounds
-pub width_is : {w : ℕ} → Aligns w → (w < 2 → 1 ≡ w) × (2 ≤ w → w < 4 → 2 ≡ w) × (4 ≤ w → w < 8 → 4 ≡ w) × (8 ≤ w → 8 ≡ w)
-width_is al = (
-  by_alignment (λ y. y < 2 → 1 ≡ y) (λ a. refl) (λ a. omega arith) (λ a. omega arith) (λ a. omega arith) al,
-  by_alignment (λ y. 2 ≤ y → y < 4 → 2 ≡ y) (λ a b. omega arith) (λ a b. refl) (λ a b. omega arith) (λ a b. omega arith) al,
-  by_alignment (λ y. 4 ≤ y → y < 8 → 4 ≡ y) (λ a b. omega arith) (λ a b. omega arith) (λ a b. refl) (λ a b. omega arith) al,
-  by_alignment (λ y. 8 ≤ y → 8 ≡ y) (λ a. omega arith) (λ a. omega arith) (λ a. omega arith) (λ a. refl) al,
-)
+-- a width that is none of the others
+pub width_is : {w : ℕ} → Aligns w → (w ≡ 1 → ⊥) → (w ≡ 2 → ⊥) → (w ≡ 4 → ⊥) → 8 ≡ w
+width_is al a b d = by_alignment (λ y. (y ≡ 1 → ⊥) → (y ≡ 2 → ⊥) → (y ≡ 4 → ⊥) → 8 ≡ y) (λ a b d. absurd (a refl)) (λ a b d. absurd (b refl)) (λ a b d. absurd (d refl)) (λ a b d. refl) al a b d
 
 pub offset_is : (l : List ℕ) (place s e w : ℕ) {r : Checked} → place + w ≤ length l → 0 < s → s ≡ w → e ≡ place + w
     → r ≡ offset_in (held_table s (take (e - place) (drop place l))) 0 (take (e - place) (drop place l)) → r.value ≡ value (part place (place + w) l)
@@ -116,42 +91,6 @@ unfolding part
 offset_is l place s e w h p hs he q =
     let n : length (take (e - place) (drop place l)) ≡ s = simp (length-take, length-drop) (omega arith) in
     only_held s (take (e - place) (drop place l)) p n q ∙ ap (λ (k : ℕ). value (take (k - place) (drop place l))) he
-
-pub element_fixed : (fx : Bool) (l : List ℕ) (w j x r : ℕ) → fx ≡ true → r ≡ x → r ≡ element_end fx l w j x
-unfolding element_end
-element_fixed true l w j x r h e = e
-element_fixed false l w j x r h e = absurd (false≢true h)
-
-pub element_other : (fx : Bool) (l : List ℕ) (w j x r : ℕ) → fx ≡ false → r ≡ value (part j (j + w) l) → r ≡ element_end fx l w j x
-unfolding element_end
-element_other true l w j x r h e = no h
-element_other false l w j x r h e = e
-
-pub field_fixed : (fx : Bool) (l : List ℕ) (w e x r : ℕ) → fx ≡ true → r ≡ x → r ≡ field_end fx l w e x
-unfolding field_end
-field_fixed true l w e x r h p = p
-field_fixed false l w e x r h p = absurd (false≢true h)
-
-pub field_other : (fx : Bool) (l : List ℕ) (w e x r : ℕ) → fx ≡ false → w ≤ e → r ≡ value (part (e - w) (e - w + w) l) → r ≡ field_end fx l w e x
-unfolding field_end
-field_other true l w e x r h le p = no h
-field_other false l w e x r h le p = let q : e - w + w ≡ e = omega arith in p ∙ ap (λ (i : ℕ). value (part (e - w) i l)) q
-
-pub last_fixed : (fx : Bool) (x b r : ℕ) → fx ≡ true → r ≡ x → r ≡ last_end fx x b
-last_fixed true x b r h p = p
-last_fixed false x b r h p = absurd (false≢true h)
-
-pub last_other : (fx : Bool) (x b : ℕ) → fx ≡ false → b ≡ last_end fx x b
-last_other true x b h = no h
-last_other false x b h = refl
-
-pub left_other : (fx : Bool) (w e : ℕ) → fx ≡ false → e - w ≡ offsets_left fx w e
-left_other true w e h = no h
-left_other false w e h = refl
-
-pub more_other : (fx : Bool) (n : ℕ) → fx ≡ false → n + 1 ≡ one_more fx n
-more_other true n h = no h
-more_other false n h = omega arith
 
 -- ---- widths
 
@@ -211,30 +150,26 @@ module _ (body count w : ℕ) (h : body + count * w ≤ 65536) (e : w ≡ encode
   smallest_one z =
       sym (eq-eqb (written_width body count) w (written_is true (leb (body + count * 2) 65535) (le-leb (body + count * 1) 255 (short z)) refl ∙ sym z))
 
-  pub smallest_two : w ≡ 2 → 255 < body + count → true ≡ eqb (written_width body count) w
-  smallest_two z g =
-      sym (eq-eqb (written_width body count) w (written_is false true (lt-leb (body + count * 1) 255 (omega arith)) (le-leb (body + count * 2) 65535 (middle z)) ∙ sym z))
-
-  pub smallest_not_two : w ≡ 2 → body + count ≤ 255 → false ≡ eqb (written_width body count) w
-  smallest_not_two z g =
-      let x = written_is true (leb (body + count * 2) 65535) (le-leb (body + count * 1) 255 (omega arith)) refl in
-      sym (ne_eqb (written_width body count) w (λ y. omega arith))
-
-  pub smallest_four : (w ≡ 1 → ⊥) → (w ≡ 2 → ⊥) → 65535 < body + 2 * count → true ≡ eqb (written_width body count) w
-  smallest_four a b g =
-      let m = long a b in
-      let n : body + count * 4 ≤ 65536 = rw m.1 at h in
-      let x = written_is false false (lt-leb (body + count * 1) 255 (omega (arith, m.0))) (lt-leb (body + count * 2) 65535 (omega arith)) in
-      sym (eq-eqb (written_width body count) w (x ∙ rw (le-leb (body + count * 4) 4294967295 (omega arith)) (sym m.1)))
-
-  pub smallest_not_four : (w ≡ 1 → ⊥) → (w ≡ 2 → ⊥) → body + 2 * count ≤ 65535 → false ≡ eqb (written_width body count) w
-  smallest_not_four a b g =
-      let m = long a b in
-      go (leb (body + count * 1) 255) refl m.1
+  pub smallest_two : w ≡ 2 → ltb 255 (body + count) ≡ eqb (written_width body count) w
+  smallest_two z = go (ltb 255 (body + count)) refl
     where
-      go : (x : Bool) → leb (body + count * 1) 255 ≡ x → w ≡ 4 → false ≡ eqb (written_width body count) w
-      go true p f = let x = written_is true (leb (body + count * 2) 65535) p refl in sym (ne_eqb (written_width body count) w (λ y. omega arith))
-      go false p f = let x = written_is false true p (le-leb (body + count * 2) 65535 (omega arith)) in sym (ne_eqb (written_width body count) w (λ y. omega arith))
+      go : (x : Bool) → ltb 255 (body + count) ≡ x → x ≡ eqb (written_width body count) w
+      go true p = let q = ltb-true 255 (body + count) p in sym (eq-eqb (written_width body count) w (written_is false true (lt-leb (body + count * 1) 255 (omega arith)) (le-leb (body + count * 2) 65535 (middle z)) ∙ sym z))
+      go false p = let q = ltb-false 255 (body + count) p in let x = written_is true (leb (body + count * 2) 65535) (le-leb (body + count * 1) 255 (omega arith)) refl in sym (ne_eqb (written_width body count) w (λ y. omega arith))
+
+  pub smallest_four : (w ≡ 1 → ⊥) → (w ≡ 2 → ⊥) → ltb 65535 (body + 2 * count) ≡ eqb (written_width body count) w
+  smallest_four a b = go (ltb 65535 (body + 2 * count)) (leb (body + count * 1) 255) refl refl (long a b).0 (long a b).1
+    where
+      go : (x y : Bool) → ltb 65535 (body + 2 * count) ≡ x → leb (body + count * 1) 255 ≡ y → 65535 < body + count * w → w ≡ 4 → x ≡ eqb (written_width body count) w
+      go true y p r o m =
+          let g = ltb-true 65535 (body + 2 * count) p in
+          let n : body + count * 4 ≤ 65536 = rw m at h in
+          let x = written_is false false (lt-leb (body + count * 1) 255 (omega (arith, o))) (lt-leb (body + count * 2) 65535 (omega arith)) in
+          sym (eq-eqb (written_width body count) w (x ∙ rw (le-leb (body + count * 4) 4294967295 (omega arith)) (sym m)))
+      go false true p r o m = let x = written_is true (leb (body + count * 2) 65535) r refl in sym (ne_eqb (written_width body count) w (λ y. omega arith))
+      go false false p r o m =
+          let g = ltb-false 65535 (body + 2 * count) p in
+          let x = written_is false true r (le-leb (body + count * 2) 65535 (omega arith)) in sym (ne_eqb (written_width body count) w (λ y. omega arith))
 
 -- the last offset, as the leaf finds it
 pub last_offset_is : (l : List ℕ) (w : ℕ) (r : Checked) → w ≡ encoded_width (length l) → r ≡ last_offset_in w l → r.value ≡ last_offset (encoded_width (length l)) l
@@ -254,47 +189,37 @@ module _ (l : List ℕ) (w s : ℕ) (hw : w ≡ encoded_width (length l)) (hs : 
   unfolding array_written table_written
   table_is t d m hm = rw (← hs, ← hw, ← hm)
 
-  pub table_past : length l < s → RowsOf l false 0 (rows false s 0 w s)
-  table_past h = record {
-    is = λ t d p. table_is t d ((length l - s) / w) refl ∙ rw (ne_eqb (s + (length l - s) / w * w) (length l) (λ z. omega arith));
-    room = λ z. absurd (false≢true z);
-    within = λ z. absurd (false≢true z);
-    wide = λ z. rw hw (encoded_aligns (length l));
-  }
+  pub table_past : length l < s → NoRows l false 0
+  table_past h = record { is = λ t d p. table_is t d ((length l - s) / w) refl ∙ rw (ne_eqb (s + (length l - s) / w * w) (length l) (λ z. omega arith)) }
 
   module _ (m : ℕ) (hm : m ≡ (length l - s) / w) where
-    pub table_odd : (s + m * w ≡ length l → ⊥) → RowsOf l false 0 (rows false s m w s)
-    table_odd h = record {
-      is = λ t d p. table_is t d m hm ∙ rw (ne_eqb (s + m * w) (length l) h);
-      room = λ z. absurd (false≢true z);
-      within = λ z. absurd (false≢true z);
-      wide = λ z. rw hw (encoded_aligns (length l));
-    }
+    pub table_odd : (s + m * w ≡ length l → ⊥) → NoRows l false 0
+    table_odd h = record { is = λ t d p. table_is t d m hm ∙ rw (ne_eqb (s + m * w) (length l) h) }
 
-    pub table_stands_lem : (b : Bool) → s + m * w ≡ length l → b ≡ eqb (written_width s m) w → RowsOf l false 0 (rows b s m w s)
-    table_stands_lem b h e = record {
+    pub table_wide : s + m * w ≡ length l → false ≡ eqb (written_width s m) w → NoRows l false 0
+    table_wide h e = record { is = λ t d p. table_is t d m hm ∙ rw (eq-eqb (s + m * w) (length l) h, ← e) }
+
+    pub table_stands_lem : s + m * w ≡ length l → true ≡ eqb (written_width s m) w → RowsAre l false 0 (rows s m w s)
+    table_stands_lem h e = record {
       is = λ t d p. table_is t d m hm ∙ rw (eq-eqb (s + m * w) (length l) h, ← e);
-      room = λ z. omega arith;
-      within = λ z. omega arith;
-      wide = λ z. rw hw (encoded_aligns (length l));
+      standing = record { room = omega arith; within = omega arith; wide = λ z. rw hw (encoded_aligns (length l)) };
     }
 
     pub count_small : s ≤ length l → (m * w ≤ length l - s) × (m ≤ length l)
     count_small h = (rw hm (div-mul-le_self (length l - s) w), (let q = div-le_self (length l - s) w in omega arith))
 
-pub rows_fixed : (l : List ℕ) (fx : Bool) (n : ℕ) → fx ≡ true → RowsOf l fx n (rows true (length l) (length l / n) 0 0)
+pub rows_fixed : (l : List ℕ) (fx : Bool) (n : ℕ) → fx ≡ true → RowsAre l fx n (rows (length l) (length l / n) 0 0)
 unfolding array_written
 rows_fixed l true n h = record {
   is = λ t d p. ap (λ (i : ℕ). elements_written true t d l 0 (length l) (length l / i) 0 0) (p refl);
-  room = λ z. omega arith;
-  within = λ z. omega arith;
-  wide = λ z. no z;
+  standing = record { room = omega arith; within = omega arith; wide = λ z. no z };
 }
 rows_fixed l false n h = absurd (false≢true h)
 
-pub rows_other : (l : List ℕ) (fx : Bool) (n : ℕ) (r : Rows) → fx ≡ false → RowsOf l false 0 r → RowsOf l fx n r
+pub rows_other : (l : List ℕ) (fx : Bool) (n : ℕ) (r : Option Rows) → fx ≡ false → RowsOf l false 0 r → RowsOf l fx n r
 rows_other l true n r h g = no h
-rows_other l false n r h g = record { is = λ t d p. g.is t d (λ z. absurd (false≢true z)); room = g.room; within = g.within; wide = g.wide }
+rows_other l false n (Some r) h g = record { is = λ t d p. g.is t d (λ z. absurd (false≢true z)); standing = record { room = g.standing.room; within = g.standing.within; wide = g.standing.wide } }
+rows_other l false n None h g = record { is = λ t d p. g.is t d (λ z. absurd (false≢true z)) }
 
 -- ---- the offsets of a structure
 
@@ -304,19 +229,16 @@ module _ (len count w : ℕ) (hw : w ≡ encoded_width len) where
   unfolding structure_written offsets_written
   offsets_is fx a ts l d e n = rw (e, n, ← hw)
 
-  pub offsets_many : len < count * w → TableOf len count (rows false 0 count w len)
-  offsets_many h = record {
-    is = λ fx a ts l d e n. offsets_is fx a ts l d e n ∙ rw (lt-leb (count * w) len h);
-    room = λ z. absurd (false≢true z);
-    within = omega arith;
-    wide = rw hw (encoded_aligns len);
-  }
+  pub offsets_many : len < count * w → NoTable len count
+  offsets_many h = record { is = λ fx a ts l d e n. offsets_is fx a ts l d e n ∙ rw (lt-leb (count * w) len h) }
 
-  pub offsets_stand : (b : Bool) (body : ℕ) → count * w ≤ len → body ≡ len - count * w → b ≡ eqb (written_width body count) w
-      → TableOf len count (rows b body count w len)
-  offsets_stand b body h p e = record {
-    is = λ fx a ts l d q n. offsets_is fx a ts l d q n ∙ rw (← p, le-leb (count * w) len h, ← e);
-    room = λ z. h;
+  pub offsets_wide : count * w ≤ len → false ≡ eqb (written_width (len - count * w) count) w → NoTable len count
+  offsets_wide h e = record { is = λ fx a ts l d q n. offsets_is fx a ts l d q n ∙ rw (le-leb (count * w) len h, ← e) }
+
+  pub offsets_stand : count * w ≤ len → true ≡ eqb (written_width (len - count * w) count) w → TableIs len count (rows (len - count * w) count w len)
+  offsets_stand h e = record {
+    is = λ fx a ts l d q n. offsets_is fx a ts l d q n ∙ rw (le-leb (count * w) len h, ← e);
+    room = h;
     within = omega arith;
     wide = rw hw (encoded_aligns len);
   }

@@ -1,6 +1,4 @@
 -- What an array or a dictionary repeats. Assumes nothing.
-use types.Run.{OneOf, miss}
-use denote.Enum.Declared.{tag_of}
 use mathlib.Core.Path.{◌≡◌, refl, sym, ap, subst⁻¹, ◌∙◌}
 use mathlib.Core.Logic.{◌⊎◌, inl, inr}
 use mathlib.Core.List.{List, [], ◌∷◌}
@@ -13,7 +11,7 @@ use Rattle.meaning.specs.Types.{Number as NumberType, number_width, Basic, numbe
 use Rattle.meaning_writing.specs.Shapes.{sizes_from}
 use Rattle.meaning_writing.specs.Strict.{Test, test_shapes, basic_written, basic_test, present_written, maybe_written, maybe_test, array_test, entry_test, test_of}
 use Rattle.meaning.proofs.Tests.{both_true}
-use Rattle.meaning.proofs.PaddingLaws.{by1, padding_below}
+use Rattle.meaning.proofs.PaddingLaws.{padding_below}
 use Rattle.meaning.proofs.TypeLaws.{aligns_most, number_aligned, aligned}
 use Rattle.meaning_writing.proofs.StrictSteps.{test_basic, test_maybe, test_array, test_dictionary}
 use Rattle.signature.specs.Places.{basic_kind, letter_at}
@@ -23,54 +21,21 @@ use Rattle.signature.specs.declared.Letter.{Letter}
 use Rattle.signature.specs.declared.Letter.TheVariants.{End, Bad, Boolean, Number, Text, Variant, Maybe, Array, OpenStructure, CloseStructure, OpenEntry, CloseEntry}
 use Rattle.signature.specs.declared.items.Item as signature_item
 use Rattle.signature.specs.declared.shapes.Shape.{Shape}
-use Rattle.signature.specs.contracts.Letter.{the_type}
 use Rattle.signature.proofs.Dispatch.{is_number, is_text_lem, is_maybe}
 use Rattle.signature.proofs.ItemLaws.{number_held, entry_of, element_of, opens}
 use Rattle.signature.proofs.TreeLaws.{described_kind, described_alignment, described_fixed}
-use Rattle.signature.specs.Steps.{is_text, width_by}
+use Rattle.signature.specs.Steps.{is_text}
 use Rattle.strict_basic.proofs.BasicLaws.{letter_test_lem, letter_laid, key_small, laid_as}
 use Rattle.strict_basic.specs.Basics.{letter_extent, letter_test, text_test, reading_test}
 use Rattle.strict_ends.specs.Ends.{extent, Laid, end_of}
 use Rattle.strict_sizes.specs.Sizes.{Tabled, extent_in, any_in}
-use Rattle.strict_sizes.specs.Items.{Placed, tree_test, item_test, held_width, entry_end, entry_size, entry_item, element_item, Known, Reads, ItemAt}
+use Rattle.strict_sizes.specs.Items.{Placed, tree_test, item_test, reads, repeats_of, entry_end, entry_size, Known, Alike, Reads, ItemAt}
 use Rattle.strict_ends.specs.declared.Extent.{Extent}
 use Rattle.strict_sizes.specs.declared.items.Item.{Item}
+use Rattle.std.specs.Prelude.{⊤}
+use Rattle.strict_sizes.specs.declared.items.Repeats.{Repeats}
+use Rattle.strict_sizes.specs.declared.items.Repeats.TheVariants as repeats
 use Rattle.strict_sizes.proofs.TableLaws.{placed_known, placed_any, size_most}
-
-abbrev numberless : List ℕ
-numberless = 0 ∷ 1 ∷ 2 ∷ 4 ∷ 5 ∷ 6 ∷ 7 ∷ 8 ∷ 9 ∷ 10 ∷ 11 ∷ []
-
-pub number_not : (k : Letter) → OneOf numberless (tag_of the_type k) → 0 ≡ width_by k
-number_not End h = refl
-number_not Bad h = refl
-number_not Boolean h = refl
-number_not (Number c w) h = absurd (miss numberless 3 tt h)
-number_not (Text c) h = refl
-number_not Variant h = refl
-number_not Maybe h = refl
-number_not Array h = refl
-number_not OpenStructure h = refl
-number_not CloseStructure h = refl
-number_not OpenEntry h = refl
-number_not CloseEntry h = refl
-
--- the letters of no text
-abbrev textless : List ℕ
-textless = 0 ∷ 1 ∷ 2 ∷ 3 ∷ 5 ∷ 6 ∷ 7 ∷ 8 ∷ 9 ∷ 10 ∷ 11 ∷ []
-
-pub text_not : (k : Letter) → OneOf textless (tag_of the_type k) → false ≡ is_text k
-text_not End h = refl
-text_not Bad h = refl
-text_not Boolean h = refl
-text_not (Number c w) h = refl
-text_not (Text c) h = absurd (miss textless 4 tt h)
-text_not Variant h = refl
-text_not Maybe h = refl
-text_not Array h = refl
-text_not OpenStructure h = refl
-text_not CloseStructure h = refl
-text_not OpenEntry h = refl
-text_not CloseEntry h = refl
 
 sizes_two : (u v : Test) → sizes_from 0 (test_shapes (u ∷ v ∷ []))
     ≡ 0 + padding 0 u.shape.alignment + u.shape.size + padding (0 + padding 0 u.shape.alignment + u.shape.size) v.shape.alignment + v.shape.size
@@ -130,6 +95,14 @@ unfolding maybe_test maybe_written present_written basic_test basic_written alig
 reading_is m t w it p q =
     rw (p, q) (test_maybe m (basic (number it)) ∙ ap (maybe_test (number_width it) true) (test_basic m (number it)))
 
+-- what is known of elements, which are no entries
+abbrev ElementTold : Extent → (ℕ → Test) → Repeats → Type 0
+ElementTold x test (repeats.Entries key) = ⊥
+ElementTold x test repeats.AnyBytes = Alike x test
+ElementTold x test repeats.Texts = (nested : ℕ) → test nested ≡ text_test
+ElementTold x test (repeats.Readings w) = Reads w test
+ElementTold x test repeats.Others = ⊤
+
 -- what the walk asks of an entry
 pub record Keyed (k : Letter) (x : Extent) (a : ℕ) : Type 0 where
   pub key : Laid (letter_extent k)
@@ -159,22 +132,18 @@ module _ {l t : List ℕ} {at : ℕ} (f : signature_item.Item) (w : Tabled l t) 
     second_fixed : f.fixed ≡ true → f.child.fixed ≡ true
     second_fixed h = described_fixed e.child ∙ ap fixed e.value ∙ (both_true (basic_fixed e.key) (fixed e.it) (sym e.same_fixed ∙ h)).1
 
-    pub entry_is : (x : Extent) → x ≡ extent_in t f.child → (n : ℕ) → n ≡ entry_size f.key x f.alignment → (i : Item) → i ≡ entry_item f.child f.key (extent f.alignment f.fixed n) → ItemAt l t at i
+    -- an entry as the walk has it
+    abbrev entry_as : Extent → ℕ → Item
+    entry_as x n = record { child = f.child; extent = extent f.alignment f.fixed n; repeats = repeats.Entries f.key }
+
+    pub entry_is : (x : Extent) → x ≡ extent_in t f.child → (n : ℕ) → n ≡ entry_size f.key x f.alignment → ItemAt l t at (entry_as x n)
     unfolding item_test
-    entry_is x hx n hn i hi =
+    entry_is x hx n hn =
         let k = entry_keyed x hx in
         let c = entry_known f.key (extent_in t f.child) f.alignment f.fixed (λ m. tree_test m l f.child.at) (placed_known child_placed) k.key k.key_most (size_most child_placed) k.aligned second_fixed in
         let z : n ≡ entry_size f.key (extent_in t f.child) f.alignment = hn ∙ ap (λ (y : Extent). entry_size f.key y f.alignment) hx in
-        subst⁻¹ (λ (y : Item). ItemAt l t at y) (hi ∙ ap (λ (m : ℕ). entry_item f.child f.key (extent f.alignment f.fixed m)) z) (record {
-          repeated = record {
-            child = child_placed;
-            known = c;
-            key = k.key;
-            any = λ h. absurd (false≢true h);
-            single = λ h. absurd (false≢true h);
-            reads = λ h. absurd (h refl);
-            texts = λ h. absurd (false≢true h);
-          };
+        subst⁻¹ (λ (m : ℕ). ItemAt l t at (entry_as x m)) z (record {
+          repeated = record { child = child_placed; known = c; told = k.key };
           repeats = λ m. dictionary_repeats (65 - m) (tree_at l at) e.key e.it (tree_at l f.child.at) f.alignment f.fixed f.key e.tree e.value e.same_key aligns e.same_fixed;
         })
 
@@ -220,39 +189,51 @@ module _ {l t : List ℕ} {at : ℕ} (f : signature_item.Item) (w : Tabled l t) 
               is = λ k. reading_is (65 - k) (tree_at l f.child.at) w n.it (m.type ∙ ap maybe n.type) n.width_is;
             }
 
-    reads_is : (h : ℕ) → h ≡ held_width f.number f.fixed → (h ≡ 0 → ⊥) → Reads h (λ m. tree_test m l f.child.at)
-    reads_is h q z = go f.fixed f.number refl refl q
-      where
-        go : (b : Bool) (k : Letter) → f.fixed ≡ b → f.number ≡ k → h ≡ pick b 0 (width_by k) → Reads h (λ m. tree_test m l f.child.at)
-        go true k p r y = absurd (z y)
-        go false (Number c w) p r y = rw y (held_is c w p r)
-        go false End p r y = absurd (z y)
-        go false Bad p r y = absurd (z y)
-        go false Boolean p r y = absurd (z y)
-        go false (Text c) p r y = absurd (z y)
-        go false Variant p r y = absurd (z y)
-        go false Maybe p r y = absurd (z y)
-        go false Array p r y = absurd (z y)
-        go false OpenStructure p r y = absurd (z y)
-        go false CloseStructure p r y = absurd (z y)
-        go false OpenEntry p r y = absurd (z y)
-        go false CloseEntry p r y = absurd (z y)
+    array_is : (m : ℕ) → tree_test m l at ≡ array_test f.child.alignment f.child.fixed (tree_test m l f.child.at)
+    array_is m = array_repeats (65 - m) (tree_at l at) e.it (tree_at l f.child.at) f.child.alignment f.child.fixed e.tree e.value (described_alignment e.child) (described_fixed e.child)
 
-    pub element_is : (x : Extent) → x ≡ extent_in t f.child → (any : Bool) → any ≡ any_in t f.child → (h : ℕ) → h ≡ held_width f.number f.fixed → (i : Item) → i ≡ element_item f.child x any h → ItemAt l t at i
+    told_is : (any : Bool) → any ≡ any_in t f.child → ElementTold (extent_in t f.child) (λ m. tree_test m l f.child.at) (repeats_of f.child.kind any f.fixed f.number)
+    told_is true h = placed_any element_placed (sym h)
+    told_is false h = texts (is_text f.child.kind) refl
+      where
+        holds : (k : Letter) → f.fixed ≡ false → f.number ≡ k → ElementTold (extent_in t f.child) (λ m. tree_test m l f.child.at) (reads k)
+        holds (Number c w) p q = held_is c w p q
+        holds End p q = tt
+        holds Bad p q = tt
+        holds Boolean p q = tt
+        holds (Text c) p q = tt
+        holds Variant p q = tt
+        holds Maybe p q = tt
+        holds Array p q = tt
+        holds OpenStructure p q = tt
+        holds CloseStructure p q = tt
+        holds OpenEntry p q = tt
+        holds CloseEntry p q = tt
+
+        numbers : (b : Bool) → f.fixed ≡ b → ElementTold (extent_in t f.child) (λ m. tree_test m l f.child.at) (pick b repeats.Others (reads f.number))
+        numbers true p = tt
+        numbers false p = holds f.number p refl
+
+        texts : (b : Bool) → is_text f.child.kind ≡ b → ElementTold (extent_in t f.child) (λ m. tree_test m l f.child.at) (pick b repeats.Texts (pick f.fixed repeats.Others (reads f.number)))
+        texts true p = text_is p
+        texts false p = numbers f.fixed refl
+
+    -- an element as the walk has it
+    abbrev element_as : Extent → Repeats → Item
+    element_as x r = record { child = f.child; extent = x; repeats = r }
+
+    element_by : (r : Repeats) → ElementTold (extent_in t f.child) (λ m. tree_test m l f.child.at) r → ItemAt l t at (element_as (extent_in t f.child) r)
     unfolding item_test
-    element_is x hx any ha h hh i hi =
-        subst⁻¹ (λ (y : Item). ItemAt l t at y) (hi ∙ ap (λ (y : Extent). element_item f.child y any h) hx ∙ ap (λ (y : Bool). element_item f.child (extent_in t f.child) y h) ha) (record {
-          repeated = record {
-            child = element_placed;
-            known = placed_known element_placed;
-            key = record { aligned = by1; small = omega arith };
-            any = placed_any element_placed;
-            single = λ h. refl;
-            reads = reads_is h hh;
-            texts = text_is;
-          };
-          repeats = λ m. array_repeats (65 - m) (tree_at l at) e.it (tree_at l f.child.at) f.child.alignment f.child.fixed e.tree e.value (described_alignment e.child) (described_fixed e.child);
-        })
+    element_by (repeats.Entries key) g = absurd g
+    element_by repeats.AnyBytes g = record { repeated = record { child = element_placed; known = placed_known element_placed; told = g }; repeats = array_is }
+    element_by repeats.Texts g = record { repeated = record { child = element_placed; known = placed_known element_placed; told = g }; repeats = array_is }
+    element_by (repeats.Readings w) g = record { repeated = record { child = element_placed; known = placed_known element_placed; told = g }; repeats = array_is }
+    element_by repeats.Others g = record { repeated = record { child = element_placed; known = placed_known element_placed; told = g }; repeats = array_is }
+
+    pub element_is : (x : Extent) → x ≡ extent_in t f.child → (any : Bool) → any ≡ any_in t f.child → (r : Repeats) → r ≡ repeats_of f.child.kind any f.fixed f.number → ItemAt l t at (element_as x r)
+    element_is x hx any ha r hr =
+        subst⁻¹ (λ (y : Extent). ItemAt l t at (element_as y r)) hx
+        (subst⁻¹ (λ (y : Repeats). ItemAt l t at (element_as (extent_in t f.child) y)) hr (element_by (repeats_of f.child.kind any f.fixed f.number) (told_is any ha)))
 
 -- which of the two it is
 module _ (l t : List ℕ) (s : Shape) (p : Placed l t s) (first : letter_at l s.at ≡ Array) (f : signature_item.Item) (q : f ≡ item_in l t s) where

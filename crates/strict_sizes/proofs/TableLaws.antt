@@ -1,8 +1,6 @@
 -- The table of a type text: what its loops keep, how it fills, and what it says of a type. Assumes nothing.
-use types.Run.{OneOf, miss}
-use denote.Enum.Declared.{tag_of}
-use mathlib.Core.Path.{◌≡◌, refl, sym, ap, subst, subst⁻¹, ◌∙◌}
-use mathlib.Core.List.{List, [], ◌∷◌}
+use mathlib.Core.Path.{◌≡◌, refl, sym, ap, subst⁻¹, ◌∙◌}
+use mathlib.Core.List.{List}
 use mathlib.Core.Bool.{Bool, true, false, ◌&&◌}
 use Prim.Native.Nat.{ℕ, zero, suc, ◌+◌, ◌-◌, ◌*◌, ◌/◌, ◌%◌, ◌≤◌, ◌<◌}
 use native.Mathlib.Omega.{arith}
@@ -21,13 +19,12 @@ use Rattle.meaning.proofs.TypeLaws.{aligns_most, aligned, fields_aligned, fixed_
 use Rattle.meaning.proofs.PaddingLaws.{padding_below}
 use Rattle.meaning.proofs.TypeTextLaws.{fixed_size_most}
 use Rattle.meaning_writing.proofs.StrictSteps.{test_alignment, test_fixed, test_size}
-use Rattle.signature.specs.Places.{Child, basic_kind, letter_at, child_at, field_at, is_type}
+use Rattle.signature.specs.Places.{Child, letter_at, child_at, field_at, is_type}
 use Rattle.signature.specs.Shapes.{Shaped, Answered, shape_in}
 use Rattle.signature.specs.Trees.{tree_at, behind_by, Typed, fields_at, Rowed, Described}
 use Rattle.signature.specs.declared.Letter.{Letter}
 use Rattle.signature.specs.declared.Letter.TheVariants.{Boolean, Number, OpenStructure}
 use Rattle.signature.specs.declared.shapes.Shape.{Shape}
-use Rattle.signature.specs.contracts.Letter.{the_type}
 use Rattle.signature.proofs.Children.{child_is, child_found, type_inside}
 use Rattle.signature.proofs.Answers.{judged_type}
 use Rattle.signature.proofs.Dispatch.{Shown, shown, is_boolean, is_number, is_last, is_next}
@@ -301,29 +298,23 @@ pub measure_number : (l : List ℕ) (at r c w : ℕ) → letter_at l at ≡ Numb
 measure_number l at r c w e m h =
     (λ t. (let n = is_number l at _ _ c w t.found e in h ∙ ap (λ (k : ℕ). size_and_any k true) n.width_is ∙ sized_number n.it ∙ ap measure_of (sym n.type)), omega arith)
 
--- the letters of no bool, number or structure
-abbrev others : List ℕ
-others = 0 ∷ 1 ∷ 4 ∷ 5 ∷ 6 ∷ 7 ∷ 9 ∷ 10 ∷ 11 ∷ []
-
 no_measure : (t : Tree) → fixed t ≡ false → offsets_for t ≡ 0 → 0 ≡ measure_of t
 no_measure t h e = sym (measure_other t h ∙ e)
 
-pub measure_none : (l : List ℕ) (at : ℕ) (k : Letter) → k ≡ letter_at l at → OneOf others (tag_of the_type k) → (Typed l at → 0 ≡ measure_of (tree_at l at)) × (0 ≤ 10000)
+pub measure_none : (l : List ℕ) (at : ℕ) (k : Letter) → k ≡ letter_at l at → (k ≡ Boolean → ⊥) → ((c w : ℕ) → k ≡ Number c w → ⊥) → (k ≡ OpenStructure → ⊥)
+    → (Typed l at → 0 ≡ measure_of (tree_at l at)) × (0 ≤ 10000)
 unfolding fixed offsets_for
-measure_none l at k e h = (λ t. go (tree_at l at) (shown l at _ _ t.found), omega arith)
+measure_none l at k e no_bool no_number no_open = (λ t. go (tree_at l at) (shown l at _ _ t.found), omega arith)
   where
-    tags : (x : Letter) → letter_at l at ≡ x → OneOf others (tag_of the_type x)
-    tags x q = subst (λ (x : Letter). OneOf others (tag_of the_type x)) (e ∙ q) h
-
     go : (s : Tree) → Shown l at s (behind_by (first_type (drop at l))) → 0 ≡ measure_of s
-    go (basic bool) w = absurd (miss others 2 tt (tags Boolean w.letter))
-    go (basic (number c)) w = absurd (miss others 3 tt (tags (basic_kind (number c)) w.letter))
+    go (basic bool) w = absurd (no_bool (e ∙ w.letter))
+    go (basic (number c)) w = absurd (no_number _ _ (e ∙ w.letter))
     go (basic (text c)) w = no_measure (basic (text c)) refl refl
     go variant w = no_measure variant refl refl
     go (maybe s) w = no_measure (maybe s) refl refl
     go (array s) w = no_measure (array s) refl refl
     go (dictionary b s) w = no_measure (dictionary b s) refl refl
-    go (structure ts) w = absurd (miss others 8 tt (tags OpenStructure w.letter))
+    go (structure ts) w = absurd (no_open (e ∙ w.letter))
 
 -- a structure: there is one where the table says what is behind it
 module _ (l t : List ℕ) (at : ℕ) (z : Shaped l t) (h : at < length l) (s : Shape) (hs : s ≡ shape_in l t at) where

@@ -1,7 +1,7 @@
 // The table of a type text. Its front half has the shapes; the other half has for each place, of a type that is fixed, its size, and whether
 // any bytes of that size will do; of a structure that is not fixed, how many offsets it has. It is filled from the text's back to its
 // front, since a structure's fields stand behind it; each is looked at once by its structure, so the whole costs the length of the text.
-ghost use Rattle.std.specs.Prelude.{◌≡◌, true, ◌&&◌, ◌+◌, ◌≤◌, ◌<◌, length, get_or};
+ghost use Rattle.std.specs.Prelude.{◌≡◌, true, ◌+◌, ◌≤◌, ◌<◌, length, get_or};
 ghost use Rattle.meaning.specs.Limits.{longest_type};
 ghost use Rattle.meaning.specs.Types.{all_fixed, largest_alignment, fixed_size, structure};
 ghost use Rattle.signature.specs.Places.{letter_at};
@@ -12,45 +12,28 @@ use meaning::limits::LONGEST_TYPE;
 use signature::shapes::{Shape, shape_in};
 use signature::{Letter, closes_at, letter_at};
 use signature_table::shapes_of;
-use strict_ends::{Extent, aligned, laid, one_more};
+use strict_ends::{Extent, aligned, one_more};
 
 // Two numbers for each character of the longest type.
 pub const TABLE: usize = 510;
-
-fn wide(number: u16) -> usize
-    ensures { result ≡ number }
-{
-    number as usize
-}
 
 fn measure_at(tables: &[u16], at: usize) -> usize
     requires { (length tables.now ≡ table_length) × (at < longest_type) }
     ensures { result ≡ get_or tables.now (longest_type + at) 0 }
 {
-    let place = LONGEST_TYPE + at;
-    wide(tables[place])
+    usize::from(tables[LONGEST_TYPE + at])
 }
 
+// A size, and whether any bytes will do, in one number: the table is the caller's fixed memory, with one place for a type.
 fn pack(size: usize, any: bool) -> usize
     requires { size ≤ 10000 }
     ensures { result ≡ size_and_any size any }
 {
-    if any {
-        return 2 * size + 1;
-    }
-    2 * size
+    2 * size + usize::from(any)
 }
 
-fn both(a: bool, b: bool) -> bool
-    ensures { result ≡ (a && b) }
-{
-    if a {
-        return b;
-    }
-    false
-}
-
-// The fields of a structure that is fixed, from its first on: its size, and whether any bytes will do.
+// The fields of a structure that is fixed, from its first on: its size, and whether any bytes will do. Each field says where the next
+// stands, so a loop goes over them, and no range.
 fn fixed_measure(text: &[u8], tables: &[u16], at: usize, alignment: usize) -> usize
     requires { Rowed text.now at × Behind text.now at tables.now × (all_fixed (fields_at text.now at) ≡ true) × (alignment ≡ largest_alignment (fields_at text.now at)) }
     ensures { result ≡ size_and_any (fixed_size (structure (fields_at text.now at))) (any_bytes (structure (fields_at text.now at))) }
@@ -62,14 +45,11 @@ fn fixed_measure(text: &[u8], tables: &[u16], at: usize, alignment: usize) -> us
         let field = shape_in(text, tables, i);
         let measure = measure_at(tables, i);
         let start = aligned(end, field.alignment);
-        let tight = start == end;
-        let held = measure % 2 == 1;
-        any = both(any, both(tight, held));
+        any &= (start == end) & (measure % 2 == 1);
         end = start + measure / 2;
         if closes_at(text, field.next) {
             let size = aligned(end, alignment);
-            let whole = size == end;
-            return pack(size, both(any, whole));
+            return pack(size, any & (size == end));
         }
         i = field.next;
     }
@@ -97,15 +77,13 @@ fn structure_measure(text: &[u8], tables: &[u16], at: usize) -> usize
     ensures { ((Typed text.now at → result ≡ measure_of (tree_at text.now at))) × (result ≤ 10000) }
 {
     let shape = shape_in(text, tables, at);
-    let next = shape.next;
-    let fixed = shape.fixed;
-    if next == 0 {
-        return 0;
+    if shape.next == 0 {
+        0
+    } else if shape.fixed {
+        fixed_measure(text, tables, at + 1, shape.alignment)
+    } else {
+        offsets_of(text, tables, at + 1)
     }
-    if fixed {
-        return fixed_measure(text, tables, at + 1, shape.alignment);
-    }
-    offsets_of(text, tables, at + 1)
 }
 
 // What the table has of the type at a place, from what it has behind it.
@@ -130,12 +108,8 @@ pub fn tables_of(text: &[u8], tables: &mut [u16]) -> bool
     if !shapes_of(text, tables) {
         return false;
     }
-    let mut i = text.len();
-    while 0 < i {
-        i = i - 1;
-        let found = measure(text, tables, i);
-        let place = LONGEST_TYPE + i;
-        tables[place] = found as u16;
+    for i in (0..text.len()).rev() {
+        tables[LONGEST_TYPE + i] = measure(text, tables, i) as u16;
     }
     true
 }
@@ -145,8 +119,11 @@ pub fn extent_in(tables: &[u16], shape: Shape) -> Extent
     requires { (length tables.now ≡ table_length) × (shape.at < longest_type) }
     ensures { result ≡ extent_in tables.now shape }
 {
-    let measure = measure_at(tables, shape.at);
-    laid(shape.alignment, shape.fixed, measure / 2)
+    Extent {
+        alignment: shape.alignment,
+        fixed: shape.fixed,
+        size: measure_at(tables, shape.at) / 2,
+    }
 }
 
 // Whether any bytes of its size will do.
@@ -154,9 +131,7 @@ pub(crate) fn any_in(tables: &[u16], shape: Shape) -> bool
     requires { (length tables.now ≡ table_length) × (shape.at < longest_type) }
     ensures { result ≡ any_in tables.now shape }
 {
-    let measure = measure_at(tables, shape.at);
-    let held = measure % 2 == 1;
-    both(shape.fixed, held)
+    shape.fixed && measure_at(tables, shape.at) % 2 == 1
 }
 
 // How many offsets a structure has.
@@ -164,9 +139,9 @@ pub fn offsets_in(tables: &[u16], shape: Shape) -> usize
     requires { (length tables.now ≡ table_length) × (shape.at < longest_type) }
     ensures { result ≡ offsets_by tables.now shape }
 {
-    let fixed = shape.fixed;
-    if fixed {
-        return 0;
+    if shape.fixed {
+        0
+    } else {
+        measure_at(tables, shape.at)
     }
-    measure_at(tables, shape.at)
 }

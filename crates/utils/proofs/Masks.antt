@@ -1,6 +1,7 @@
 -- Rounding up by a mask, in numbers of 64 bits. Assumes nothing.
-use Rattle.std.proofs.Common.{◌≡◌, ℕ, ◌+◌, ◌-◌, ◌*◌, ◌/◌, ◌%◌, ◌^◌, ◌<◌, ◌≤◌, true, false, eqb, ◌∙◌, arith, ne_eqb}
+use Rattle.std.proofs.Common.{◌≡◌, ℕ, ◌+◌, ◌-◌, ◌*◌, ◌/◌, ◌%◌, ◌^◌, ◌<◌, ◌≤◌, true, false, arith, ne_eqb}
 use lib.Bits.{bit_and, and_high}
+use Rattle.std.proofs.lemmas.Nat.{and_le_l}
 use Rattle.meaning.specs.Refusals.{no_value}
 use Rattle.meaning.specs.Padding.{is_alignment, Aligns, padding}
 use Rattle.meaning.proofs.PaddingLaws.{by_alignment}
@@ -44,13 +45,16 @@ reached {a} al value last v l h = record {
 }
 
 -- what wrapping sums and a mask lead to is the padding
-pub rounded_up : {a : ℕ} → Aligns a → (value last low r : ℕ) → value < 2 ^ 64 → last < 2 ^ 64 → low < 2 ^ 64 → r < 2 ^ 64
-    → (last + 1) % 2 ^ 64 ≡ (value + a) % 2 ^ 64 → (low + 1) % 2 ^ 64 ≡ a
-    → (r + value) % 2 ^ 64 ≡ bit_and last (2 ^ 64 - 1 - low)
-    → r ≡ padding value a
-rounded_up {a} p value last low r v l w f hl hw hr =
-    led p value last r v l f (reached p value last v l hl)
-    (wraps (r + value) (last / a * a) (omega arith) (hr ∙ masked p last low l w hw))
+pub rounded_up : {a : ℕ} → Aligns a → (value : ℕ) → value < 2 ^ 64 → a < 2 ^ 64
+    → (bit_and (((value + a) % 2 ^ 64 + (2 ^ 64 - 1)) % 2 ^ 64) (2 ^ 64 - 1 - (a + (2 ^ 64 - 1)) % 2 ^ 64) + (2 ^ 64 - value)) % 2 ^ 64 ≡ padding value a
+rounded_up {a} p value v f =
+    let last = ((value + a) % 2 ^ 64 + (2 ^ 64 - 1)) % 2 ^ 64 in
+    let low = (a + (2 ^ 64 - 1)) % 2 ^ 64 in
+    let r = (bit_and last (2 ^ 64 - 1 - low) + (2 ^ 64 - value)) % 2 ^ 64 in
+    let m = masked p last low (omega arith) (omega arith) (omega arith) in
+    let q : last / a * a ≤ last = rw (← m) (and_le_l last (2 ^ 64 - 1 - low)) in
+    led p value last r v (omega arith) (omega arith) (reached p value last v (omega arith) (omega arith))
+    (wraps (r + value) (last / a * a) (omega arith) (omega arith))
 
 pub is_alignment_aligns : (a : ℕ) → is_alignment a ≡ true → Aligns a
 is_alignment_aligns a h = record { listed = h }
@@ -63,6 +67,6 @@ pub padding_for_is : {a : ℕ} → Aligns a → (value : ℕ) {r : ℕ} → r �
 unfolding padding_for
 padding_for_is al value h = rw (al.listed, h)
 
-pub alignment_last : (a : ℕ) → (a ≡ 1 → ⊥) → (a ≡ 2 → ⊥) → (a ≡ 4 → ⊥) → eqb a 8 ≡ is_alignment a
+pub alignment_not : (a : ℕ) → (a ≡ 1 → ⊥) → (a ≡ 2 → ⊥) → (a ≡ 4 → ⊥) → (a ≡ 8 → ⊥) → is_alignment a ≡ false
 unfolding is_alignment
-alignment_last a p q r = rw (ne_eqb a 1 p, ne_eqb a 2 q, ne_eqb a 4 r)
+alignment_not a p q r s = rw (ne_eqb a 1 p, ne_eqb a 2 q, ne_eqb a 4 r, ne_eqb a 8 s)

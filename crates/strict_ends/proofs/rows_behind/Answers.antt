@@ -1,8 +1,9 @@
 -- `rows_behind` meets its contract. Assumes nothing.
-use mathlib.Core.Path.{refl}
+use mathlib.Core.Path.{sym, ◌∙◌}
 use native.Mathlib.Omega.{arith}
-use Rattle.strict_ends.proofs.EndLaws.{table_by, table_small, table_own, offsets_many, offsets_stand}
+use Rattle.strict_ends.proofs.EndLaws.{table_small, offsets_many, offsets_wide, offsets_stand}
 use Rattle.strict_ends.proofs.rows_behind.Goals as goal
+use Rattle.strict_ends.proofs.rows_behind.Goals.{then-len-table-via-then-len-table, then-len-table-via-else-len-table+then-not-smallest}
 
 pub overflow_mul-table : goal.overflow_mul-table
 overflow_mul-table c =
@@ -10,12 +11,11 @@ overflow_mul-table c =
 
 pub returns-then-len-table : goal.returns-then-len-table
 returns-then-len-table c =
-    table_by c.rows_if.ensures (offsets_many _ _ _ c.width_of-width.ensures c.if-len-table.true)
-
-pub smallest-stands-requires : goal.smallest-stands-requires
-smallest-stands-requires c =
-    (omega (arith, c.if-len-table.false, c.requires.0), table_own _ _ _ _ c.width_of-width.ensures (omega (arith, c.if-len-table.false)))
+    elim c.then-len-table.branch [
+      | then-len-table-via-then-len-table w ↦ offsets_many _ _ _ c.width_of-width.ensures w.if-len-table.true
+      | then-len-table-via-else-len-table+then-not-smallest w ↦ offsets_wide _ _ _ c.width_of-width.ensures w.if-len-table.false (sym w.if-not-smallest.true ∙ w.smallest.ensures)
+    ]
 
 pub returns : goal.returns
 returns c =
-    table_by c.rows_if-2.ensures (offsets_stand _ _ _ c.width_of-width.ensures _ _ c.if-len-table.false refl c.smallest-stands.ensures)
+    offsets_stand _ _ _ c.width_of-width.ensures c.if-len-table.false (sym c.if-not-smallest.false ∙ c.smallest.ensures)

@@ -1,21 +1,17 @@
 -- `text_written` meets its contract. Assumes nothing.
-use native.Mathlib.Omega.{arith}
-use lib.ListN.{length-take}
+use mathlib.Core.Path.{◌∙◌}
+use borrow.Author.Tests.{ne_eqb}
 use Rattle.strict_basic.proofs.BasicLaws.{text_empty, text_open, text_ends}
 use Rattle.strict_basic.proofs.basic.text_written.Goals as goal
 
-pub returns-then-part-eq0 : goal.returns-then-part-eq0
-returns-then-part-eq0 c =
-    text_empty _ c.if-part-eq0.true
+pub returns-in_default : goal.returns-in_default
+returns-in_default c =
+    text_empty _ c.in_default.ensures.cases
 
-pub returns-then-part-end-ne0 : goal.returns-then-part-end-ne0
-returns-then-part-end-ne0 c =
-    text_open _ c.if-part-eq0.false c.if-part-end-ne0.true
+pub returns-then-closed : goal.returns-then-closed
+returns-then-closed c =
+    c.is_ok.ensures.value ∙ text_ends _ _ _ c.in-Some.ensures.cases c.if-closed.true _ c.check.ensures
 
-pub slice_bounds-text_refusal-end : goal.slice_bounds-text_refusal-end
-slice_bounds-text_refusal-end c =
-    simp length-take (omega arith)
-
-pub returns : goal.returns
-returns c =
-    text_ends _ _ c.if-part-eq0.false c.if-part-end-ne0.false c.text_refusal-refusal.ensures
+pub returns-else-closed : goal.returns-else-closed
+returns-else-closed c =
+    ne_eqb _ _ c.if-closed.false ∙ text_open _ _ _ c.in-Some.ensures.cases c.if-closed.false

@@ -1,9 +1,7 @@
 -- `repeated` meets its contract. Assumes nothing.
-use mathlib.Core.Path.{ap, ◌∙◌}
 use native.Mathlib.Omega.{arith}
 use Rattle.strict_sizes.proofs.TableLaws.{placed_at}
 use Rattle.strict_sizes.proofs.ItemLaws.{found_placed, found_entry, found_element, entry_keyed, entry_is, element_is}
-use Rattle.strict_sizes.specs.Items.{entry_item}
 use Rattle.strict_sizes.proofs.items.repeated.Goals as goal
 
 pub extent_in-lies-requires : goal.extent_in-lies-requires
@@ -13,11 +11,11 @@ extent_in-lies-requires c = (
       c.args.array c.requires.0 c.requires.1 _ c.item_of-found.ensures),
 )
 
-pub entry_size-size-requires : goal.entry_size-size-requires
-entry_size-size-requires c =
+pub entry_size-requires : goal.entry_size-requires
+entry_size-requires c =
     let k = (entry_keyed _ c.requires.0.table (found_entry c.args.text.now
     c.args.tables.now c.args.array c.requires.0
-    c.requires.1 _ c.item_of-found.ensures c.if-entry.true) _ c.extent_in-lies.ensures) in (
+    c.requires.1 _ c.item_of-found.ensures c.if-found.true) _ c.extent_in-lies.ensures) in (
       k.key,
       k.key_most,
       k.value,
@@ -25,13 +23,12 @@ entry_size-size-requires c =
       k.aligned,
     )
 
-pub returns-then-entry : goal.returns-then-entry
-returns-then-entry c =
+pub returns-then-found : goal.returns-then-found
+returns-then-found c =
     entry_is _ c.requires.0.table (found_entry c.args.text.now
     c.args.tables.now c.args.array
     c.requires.0 c.requires.1 _
-    c.item_of-found.ensures c.if-entry.true) _ c.extent_in-lies.ensures _
-    c.entry_size-size.ensures _ (c.entry_item.ensures ∙ ap (entry_item _ _) c.laid.ensures)
+    c.item_of-found.ensures c.if-found.true) _ c.extent_in-lies.ensures _ c.entry_size.ensures
 
 pub any_in-any-requires : goal.any_in-any-requires
 any_in-any-requires c = (
@@ -46,5 +43,5 @@ returns c =
     element_is _ c.requires.0.table (found_element c.args.text.now
     c.args.tables.now c.args.array
     c.requires.0 c.requires.1 _
-    c.item_of-found.ensures c.if-entry.false) _ c.extent_in-lies.ensures _
-    c.any_in-any.ensures _ c.held_width-held.ensures _ c.element_item.ensures
+    c.item_of-found.ensures c.if-found.false) _ c.extent_in-lies.ensures _
+    c.any_in-any.ensures _ c.repeats_of-repeats.ensures

@@ -57,11 +57,11 @@ pub returns-then-closes_at : goal.returns-then-closes_at
 returns-then-closes_at c =
     size_last c.requires.1 c.loop-field.invariant _
     c.shape_in-field.ensures _ c.measure_at-measure.ensures _
-    c.aligned-start.ensures _ _ c.both.ensures c.both-any.ensures
+    c.aligned-start.ensures _ _ refl refl
     (last_field_of _ _ _ c.loop-field.invariant.rowed c.requires.1.shapes _
     c.shape_in-field.ensures _ refl
     (c.closes_at.ensures.there c.if-closes_at.true)) c.requires.2 _ _ _ _
-    c.requires.3 c.aligned-size.ensures c.both-then-closes_at.ensures
+    c.requires.3 c.aligned-size.ensures refl
     c.pack.ensures
 
 pub loop-field-smaller : goal.loop-field-smaller
@@ -74,6 +74,6 @@ pub loop-field-preserved : goal.loop-field-preserved
 loop-field-preserved c =
     size_next c.requires.1 c.loop-field.invariant _
     c.shape_in-field.ensures _ c.measure_at-measure.ensures _ c.aligned-start.ensures _ _
-    c.both.ensures c.both-any.ensures (next_field_of _ _ _ c.loop-field.invariant.rowed
+    refl refl (next_field_of _ _ _ c.loop-field.invariant.rowed
     c.requires.1.shapes _ c.shape_in-field.ensures _
     refl (c.closes_at.ensures.missing c.if-closes_at.false))

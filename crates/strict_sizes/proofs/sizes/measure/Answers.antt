@@ -3,7 +3,6 @@ use mathlib.Core.Path.{sym, ◌∙◌}
 use native.Mathlib.Omega.{arith}
 use Rattle.signature.proofs.ShapeLaws.{number_most}
 use Rattle.strict_sizes.proofs.TableLaws.{measure_bool, measure_number, measure_none}
-use borrow.Enum.Refused.{opened}
 use Rattle.strict_sizes.proofs.sizes.measure.Goals as goal
 
 pub pack-requires-in-Number : goal.pack-requires-in-Number
@@ -30,4 +29,4 @@ returns-in-Number c =
 
 pub returns-in_default : goal.returns-in_default
 returns-in_default c =
-    measure_none _ _ _ c.letter_at-kind.ensures (opened c.in_default.in_default-own.keys4)
+    measure_none _ _ _ c.letter_at-kind.ensures c.in_default.not-Boolean c.in_default.not-Number c.in_default.not-OpenStructure

@@ -8,7 +8,3 @@ use Rattle.strict_sizes.proofs.sizes.tables_of.Given as goal
 abbrev pub invariant-loop-i : goal.invariant-loop-i
 invariant-loop-i l =
     (l.i ≤ length l.text) × Behind l.text l.i l.tables
-
-abbrev pub decreases-loop-i : goal.decreases-loop-i
-decreases-loop-i l =
-    l.i

@@ -2,7 +2,7 @@
 use mathlib.Core.Path.{◌≡◌, refl, sym, ap, ◌∙◌}
 use Rattle.std.specs.Prelude.{Result, Ok, Err}
 use Rattle.meaning.specs.declared.refusals.Refusal.{Refusal}
-use Rattle.meaning.proofs.RefusalNumbers.{number_not_0, same_number}
+use Rattle.meaning.proofs.RefusalLaws.{number_not_0, number_one}
 use Rattle.meaning.specs.Depths.{Depths}
 use Rattle.meaning.specs.OneAnswer.{OneAnswer}
 use Rattle.container_depths.specs.declared.ContainerDepths.{ContainerDepths}
@@ -34,7 +34,7 @@ same_raised : {before after : Depths} (d : ContainerDepths) (r s : Result Contai
 same_raised d (Ok x) (Ok y) p q = ap Ok (same_depths x y p.depths q.depths)
 same_raised d (Ok x) (Err f) p q = absurd (number_not_0 f (q.refusal ∙ sym p.refusal))
 same_raised d (Err e) (Ok y) p q = absurd (number_not_0 e (p.refusal ∙ sym q.refusal))
-same_raised d (Err e) (Err f) p q = ap Err (same_number e f (p.refusal ∙ sym q.refusal))
+same_raised d (Err e) (Err f) p q = ap Err (number_one e f (p.refusal ∙ sym q.refusal))
 
 pub new_unique : OneAnswer new_kinds.ps new_kinds.r new.Learnt
 new_unique κs a z z' w w' p q = (same_depths z z' p q, refl)

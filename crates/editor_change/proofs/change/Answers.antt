@@ -2,7 +2,7 @@
 use mathlib.Core.Path.{refl}
 use native.Mathlib.Omega.{arith}
 use Rattle.std.proofs.lemmas.Result.{err_from_is_err_and}
-use Rattle.meaning.proofs.RefusalNumbers.{number_not_0}
+use Rattle.meaning.proofs.RefusalLaws.{number_not_0}
 use Rattle.editor_change.proofs.Tails.{used_short}
 use Rattle.editor_change.proofs.Changes.{change_refused, change_allowed}
 use Rattle.editor_change.proofs.change.Goals as goal

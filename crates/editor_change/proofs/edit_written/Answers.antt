@@ -3,7 +3,7 @@ use mathlib.Core.Path.{refl, sym}
 use native.Mathlib.Omega.{arith}
 use lib.Seq.{length-take-le}
 use Rattle.std.proofs.lemmas.Result.{err_from_is_err_and}
-use Rattle.meaning.proofs.RefusalNumbers.{number_not_0}
+use Rattle.meaning.proofs.RefusalLaws.{number_not_0}
 use Rattle.editor_steps.proofs.WalkLaws.{walk_counted}
 use Rattle.editor_change.proofs.Edits.{edit_16, edit_barred, found_so}
 use Rattle.editor_change.proofs.edit_written.Goals as goal

@@ -2,7 +2,7 @@
 use mathlib.Core.Path.{refl, sym}
 use native.Mathlib.Omega.{arith}
 use lib.Seq.{length-take-le}
-use Rattle.meaning.proofs.RefusalNumbers.{number_not_0}
+use Rattle.meaning.proofs.RefusalLaws.{number_not_0}
 use Rattle.editor_change.proofs.Tails.{copied}
 use Rattle.editor_change.proofs.Changes.{copied_frame, not_refused, place_inside, change_longer, change_shorter}
 use Rattle.editor_change.proofs.store.Goals as goal

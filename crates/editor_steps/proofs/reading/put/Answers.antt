@@ -1,7 +1,7 @@
 -- `put` meets its contract. Assumes nothing.
 use mathlib.Core.Path.{refl, sym, ◌∙◌}
 use native.Mathlib.Omega.{arith}
-use Rattle.meaning.proofs.RefusalNumbers.{number_not_0}
+use Rattle.meaning.proofs.RefusalLaws.{number_not_0}
 use Rattle.editor_steps.proofs.ReadingLaws.{bars_value, bars_depth, slot_refused, put_made, width_fits}
 use Rattle.editor_steps.proofs.reading.put.Goals as goal
 

@@ -151,3 +151,7 @@ layout_most (suc m) e l k n s =
     let o = f.order in
     let d = f.inside in
     omega arith
+
+-- elements are left as long as a loop has not counted all
+pub left : {n k m : ℕ} → n + k ≡ m → k < m → 0 < n
+left h g = omega arith

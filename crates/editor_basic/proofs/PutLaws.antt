@@ -6,10 +6,12 @@ use Prim.Native.Nat.{ℕ, suc, ◌+◌, ◌-◌, ◌%◌, ◌/◌, ◌≤◌, �
 use native.Mathlib.Omega.{arith}
 use native.Mathlib.Numerals.{add-one}
 use native.Mathlib.Decide.{dec_lt}
-use lib.ListN.{length, take, drop, get_or, set, length-set, take-append-drop}
-use lib.Seq.{set_out, set_comm, drop-cons, drop-set-lt, take-suc-set}
+use lib.ListN.{length, take, drop, set, length-set, take-append-drop, drop_of_length-le}
+use borrow.Rule.Slice.PartMut.{put_mid}
+use Rattle.std.proofs.lemmas.List.{length-take-le, take-take}
+use Rattle.std.proofs.lemmas.Slice.{put_mid-paste}
+use lib.Seq.{set_out, set_comm, drop-set-lt, take-suc-set}
 use Rattle.meaning.specs.Numbers.{bytes}
-use Rattle.meaning.specs.Padding.{zeros}
 use Rattle.editor_basic.specs.Puts.{over}
 
 -- ---- the clauses
@@ -56,6 +58,26 @@ over_fits out at (b ∷ x) h =
     ∙ ap (λ (z : List ℕ). z ++ (x ++ drop (at + suc (length x)) out)) (ap (λ (z : ℕ). take z (set out at b)) (add-one at) ∙ take-suc-set out at b l)
     ∙ append_assoc (take at out) (b ∷ []) (x ++ drop (at + suc (length x)) out)
 
+-- those that have room, put at once
+pub put_over : (out : List ℕ) (at k m : ℕ) (x y : List ℕ) → at < length out → m ≡ min (length x) (length out - at) → k ≡ m → y ≡ take m x → put_mid at k out y ≡ over out at x
+put_over out at k m x y h g f e =
+    let n : m ≡ length (take m x) = sym (length-take-le m x (omega arith)) in
+    put_mid-paste at k out y (take m x) m e (sym f) n
+    ∙ append_assoc (take at out) (take m (take m x)) (drop (at + m) out)
+    ∙ ap (λ (z : List ℕ). take at out ++ (z ++ drop (at + m) out)) (take-take m m x (omega arith))
+    ∙ ap (λ (z : ℕ). take at out ++ (take m x ++ drop (at + z) out)) n
+    ∙ sym (over_fits out at (take m x) (omega arith))
+    ∙ go (dec_lt m (length x))
+    ∙ over_append out at (take m x) (drop m x) (at + m) (omega arith)
+    ∙ ap (λ (z : List ℕ). over out at z) (take-append-drop m x)
+  where
+    mid : List ℕ
+    mid = over out at (take m x)
+
+    go : Dec (m < length x) → mid ≡ over mid (at + m) (drop m x)
+    go (yes l) = sym (over_beyond mid (at + m) (drop m x) (omega (arith, length_over out at (take m x))))
+    go (no l) = sym (ap (λ (z : List ℕ). over mid (at + m) z) (drop_of_length-le x (omega arith)) ∙ over_none mid (at + m))
+
 -- ---- a loop that puts bytes: what is left to put, behind the i that are put, makes the whole
 
 pub record Putting (before : List ℕ) (at : ℕ) (whole out : List ℕ) (i : ℕ) (rest : List ℕ) : Type 0 where
@@ -84,16 +106,7 @@ module _ (before : List ℕ) (at : ℕ) (whole : List ℕ) where
       go (yes g) = over_beyond out (at + i) rest (omega (arith, p.kept))
       go (no g) = ap (λ (y : List ℕ). over out (at + i) y) (z (omega arith)) ∙ over_none out (at + i)
 
--- ---- what is left of zeros, of a part, of a number's bytes
-
-pub zeros_next : (n i : ℕ) → i < n → zeros (n - i) ≡ 0 ∷ zeros (n - (i + 1))
-zeros_next n i h = let e : n - i ≡ suc (n - (i + 1)) = omega arith in rw e
-
-pub zeros_done : (n i : ℕ) → n ≤ i → zeros (n - i) ≡ []
-zeros_done n i h = let e : n - i ≡ 0 = omega arith in rw e
-
-pub part_next : (l : List ℕ) (i : ℕ) → i < length l → drop i l ≡ get_or l i 0 ∷ drop (i + 1) l
-part_next l i h = rw (add-one, drop-cons l i 0)
+-- ---- what is left of a number's bytes
 
 pub bytes_next : (w i x : ℕ) → i < w → bytes (w - i) x ≡ x % 256 ∷ bytes (w - (i + 1)) (x / 256)
 unfolding bytes

@@ -31,15 +31,13 @@ fn widen(
     if out.len() <= at {
         return;
     }
-    let mut left = count;
     let mut next = at;
     let mut place = from;
-    while 0 < left {
+    for _ in 0..count {
         let end = offset_at(old, place, narrow);
         put_low_first(out, next, width, end);
-        next = next + width;
-        place = place + narrow;
-        left = left - 1;
+        next += width;
+        place += narrow;
     }
 }
 

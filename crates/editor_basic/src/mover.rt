@@ -9,13 +9,7 @@ ghost use Rattle.editor_basic.specs.Puts.{over};
 fn room(len: usize, at: usize, count: usize) -> usize
     ensures { result ≡ min count (len - at) }
 {
-    if len <= at {
-        return 0;
-    }
-    if len - at < count {
-        return len - at;
-    }
-    count
+    count.min(len.saturating_sub(at))
 }
 
 // So many zeros.
@@ -23,10 +17,8 @@ pub fn put_zeros(out: &mut [u8], at: usize, count: usize)
     ensures { out.new ≡ over out.old at (zeros count) }
 {
     let most = room(out.len(), at, count);
-    let mut i = 0;
-    while i < most {
-        out[at + i] = 0;
-        i += 1;
+    if at < out.len() {
+        out[at..at + most].fill(0);
     }
 }
 
@@ -35,10 +27,8 @@ pub fn put_part(out: &mut [u8], at: usize, part: &[u8])
     ensures { out.new ≡ over out.old at part.now }
 {
     let most = room(out.len(), at, part.len());
-    let mut i = 0;
-    while i < most {
-        out[at + i] = part[i];
-        i += 1;
+    if at < out.len() {
+        out[at..at + most].copy_from_slice(&part[..most]);
     }
 }
 
@@ -57,11 +47,9 @@ fn put_each(out: &mut [u8], at: usize, width: usize, number: usize)
 {
     let most = room(out.len(), at, width);
     let mut rest = number;
-    let mut i = 0;
-    while i < most {
+    for i in 0..most {
         out[at + i] = (rest % 256) as u8;
-        rest = rest / 256;
-        i += 1;
+        rest /= 256;
     }
 }
 
@@ -84,13 +72,11 @@ fn put_high_first(out: &mut [u8], at: usize, width: usize, number: usize)
     ensures { out.new ≡ over out.old at (reverse (bytes width number)) }
 {
     let mut rest = number;
-    let mut i = width;
-    while 0 < i {
-        i = i - 1;
+    for i in (0..width).rev() {
         if at + i < out.len() {
             out[at + i] = (rest % 256) as u8;
         }
-        rest = rest / 256;
+        rest /= 256;
     }
 }
 

@@ -26,15 +26,15 @@ pub(crate) fn move_elements(
     let mut rest = elements;
     let mut next = at;
     let mut place = to;
-    while 0 < rest.count {
+    for _ in 0..elements.count {
         let child = first_element(old, rest);
         let start = child.start;
         let end = child.end;
         let padding = due(place, rest.alignment);
         move_part(out, next, padding, &old[start..end]);
         let moved = padding + (end - start);
-        next = next + moved;
-        place = place + moved;
+        next += moved;
+        place += moved;
         rest = behind(rest, end);
     }
     place
@@ -58,13 +58,13 @@ pub(crate) fn rewrite_ends(
     let mut rest = elements;
     let mut next = at;
     let mut place = to;
-    while 0 < rest.count {
+    for _ in 0..elements.count {
         let child = first_element(old, rest);
         let end = child.end;
         let size = end - child.start;
         place = place + due(place, rest.alignment) + size;
         put_low_first(out, next, width, place);
-        next = next + width;
+        next += width;
         rest = behind(rest, end);
     }
 }
@@ -123,8 +123,8 @@ pub(crate) fn move_fields(
         let padding = due(place, field.alignment);
         move_part(out, next, padding, &old[start..stop]);
         let moved = padding + (stop - start);
-        next = next + moved;
-        place = place + moved;
+        next += moved;
+        place += moved;
         if last {
             return place;
         }

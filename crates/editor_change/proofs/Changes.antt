@@ -29,7 +29,7 @@ use Rattle.meaning_writing.proofs.EditingLaws.{passed, edit_refusal}
 use Rattle.signature.specs.Trees.{tree_at}
 use Rattle.editor_basic.specs.Puts.{over}
 use Rattle.editor_steps.specs.Walks.{new_of, barred}
-use Rattle.editor_steps.specs.declared.answers.Walked.{Walked}
+use Rattle.editor_steps.specs.Walked.{Walked}
 use Rattle.editor_change.specs.Answers.{WrittenFrame, WalksFrame, Found, Changing, Storing}
 use Rattle.editor_change.specs.declared.Target.{Target}
 use Rattle.editor_change.proofs.Edits.{Answers, changed_frame, refused_is, type_is, change_barred, changing_is}
@@ -181,6 +181,14 @@ module _ {type tables buffer : List ℕ} {used : ℕ} {target : Target} (g : Cha
               let at : q.place - 0 ≡ place = omega (arith, n.place_is, f.place_is) in
               n.bytes_is ∙ ap (λ (j : ℕ). over (take (length buffer - place) (drop place buffer)) 0 (drop j now)) at
           go false p = let h = y.past p in absurd (omega (arith, h.count_is, h.beyond, f.within))
+
+      -- which is not refused
+      pub not_refused : q.found ≡ true → q.refusal ≡ 0
+      unfolding reading_count reading_spot edited_frame
+      not_refused p =
+          let y : WalksFrame type big held i x (take (length buffer - place) (drop place buffer)) out' q =
+          subst (λ (l : List ℕ). WalksFrame type big l i x (take (length buffer - place) (drop place buffer)) out' q) c k in
+          (y.here p).refusal_is ∙ f.allowed
 
       stored_is : stored ≡ now ++ drop (length now) buffer
       stored_is =

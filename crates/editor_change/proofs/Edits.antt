@@ -32,7 +32,7 @@ use Rattle.strict_sizes.specs.Sizes.{Tabled}
 use Rattle.meaning_writing.specs.IsWritten.{written_as, unwritten, written_refusal}
 use Rattle.editor_steps.specs.Walks.{new_of, barred}
 use Rattle.editor_steps.specs.declared.answers.Aim.{Aim}
-use Rattle.editor_steps.specs.declared.answers.Walked.{Walked}
+use Rattle.editor_steps.specs.Walked.{Walked}
 use Rattle.editor_change.specs.Answers.{WrittenFrame, Held, WalksFrame, Changing}
 use Rattle.editor_change.proofs.Tails.{used_short}
 

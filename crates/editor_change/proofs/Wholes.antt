@@ -11,7 +11,7 @@ use Rattle.container_depths.specs.Opening.{depths_of}
 use Rattle.container_depths.specs.declared.ContainerDepths.{ContainerDepths}
 use Rattle.strict_sizes.specs.Items.{tree_test}
 use Rattle.editor_steps.specs.Walks.{tree_editor, Walks, most, Ready}
-use Rattle.editor_steps.specs.declared.answers.Walked.{Walked}
+use Rattle.editor_steps.specs.Walked.{Walked}
 use Rattle.editor_change.specs.Answers.{WrittenFrame, fresh, WalksFrame}
 
 module _ (d : ContainerDepths) (e : depths_of d ≡ none_open) (type : List ℕ) (at : ℕ) (z : at ≡ 0) (frame : List ℕ) where

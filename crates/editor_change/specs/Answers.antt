@@ -1,5 +1,5 @@
 -- What an edit answers, and what the walk over a whole frame is asked and finds. Assumes nothing: these are definitions.
-use Rattle.std.specs.Prelude.{◌≡◌, List, Bool, true, ℕ, ◌≤◌, ◌<◌, length, take}
+use Rattle.std.specs.Prelude.{◌≡◌, Result, Ok, Err, List, Bool, true, ℕ, ◌≤◌, ◌<◌, length, take}
 use Rattle.meaning.specs.Depths.{none_open}
 use Rattle.meaning.specs.Limits.{largest_frame, most_variants}
 use Rattle.meaning_writing.specs.Strict.{is_written}
@@ -11,16 +11,19 @@ use Rattle.signature.specs.Places.{is_type}
 use Rattle.signature.specs.Trees.{tree_at}
 use Rattle.strict_sizes.specs.Sizes.{Tabled}
 use Rattle.editor_steps.specs.Walks.{new_of, barred, Walks, most}
-use Rattle.editor_steps.specs.declared.answers.Walked.{Walked}
+use Rattle.editor_steps.specs.Walked.{Walked}
 use Rattle.editor_steps.specs.declared.answers.Aim.{Aim}
-use Rattle.editor_change.specs.declared.Edited.{Edited}
+use Rattle.meaning.specs.Refused.{number_of}
+use Rattle.meaning.specs.declared.refusals.Refusal.{Refusal}
 use Rattle.editor_change.specs.declared.Target.{Target}
 
-abbrev pub answer_of : Edited → EditAnswer
-answer_of r = edit_answer r.refusal r.length
+-- the new frame's length, or a refusal, which has the length 0
+abbrev pub answer_of : Result ℕ Refusal → EditAnswer
+answer_of (Ok n) = edit_answer 0 n
+answer_of (Err r) = edit_answer (number_of r) 0
 
 -- an answer, and the buffer afterwards
-abbrev pub Edits : List ℕ → List ℕ → ℕ → ℕ → Aim → List ℕ → Edited → Type 0
+abbrev pub Edits : List ℕ → List ℕ → ℕ → ℕ → Aim → List ℕ → Result ℕ Refusal → Type 0
 Edits type buffer used i a buffer' r = (answer_of r ≡ edit type a.big buffer used i (new_of a.new)) × (buffer' ≡ edit_buffer type a.big buffer used i (new_of a.new))
 
 -- a frame that is a written form of a type, by the type's table

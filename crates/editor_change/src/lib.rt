@@ -5,26 +5,22 @@
 
 ghost use Rattle.std.specs.Prelude.{◌≡◌, ◌≤◌, length as length_of};
 ghost use Rattle.meaning_writing.specs.Editing.{length_refusal};
+ghost use Rattle.meaning.specs.Limits.{largest_frame};
+ghost use Rattle.meaning.specs.Refused.{refusal_in};
 ghost use Rattle.editor_steps.specs.Walks.{new_of};
+ghost use Rattle.editor_steps.specs.Walked.{walked_as};
 ghost use Rattle.editor_change.specs.Answers.{Edits, WrittenFrame, Held, WalksFrame, Changing, Storing};
 
 use container_depths::ContainerDepths;
 use editor_basic::mover::{put_part, put_zeros};
 use editor_cycle::value;
-use editor_steps::answers::{Aim, Walked};
+use editor_steps::answers::{Aim, Walk};
 use meaning::limits::LARGEST_FRAME;
-use meaning::refusals::{NO_SUCH_READING, OVER_LIMIT, ROOM_TOO_SMALL};
+use meaning::refusals::Refusal;
 use signature::shapes::shape_in;
 
 // The most bytes of a frame that is kept in a small array.
 const SMALL: usize = 1024;
-
-// What an edit answers: the refusal's number, 0 if done, and the new frame's length.
-#[derive(Clone, Copy)]
-pub struct Edited {
-    pub refusal: u8,
-    pub length: usize,
-}
 
 // A reading that was found: its number and what it becomes; where it stands, and how long the new frame is.
 #[derive(Clone, Copy)]
@@ -43,22 +39,15 @@ pub fn edit_written(
     used: usize,
     number: usize,
     aim: Aim,
-) -> Edited
+) -> Result<usize, Refusal>
     requires { Held signature.now tables.now buffer.old used }
     ensures { Edits signature.now buffer.old used number aim buffer.new result }
 {
     let mut none = [0u8; 0];
-    let walked = whole(signature, tables, &buffer[..used], number, aim, &mut none);
-    let found = walked.found;
-    if !found {
-        return refused(NO_SUCH_READING);
-    }
-    let refusal = walked.refusal;
-    if refusal != 0 {
-        return refused(refusal);
-    }
-    let place = walked.place;
-    let length = walked.length;
+    let walk = whole(signature, tables, &buffer[..used], number, aim, &mut none)?;
+    let Walk::Edited { place, length } = walk else {
+        return Err(Refusal::NoSuchReading);
+    };
     let target = Target {
         number,
         aim,
@@ -68,24 +57,17 @@ pub fn edit_written(
     change(signature, tables, buffer, used, target)
 }
 
-// Every refusal has length 0.
-pub fn refused(refusal: u8) -> Edited
-    ensures { result ≡ record { refusal = refusal; length = 0 } }
-{
-    Edited { refusal, length: 0 }
-}
-
 // A new frame over the limit, and then over the buffer.
-fn length_refusal(length: usize, room: usize) -> u8
-    ensures { result ≡ length_refusal length room }
+fn check_length(length: usize, room: usize) -> Result<(), Refusal>
+    ensures { refusal_in result ≡ length_refusal length room }
 {
     if LARGEST_FRAME < length {
-        return OVER_LIMIT;
+        return Err(Refusal::OverLimit);
     }
     if room < length {
-        return ROOM_TOO_SMALL;
+        return Err(Refusal::RoomTooSmall);
     }
-    0
+    Ok(())
 }
 
 // An edit of a reading that was found, and may become what is asked.
@@ -95,46 +77,29 @@ fn change(
     buffer: &mut [u8],
     used: usize,
     target: Target,
-) -> Edited
+) -> Result<usize, Refusal>
     requires { Changing signature.now tables.now buffer.old used target }
     ensures { Edits signature.now buffer.old used target.number target.aim buffer.new result }
 {
-    let refusal = length_refusal(target.length, buffer.len());
-    if refusal != 0 {
-        return refused(refusal);
-    }
+    check_length(target.length, buffer.len())?;
     if used <= SMALL {
-        return change_small(signature, tables, buffer, used, target);
+        return change_within::<SMALL>(signature, tables, buffer, used, target);
     }
-    change_large(signature, tables, buffer, used, target)
+    change_within::<LARGEST_FRAME>(signature, tables, buffer, used, target)
 }
 
 // Where there is room: the old frame is kept in an array of its own, which for a small frame is a small one, quickly laid out.
-fn change_small(
+fn change_within<const SIZE: usize>(
     signature: &[u8],
     tables: &[u16],
     buffer: &mut [u8],
     used: usize,
     target: Target,
-) -> Edited
-    requires { (used ≤ 1024) × Storing signature.now tables.now buffer.old used target }
+) -> Result<usize, Refusal>
+    requires { (used ≤ SIZE) × (SIZE ≤ largest_frame) × Storing signature.now tables.now buffer.old used target }
     ensures { Edits signature.now buffer.old used target.number target.aim buffer.new result }
 {
-    let mut old = [0u8; SMALL];
-    store(signature, tables, &mut old, buffer, used, target)
-}
-
-fn change_large(
-    signature: &[u8],
-    tables: &[u16],
-    buffer: &mut [u8],
-    used: usize,
-    target: Target,
-) -> Edited
-    requires { Storing signature.now tables.now buffer.old used target }
-    ensures { Edits signature.now buffer.old used target.number target.aim buffer.new result }
-{
-    let mut old = [0u8; LARGEST_FRAME];
+    let mut old = [0u8; SIZE];
     store(signature, tables, &mut old, buffer, used, target)
 }
 
@@ -146,28 +111,25 @@ fn store(
     buffer: &mut [u8],
     used: usize,
     target: Target,
-) -> Edited
+) -> Result<usize, Refusal>
     requires { (used ≤ length_of old.old) × Storing signature.now tables.now buffer.old used target }
     ensures { Edits signature.now buffer.old used target.number target.aim buffer.new result }
 {
-    let number = target.number;
-    let aim = target.aim;
-    let place = target.place;
     let length = target.length;
     put_part(old, 0, &buffer[..used]);
     whole(
         signature,
         tables,
         &old[..used],
-        number,
-        aim,
-        &mut buffer[place..],
-    );
+        target.number,
+        target.aim,
+        &mut buffer[target.place..],
+    )?;
     if length < used {
         let behind = used - length;
         put_zeros(&mut buffer[length..], 0, behind);
     }
-    Edited { refusal: 0, length }
+    Ok(length)
 }
 
 // One walk over a frame that is a written form, by its type's table. The output is the buffer's tail from the reading on, or has no
@@ -179,9 +141,9 @@ fn whole(
     number: usize,
     aim: Aim,
     out: &mut [u8],
-) -> Walked
+) -> Result<Walk, Refusal>
     requires { WrittenFrame signature.now tables.now frame.now }
-    ensures { WalksFrame signature.now aim.big frame.now number (new_of aim.new) out.old out.new result }
+    ensures { WalksFrame signature.now aim.big frame.now number (new_of aim.new) out.old out.new (walked_as result) }
 {
     let depths = ContainerDepths::new();
     let shape = shape_in(signature, tables, 0);

@@ -4,15 +4,17 @@ ghost use Rattle.container_depths.specs.Opening.{depths_of};
 ghost use Rattle.signature.specs.Places.{letter_at};
 ghost use Rattle.strict_sizes.specs.Items.{Placed, tree_test};
 ghost use Rattle.editor_steps.specs.Walks.{new_of, tree_editor, Walks, container_most, most, Ready, item_editor, item_test, Repeats, elements_test, elements_editor};
+ghost use Rattle.editor_steps.specs.Walked.{walked_as};
 
 use crate::dictionary::step;
 use container_depths::ContainerDepths;
-use editor_basic::elements::{behind, first_element};
-use editor_steps::answers::{Aim, Walked, counted};
+use editor_basic::elements::{Child, behind, first_element};
+use editor_steps::answers::{Aim, Walk};
 use editor_steps::closing::close_element;
 use editor_steps::reading::is_slot;
 use editor_steps::readings::readings;
 use editor_steps::starts::elements_of;
+use meaning::refusals::Refusal;
 use signature::Letter;
 use signature::items::{Item, item_of};
 use signature::shapes::Shape;
@@ -28,17 +30,15 @@ pub(crate) fn array(
     aim: Aim,
     d: ContainerDepths,
     out: &mut [u8],
-) -> Walked
+) -> Result<Walk, Refusal>
     requires { Placed text.now tables.now shape × (letter_at text.now shape.at ≡ Letter.Array) × Ready (tree_test d.variant text.now shape.at) d place part.now }
-    ensures { Walks (tree_editor aim.big d.variant text.now shape.at) (depths_of d) place part.now number (new_of aim.new) (most d) out.old out.new result }
+    ensures { Walks (tree_editor aim.big d.variant text.now shape.at) (depths_of d) place part.now number (new_of aim.new) (most d) out.old out.new (walked_as result) }
 {
     let item = item_of(text, tables, shape);
-    let fixed = item.fixed;
-    if fixed {
-        return counted(0);
+    if item.fixed {
+        return Ok(Walk::Counted(0));
     }
-    let raised = d.inc_array();
-    let deeper = raised.depths;
+    let deeper = d.inc_array()?;
     let kind = item.number;
     if is_slot(kind) {
         return readings(kind, item.alignment, part, place, number, aim, deeper, out);
@@ -58,25 +58,21 @@ fn elements(
     aim: Aim,
     d: ContainerDepths,
     out: &mut [u8],
-) -> Walked
+) -> Result<Walk, Refusal>
     requires { Repeats text.now tables.now item × Ready (elements_test (item_test d.variant text.now item)) d place part.now }
-    ensures { Walks (elements_editor (item_editor aim.big d.variant text.now item)) (depths_of d) place part.now number (new_of aim.new) (most d + container_most) out.old out.new result }
+    ensures { Walks (elements_editor (item_editor aim.big d.variant text.now item)) (depths_of d) place part.now number (new_of aim.new) (most d + container_most) out.old out.new (walked_as result) }
 {
     let all = elements_of(part, item.alignment);
     let mut rest = all;
     let mut left = number;
-    while 0 < rest.count {
-        let child = first_element(part, rest);
-        let start = child.start;
-        let end = child.end;
+    for _ in 0..all.count {
+        let Child { start, end } = first_element(part, rest);
         let held = &part[start..end];
-        let walked = step(text, tables, item, held, place + start, left, aim, d, out);
-        let found = walked.found;
-        if found {
-            return close_element(walked, place, start, end, part, all, rest, out);
+        match step(text, tables, item, held, place + start, left, aim, d, out)? {
+            Walk::Counted(count) => left -= count,
+            walk => return Ok(close_element(walk, place, start, end, part, all, rest, out)),
         }
-        left = left - walked.length;
         rest = behind(rest, end);
     }
-    counted(number - left)
+    Ok(Walk::Counted(number - left))
 }

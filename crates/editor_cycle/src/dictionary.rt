@@ -2,12 +2,14 @@
 ghost use Rattle.std.specs.Prelude.{◌+◌};
 ghost use Rattle.container_depths.specs.Opening.{depths_of};
 ghost use Rattle.editor_steps.specs.Walks.{new_of, Walks, entry_most, most, Ready, item_editor, item_test, Repeats};
+ghost use Rattle.editor_steps.specs.Walked.{walked_as};
 
 use crate::value;
 use container_depths::ContainerDepths;
-use editor_steps::answers::{Aim, Walked, counted};
+use editor_steps::answers::{Aim, Walk};
 use editor_steps::closing::close_last;
-use editor_steps::starts::entry_of;
+use editor_steps::starts::{Entry, entry_of};
+use meaning::refusals::Refusal;
 use signature::items::Item;
 
 // An element, or an entry: a key, which holds no reading, and a value.
@@ -22,24 +24,19 @@ pub(crate) fn step(
     aim: Aim,
     d: ContainerDepths,
     out: &mut [u8],
-) -> Walked
+) -> Result<Walk, Refusal>
     requires { Repeats text.now tables.now item × Ready (item_test d.variant text.now item) d place part.now }
-    ensures { Walks (item_editor aim.big d.variant text.now item) (depths_of d) place part.now number (new_of aim.new) (most d + entry_most) out.old out.new result }
+    ensures { Walks (item_editor aim.big d.variant text.now item) (depths_of d) place part.now number (new_of aim.new) (most d + entry_most) out.old out.new (walked_as result) }
 {
-    let entry = item.entry;
     let inner = item.child;
-    if !entry {
+    if !item.entry {
         return value(text, tables, inner, part, place, number, aim, d, out);
     }
-    let fixed = inner.fixed;
-    if fixed {
-        return counted(0);
+    if inner.fixed {
+        return Ok(Walk::Counted(0));
     }
-    let key = item.key;
-    let lies = entry_of(part, key, inner.alignment);
-    let start = lies.start;
-    let body = lies.body;
-    let walked = value(
+    let Entry { start, body, width } = entry_of(part, item.key, inner.alignment);
+    let walk = value(
         text,
         tables,
         inner,
@@ -49,6 +46,6 @@ pub(crate) fn step(
         aim,
         d,
         out,
-    );
-    close_last(walked, place, start, part, body, lies.width, out)
+    )?;
+    Ok(close_last(walk, place, start, part, body, width, out))
 }

@@ -12,13 +12,15 @@ mod variant;
 ghost use Rattle.container_depths.specs.Opening.{depths_of};
 ghost use Rattle.strict_sizes.specs.Items.{Placed, tree_test};
 ghost use Rattle.editor_steps.specs.Walks.{new_of, tree_editor, Walks, most, Ready};
+ghost use Rattle.editor_steps.specs.Walked.{walked_as};
 
 use crate::array::array;
 use crate::maybe::maybe;
 use crate::structure::structure;
 use crate::variant::variant;
 use container_depths::ContainerDepths;
-use editor_steps::answers::{Aim, Walked, counted};
+use editor_steps::answers::{Aim, Walk};
+use meaning::refusals::Refusal;
 use signature::Letter;
 use signature::shapes::Shape;
 
@@ -34,16 +36,15 @@ pub fn value(
     aim: Aim,
     d: ContainerDepths,
     out: &mut [u8],
-) -> Walked
+) -> Result<Walk, Refusal>
     requires { Placed text.now tables.now shape × Ready (tree_test d.variant text.now shape.at) d place part.now }
-    ensures { Walks (tree_editor aim.big d.variant text.now shape.at) (depths_of d) place part.now number (new_of aim.new) (most d) out.old out.new result }
+    ensures { Walks (tree_editor aim.big d.variant text.now shape.at) (depths_of d) place part.now number (new_of aim.new) (most d) out.old out.new (walked_as result) }
 {
-    let kind = shape.kind;
-    match kind {
+    match shape.kind {
         Letter::Maybe => maybe(text, tables, shape, part, place, number, aim, d, out),
         Letter::Array => array(text, tables, shape, part, place, number, aim, d, out),
         Letter::OpenStructure => structure(text, tables, shape, part, place, number, aim, d, out),
         Letter::Variant => variant(part, place, number, aim, d, out),
-        _ => counted(0),
+        _ => Ok(Walk::Counted(0)),
     }
 }

@@ -4,12 +4,14 @@ ghost use Rattle.container_depths.specs.Opening.{depths_of};
 ghost use Rattle.signature.specs.Places.{letter_at};
 ghost use Rattle.strict_sizes.specs.Items.{Placed, tree_test};
 ghost use Rattle.editor_steps.specs.Walks.{new_of, tree_editor, Walks, most, Ready};
+ghost use Rattle.editor_steps.specs.Walked.{walked_as};
 
 use crate::value;
 use container_depths::ContainerDepths;
-use editor_steps::answers::{Aim, Walked, counted};
+use editor_steps::answers::{Aim, Walk};
 use editor_steps::closing::close_maybe;
 use editor_steps::reading::{is_slot, reading};
+use meaning::refusals::Refusal;
 use signature::Letter;
 use signature::shapes::{Shape, shape_in};
 
@@ -24,9 +26,9 @@ pub(crate) fn maybe(
     aim: Aim,
     d: ContainerDepths,
     out: &mut [u8],
-) -> Walked
+) -> Result<Walk, Refusal>
     requires { Placed text.now tables.now shape × (letter_at text.now shape.at ≡ Letter.Maybe) × Ready (tree_test d.variant text.now shape.at) d place part.now }
-    ensures { Walks (tree_editor aim.big d.variant text.now shape.at) (depths_of d) place part.now number (new_of aim.new) (most d) out.old out.new result }
+    ensures { Walks (tree_editor aim.big d.variant text.now shape.at) (depths_of d) place part.now number (new_of aim.new) (most d) out.old out.new (walked_as result) }
 {
     let held = shape_in(text, tables, shape.at + 1);
     let kind = held.kind;
@@ -34,17 +36,12 @@ pub(crate) fn maybe(
         return reading(kind, place, number, aim, d, out);
     }
     let len = part.len();
-    if len == 0 {
-        return counted(0);
+    if len == 0 || held.fixed {
+        return Ok(Walk::Counted(0));
     }
-    let fixed = held.fixed;
-    if fixed {
-        return counted(0);
-    }
-    let raised = d.inc_maybe();
-    let deeper = raised.depths;
+    let deeper = d.inc_maybe()?;
     let end = len - 1;
-    let walked = value(
+    let walk = value(
         text,
         tables,
         held,
@@ -54,6 +51,6 @@ pub(crate) fn maybe(
         aim,
         deeper,
         out,
-    );
-    close_maybe(walked, place, out)
+    )?;
+    Ok(close_maybe(walk, place, out))
 }

@@ -4,14 +4,16 @@ ghost use Rattle.container_depths.specs.Opening.{depths_of};
 ghost use Rattle.signature.specs.Places.{letter_at};
 ghost use Rattle.strict_sizes.specs.Items.{Placed, tree_test};
 ghost use Rattle.editor_steps.specs.Walks.{new_of, tree_editor, Walks, container_most, most, Ready, row_test, row_editor};
+ghost use Rattle.editor_steps.specs.Walked.{walked_as};
 ghost use Rattle.editor_steps.specs.Starts.{AllRow, row_tests, row_editors};
 
 use crate::value;
 use container_depths::ContainerDepths;
 use editor_basic::fields::{Row, behind_field, first_field};
-use editor_steps::answers::{Aim, Walked, counted};
+use editor_steps::answers::{Aim, Walk};
 use editor_steps::closing::close_field;
 use editor_steps::starts::row_of;
+use meaning::refusals::Refusal;
 use signature::Letter;
 use signature::shapes::{Shape, shape_in};
 use strict_sizes::sizes::offsets_in;
@@ -27,16 +29,14 @@ pub(crate) fn structure(
     aim: Aim,
     d: ContainerDepths,
     out: &mut [u8],
-) -> Walked
+) -> Result<Walk, Refusal>
     requires { Placed text.now tables.now shape × (letter_at text.now shape.at ≡ Letter.OpenStructure) × Ready (tree_test d.variant text.now shape.at) d place part.now }
-    ensures { Walks (tree_editor aim.big d.variant text.now shape.at) (depths_of d) place part.now number (new_of aim.new) (most d) out.old out.new result }
+    ensures { Walks (tree_editor aim.big d.variant text.now shape.at) (depths_of d) place part.now number (new_of aim.new) (most d) out.old out.new (walked_as result) }
 {
-    let fixed = shape.fixed;
-    if fixed {
-        return counted(0);
+    if shape.fixed {
+        return Ok(Walk::Counted(0));
     }
-    let raised = d.inc_structure();
-    let deeper = raised.depths;
+    let deeper = d.inc_structure()?;
     let row = row_of(shape.at + 1, part.len(), offsets_in(tables, shape));
     fields(text, tables, row, part, place, number, aim, deeper, out)
 }
@@ -53,27 +53,23 @@ fn fields(
     aim: Aim,
     d: ContainerDepths,
     out: &mut [u8],
-) -> Walked
+) -> Result<Walk, Refusal>
     requires { AllRow text.now tables.now all part.now × Ready (row_test 1 (row_tests d.variant text.now all.at)) d place part.now }
-    ensures { Walks (row_editor 1 (row_editors aim.big d.variant text.now all.at)) (depths_of d) place part.now number (new_of aim.new) (most d + container_most) out.old out.new result }
+    ensures { Walks (row_editor 1 (row_editors aim.big d.variant text.now all.at)) (depths_of d) place part.now number (new_of aim.new) (most d + container_most) out.old out.new (walked_as result) }
 {
     let mut row = all;
     let mut left = number;
     loop {
         let field = first_field(text, tables, part, row);
         let inner = shape_in(text, tables, row.at);
-        let start = field.start;
-        let stop = field.stop;
-        let held = &part[start..stop];
-        let walked = value(text, tables, inner, held, place + start, left, aim, d, out);
-        let found = walked.found;
-        if found {
-            return close_field(walked, place, text, tables, part, row, field, out);
+        let held = &part[field.start..field.stop];
+        let from = place + field.start;
+        match value(text, tables, inner, held, from, left, aim, d, out)? {
+            Walk::Counted(count) => left -= count,
+            walk => return Ok(close_field(walk, place, text, tables, part, row, field, out)),
         }
-        left = left - walked.length;
-        let last = field.last;
-        if last {
-            return counted(number - left);
+        if field.last {
+            return Ok(Walk::Counted(number - left));
         }
         row = behind_field(row, field);
     }

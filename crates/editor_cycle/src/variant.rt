@@ -1,13 +1,14 @@
 // Variants: the value that holds the reading, and its type behind it.
 ghost use Rattle.container_depths.specs.Opening.{depths_of};
 ghost use Rattle.editor_steps.specs.Walks.{new_of, Walks, most, Ready, variant_test, variant_editor};
+ghost use Rattle.editor_steps.specs.Walked.{walked_as};
 
 use crate::value;
 use container_depths::ContainerDepths;
-use editor_steps::answers::{Aim, Walked, counted};
+use editor_steps::answers::{Aim, Walk};
 use editor_steps::closing::close_variant;
+use meaning::refusals::Refusal;
 use reader_basic::basic::separator;
-use signature::Letter;
 use signature::shapes::shape_in;
 use strict_sizes::sizes::{TABLE, tables_of};
 
@@ -20,32 +21,22 @@ pub(crate) fn variant(
     aim: Aim,
     d: ContainerDepths,
     out: &mut [u8],
-) -> Walked
+) -> Result<Walk, Refusal>
     requires { Ready (variant_test d) d place part.now }
-    ensures { Walks (variant_editor aim.big d) (depths_of d) place part.now number (new_of aim.new) (most d) out.old out.new result }
+    ensures { Walks (variant_editor aim.big d) (depths_of d) place part.now number (new_of aim.new) (most d) out.old out.new (walked_as result) }
 {
     let s = separator(part);
-    let raised = d.inc_variant();
-    let deeper = raised.depths;
+    let deeper = d.inc_variant()?;
     let end = s - 1;
     let signature = &part[s..];
     let mut tables = [0u16; TABLE];
     if !tables_of(signature, &mut tables) {
-        return counted(0);
+        return Ok(Walk::Counted(0));
     }
     let shape = shape_in(signature, &tables, 0);
     let held = &part[..end];
-    let kind = shape.kind;
-    match kind {
-        Letter::Variant => {
-            let walked = variant(held, place, number, aim, deeper, out);
-            close_variant(walked, place, signature, out)
-        }
-        _ => {
-            let walked = value(
-                signature, &tables, shape, held, place, number, aim, deeper, out,
-            );
-            close_variant(walked, place, signature, out)
-        }
-    }
+    let walk = value(
+        signature, &tables, shape, held, place, number, aim, deeper, out,
+    )?;
+    Ok(close_variant(walk, place, signature, out))
 }

@@ -33,10 +33,10 @@ use Rattle.editor_basic.proofs.WrittenLaws.{elements_stand}
 use Rattle.editor_basic.proofs.PassedLaws.{end_of_more}
 use Rattle.editor_basic.proofs.FoundLaws.{array_now}
 use Rattle.editor_basic.specs.Puts.{rest_most}
-use Rattle.editor_steps.specs.declared.answers.Walked.{Walked}
+use Rattle.editor_steps.specs.Walked.{Walked, counted_as}
 use Rattle.editor_steps.specs.Walks.{Walks, Ready, elements_editor}
 use Rattle.editor_steps.specs.Starts.{body_of, AllOf}
-use Rattle.editor_steps.specs.Closing.{counted_as, edits, Fits, end_now, front_of, Behind, Closes}
+use Rattle.editor_steps.specs.Closing.{edits, Fits, end_now, front_of, Behind, Closes}
 use Rattle.editor_steps.proofs.WalkLaws.{counts, fits_here, found_closed}
 use Rattle.editor_steps.proofs.Children.{count_append, count_cons, count_none, among_count, among_edited, among_spot, child_of, alike_append, alike_cons, alike_none, alike_pieces}
 

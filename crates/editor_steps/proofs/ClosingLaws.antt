@@ -6,6 +6,10 @@ use Prim.Native.Nat.{ℕ, zero, suc, ◌+◌, ◌-◌, ◌*◌, ◌≤◌, ◌<�
 use native.Mathlib.Omega.{arith}
 use lib.Dec.{leb, eqb}
 use lib.ListN.{length}
+use borrow.Author.Tests.{ne_eqb}
+use Rattle.meaning.specs.Refused.{number_of}
+use Rattle.meaning.specs.declared.refusals.Refusal.{Refusal}
+use Rattle.meaning.proofs.RefusalLaws.{number_not_0}
 use Rattle.meaning.specs.Choice.{pick}
 use Rattle.meaning.specs.Numbers.{value}
 use Rattle.meaning.specs.Padding.{padding}
@@ -23,8 +27,8 @@ use Rattle.strict_sizes.specs.Sizes.{offsets_in}
 use Rattle.editor_basic.specs.Elements.{behind_of, rises, Standing, rest_now, length_now}
 use Rattle.editor_basic.specs.Rows.{behind_field, StandingRow, last_now, row_now, row_length_now}
 use Rattle.editor_basic.proofs.FinishLaws.{array_rest_length, structure_rest_length}
-use Rattle.editor_steps.specs.declared.answers.Walked.{Walked}
-use Rattle.editor_steps.specs.Closing.{edited_as, edits, end_now, end_in, Closes, front_of, FieldBehind, field_rest}
+use Rattle.editor_steps.specs.Walked.{Walked, edited_as, refused_as}
+use Rattle.editor_steps.specs.Closing.{edits, end_now, end_in, Closes, front_of, FieldBehind, field_rest}
 use Rattle.editor_steps.proofs.WalkLaws.{unfound}
 
 module _ (p start : ℕ) (rest : List ℕ) (more : ℕ) (w : Walked) where
@@ -114,5 +118,6 @@ field_closed text row f l p w n out out' at r rest h g q b m k a o =
     closes_as (ap (λ (z : Row). row_now text z l (end_now f.start w)) b ∙ sym (rest_row text row f l (end_now f.start w) g)) (omega arith)
     (closes_joined p f.start (row_now text rest l (end_now f.start w)) rest_most w out out' n at r h q (structure_rest_length text rest l (end_now f.start w) ∙ sym m) a o (omega arith))
 
-pub edits_by : (w : Walked) → w.found ≡ true → eqb w.refusal 0 ≡ edits w
-edits_by w h = rw h
+-- a refusal is handed on
+pub closes_refused : (p start : ℕ) (rest : List ℕ) (more : ℕ) (e : Refusal) (out : List ℕ) → Closes p start rest more (refused_as (number_of e)) out out (refused_as (number_of e))
+closes_refused p start rest more e out = closes_same p start rest more (refused_as (number_of e)) out (ne_eqb (number_of e) 0 (number_not_0 e))

@@ -34,7 +34,7 @@ use Rattle.editor_basic.proofs.ShapeLaws.{editor_alignment, editor_fixed}
 use Rattle.editor_basic.proofs.PassedLaws.{last_now_lem, key_fixed_lem, key_loose}
 use Rattle.editor_basic.proofs.FoundLaws.{up_to_end_lem}
 use Rattle.editor_basic.specs.Puts.{last_most}
-use Rattle.editor_steps.specs.declared.answers.Walked.{Walked}
+use Rattle.editor_steps.specs.Walked.{Walked}
 use Rattle.editor_steps.specs.declared.starts.Entry.{Entry}
 use Rattle.editor_steps.specs.Walks.{tree_editor, Walks, entry_most, most, Ready, letter_editor, entry_editors, item_editor, item_test, Repeats}
 use Rattle.editor_steps.specs.Starts.{key_offsets, key_end, entry_as, KeyFits}

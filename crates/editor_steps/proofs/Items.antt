@@ -19,7 +19,7 @@ use Rattle.meaning_writing.proofs.StrictSteps.{test_array, test_dictionary, test
 use Rattle.meaning_writing.proofs.EditedSteps.{editor_array, editor_dictionary}
 use Rattle.container_depths.specs.Opening.{depths_of, Raises}
 use Rattle.container_depths.specs.declared.ContainerDepths.{ContainerDepths}
-use Rattle.container_depths.specs.declared.Raised.{Raised}
+use Rattle.container_depths.specs.Opening.{Raised}
 use Rattle.signature.specs.Places.{basic_kind, letter_at}
 use Rattle.signature.specs.Items.{item_in, EntryOf, ElementOf}
 use Rattle.signature.specs.Trees.{tree_at}
@@ -33,7 +33,7 @@ use Rattle.strict_sizes.specs.Items.{Placed, tree_test}
 use Rattle.strict_basic.proofs.BasicLaws.{letter_test_lem, letter_laid}
 use Rattle.strict_sizes.proofs.ItemLaws.{found_placed, found_entry, found_element}
 use Rattle.editor_basic.proofs.ShapeLaws.{editor_alignment, editor_fixed}
-use Rattle.editor_steps.specs.declared.answers.Walked.{Walked}
+use Rattle.editor_steps.specs.Walked.{Walked}
 use Rattle.editor_steps.specs.Walks.{tree_editor, Walks, container_most, most, Ready, letter_editor, entry_editors, entry_tests, item_editor, item_test, Repeats, elements_test, elements_editor}
 use Rattle.editor_steps.proofs.WalkLaws.{walks_by}
 use Rattle.editor_steps.proofs.Values.{Deeper, deeper_true, deepens}

@@ -27,12 +27,10 @@ use Rattle.strict_ends.specs.Ends.{Laid}
 use Rattle.strict_ends.specs.declared.Extent.{Extent}
 use Rattle.editor_basic.specs.Puts.{over}
 use Rattle.editor_steps.specs.declared.answers.Aim.{Aim}
-use Rattle.editor_steps.specs.declared.answers.New.TheVariants as New
-use Rattle.editor_steps.specs.declared.answers.New.TheVariants.{Nothing}
-use Rattle.editor_steps.specs.declared.answers.Walked.{Walked}
+use Rattle.std.specs.Prelude.{None, Some}
+use Rattle.editor_steps.specs.Walked.{Walked, counted_as, refused_as, edited_as}
 use Rattle.editor_steps.specs.Walks.{new_of, barred, Walks, most}
 use Rattle.editor_steps.specs.Slots.{is_slot, letter_spells}
-use Rattle.editor_steps.specs.Closing.{counted_as, refused_as, edited_as}
 use Rattle.editor_steps.proofs.WalkLaws.{unfound, counts}
 
 -- ---- letters
@@ -166,7 +164,7 @@ pub width_small : (k : Letter) → Laid (letter_extent k) → (x : Extent) → x
 width_small k g x h = let q = ap (λ (y : Extent). y.size) h in omega (arith, g.small)
 
 module _ (aim : Aim) {u : Tree} (s : Slot u) (a : ℕ) (fx : Bool) (t : Editor) (d : Depths) (p : ℕ) (l : List ℕ) (i m : ℕ) (out out' : List ℕ) (r : Walked) where
-  pub nothing_put : i ≤ 0 → r ≡ edited_as p 0 → aim.new ≡ Nothing → out' ≡ out → Walks (maybe_editor aim.big (some s) a fx t) d p l i (new_of aim.new) m out out' r
+  pub nothing_put : i ≤ 0 → r ≡ edited_as p 0 → aim.new ≡ None → out' ≡ out → Walks (maybe_editor aim.big (some s) a fx t) d p l i (new_of aim.new) m out out' r
   unfolding slot_bytes over
   nothing_put g h q o =
       ap_new q (slot_made aim.big s a fx t d p l i none m out out' r 0 g h (bars_none s p d) (bytes_none aim.big s) (omega arith) (o ∙ ap (λ (z : List ℕ). over out 0 z) (sym (none_bytes aim.big s))))
@@ -179,10 +177,10 @@ module _ (aim : Aim) {u : Tree} (s : Slot u) (a : ℕ) (fx : Bool) (t : Editor) 
       none_bytes big of_bool = refl
       none_bytes big (of_number c) = refl
 
-      ap_new : aim.new ≡ Nothing → Walks (maybe_editor aim.big (some s) a fx t) d p l i none m out out' r → Walks (maybe_editor aim.big (some s) a fx t) d p l i (new_of aim.new) m out out' r
+      ap_new : aim.new ≡ None → Walks (maybe_editor aim.big (some s) a fx t) d p l i none m out out' r → Walks (maybe_editor aim.big (some s) a fx t) d p l i (new_of aim.new) m out out' r
       ap_new q w = subst (λ (x : MaybeNumber). Walks (maybe_editor aim.big (some s) a fx t) d p l i x m out out' r) (sym (ap new_of q)) w
 
-  pub number_put : (n : ℕ) → i ≤ 0 → aim.new ≡ New.Number n → Walks (maybe_editor aim.big (some s) a fx t) d p l 0 (some n) m out out' r
+  pub number_put : (n : ℕ) → i ≤ 0 → aim.new ≡ Some n → Walks (maybe_editor aim.big (some s) a fx t) d p l 0 (some n) m out out' r
       → Walks (maybe_editor aim.big (some s) a fx t) d p l i (new_of aim.new) m out out' r
   number_put n g q w =
       let z : i ≡ 0 = omega arith in

@@ -40,11 +40,11 @@ use Rattle.editor_basic.specs.declared.elements.Child as element
 use Rattle.editor_basic.proofs.ElementLaws.{first_of}
 use Rattle.editor_basic.specs.Puts.{rest_most}
 use Rattle.editor_steps.specs.declared.answers.Aim.{Aim}
-use Rattle.editor_steps.specs.declared.answers.Walked.{Walked}
+use Rattle.editor_steps.specs.Walked.{Walked, counted_as}
 use Rattle.editor_steps.specs.Walks.{new_of, Walks, container_most, most, Ready, item_editor, item_test, elements_test, elements_editor}
 use Rattle.editor_steps.specs.Slots.{is_slot, Reads}
 use Rattle.editor_steps.specs.Starts.{body_of, AllOf}
-use Rattle.editor_steps.specs.Closing.{counted_as, edits, Fits, end_now, front_of, Behind, Closes}
+use Rattle.editor_steps.specs.Closing.{edits, Fits, end_now, front_of, Behind, Closes}
 use Rattle.editor_steps.specs.ReadingArrays.{from_nth, Slotted, ReadyEach, ReadsEach}
 use Rattle.editor_steps.proofs.Values.{most_small, slot_there, held_placed, tree_is, maybe_editor_lem}
 use Rattle.editor_steps.proofs.Arrays.{ElementsLeft, body_inside, elements_begin, elements_next, elements_behind, elements_counted, element_fits, elements_found}

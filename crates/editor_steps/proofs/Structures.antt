@@ -26,7 +26,7 @@ use Rattle.meaning_writing.proofs.StrictSteps.{test_structure}
 use Rattle.meaning_writing.proofs.EditedSteps.{editor_structure, editors_last, editors_next, end_of, up_to, up_to_end}
 use Rattle.container_depths.specs.Opening.{depths_of, Raises}
 use Rattle.container_depths.specs.declared.ContainerDepths.{ContainerDepths}
-use Rattle.container_depths.specs.declared.Raised.{Raised}
+use Rattle.container_depths.specs.Opening.{Raised}
 use Rattle.signature.specs.Places.{letter_at}
 use Rattle.signature.specs.Shapes.{shape_in}
 use Rattle.signature.specs.Trees.{tree_at, fields_at}
@@ -46,10 +46,10 @@ use Rattle.editor_basic.proofs.WrittenLaws.{row_stands, field_accepted, fields_a
 use Rattle.editor_basic.proofs.PassedLaws.{Passed, passed_begin, passed_next, passed_behind, last_rewritten, row_rewritten}
 use Rattle.editor_basic.proofs.FoundLaws.{up_to_end_lem}
 use Rattle.editor_basic.specs.Puts.{rest_most}
-use Rattle.editor_steps.specs.declared.answers.Walked.{Walked}
+use Rattle.editor_steps.specs.Walked.{Walked, counted_as}
 use Rattle.editor_steps.specs.Walks.{tree_editor, Walks, container_most, most, Ready, row_test, row_editor}
 use Rattle.editor_steps.specs.Starts.{row_as, row_tests, row_editors, AllRow}
-use Rattle.editor_steps.specs.Closing.{counted_as, edits, Fits, end_now, FieldBehind, field_rest, Closes}
+use Rattle.editor_steps.specs.Closing.{edits, Fits, end_now, FieldBehind, field_rest, Closes}
 use Rattle.editor_steps.proofs.WalkLaws.{counts, walks_by, fits_here, found_closed}
 use Rattle.editor_steps.proofs.ClosingLaws.{rest_last, rest_row}
 use Rattle.editor_steps.proofs.Children.{child_of, Gone, gone_begin, gone_less, gone_end, gone_next, gone_within, gone_edited, gone_spot, pieces_append}

@@ -25,7 +25,7 @@ use Rattle.meaning_writing.proofs.StrictSteps.{test_maybe}
 use Rattle.meaning_writing.proofs.EditedSteps.{editor_basic, editor_maybe, editor_structure}
 use Rattle.container_depths.specs.Opening.{depths_of, Raises, level}
 use Rattle.container_depths.specs.declared.ContainerDepths.{ContainerDepths}
-use Rattle.container_depths.specs.declared.Raised.{Raised}
+use Rattle.container_depths.specs.Opening.{Raised}
 use Rattle.container_depths.proofs.Levels.{raised_to, raised_shallow, level_falls}
 use Rattle.signature.specs.Places.{basic_kind, letter_at}
 use Rattle.signature.specs.Shapes.{shape_in}
@@ -41,7 +41,7 @@ use Rattle.strict_ends.specs.Ends.{Laid}
 use Rattle.strict_sizes.specs.Items.{Placed, tree_test}
 use Rattle.strict_basic.proofs.BasicLaws.{letter_laid}
 use Rattle.editor_steps.specs.declared.answers.Aim.{Aim}
-use Rattle.editor_steps.specs.declared.answers.Walked.{Walked}
+use Rattle.editor_steps.specs.Walked.{Walked}
 use Rattle.editor_steps.specs.Walks.{new_of, tree_editor, Walks, most, Ready, variant_test, variant_editor}
 use Rattle.editor_steps.specs.Slots.{is_slot, Reads}
 use Rattle.editor_steps.specs.Closing.{edits, Fits, Closes}

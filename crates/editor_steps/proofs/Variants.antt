@@ -26,13 +26,13 @@ use Rattle.meaning_writing.proofs.EditedSteps.{editor_variant}
 use Rattle.meaning.proofs.Bounds.{total_most}
 use Rattle.container_depths.specs.Opening.{depths_of, Raises}
 use Rattle.container_depths.specs.declared.ContainerDepths.{ContainerDepths}
-use Rattle.container_depths.specs.declared.Raised.{Raised}
+use Rattle.container_depths.specs.Opening.{Raised}
 use Rattle.signature.specs.Places.{is_type}
 use Rattle.signature.specs.Trees.{tree_at}
 use Rattle.signature.proofs.Answers.{judged_none}
 use Rattle.signature.proofs.TreeLaws.{Front}
 use Rattle.strict_sizes.specs.Items.{tree_test}
-use Rattle.editor_steps.specs.declared.answers.Walked.{Walked}
+use Rattle.editor_steps.specs.Walked.{Walked}
 use Rattle.editor_steps.specs.Walks.{tree_editor, Walks, most, Ready, variant_test, variant_editor}
 use Rattle.editor_steps.specs.Closing.{edits, Fits, Closes}
 use Rattle.editor_steps.proofs.WalkLaws.{fits_here, through_closed}

@@ -12,9 +12,11 @@ use Rattle.meaning_writing.specs.Readings.{MaybeNumber, Spot}
 use Rattle.meaning_writing.specs.Edited.{Editor}
 use Rattle.editor_basic.specs.Puts.{over}
 use Rattle.editor_basic.proofs.FoundLaws.{found_composed}
-use Rattle.editor_steps.specs.declared.answers.Walked.{Walked}
+use Rattle.editor_steps.specs.Walked.{Walked, counted_as, walk_as}
+use Rattle.editor_steps.specs.declared.answers.Walk.{Walk}
+use Rattle.editor_steps.specs.declared.answers.Walk.TheVariants.{Counted, Edited}
 use Rattle.editor_steps.specs.Walks.{barred, Walks}
-use Rattle.editor_steps.specs.Closing.{counted_as, edits, Fits, end_in, Closes}
+use Rattle.editor_steps.specs.Closing.{edits, Fits, end_in, Closes}
 
 -- ---- an answer that counts
 
@@ -27,6 +29,15 @@ counts e d p l i x m out out' n r h c b k = record {
   past = λ f. record { count_is = ap (λ (w : Walked). w.length) h ∙ c; beyond = omega (arith, ap (λ (w : Walked). w.length) h); kept = k };
   here = λ f. unfound (ap (λ (w : Walked). w.found) h) f;
 }
+
+-- what does not count is found
+pub walk_found : (w : Walk) → ((n : ℕ) → w ≡ Counted n → ⊥) → (walk_as w).found ≡ true
+walk_found (Counted n) h = absurd (h n refl)
+walk_found (Edited p n) h = refl
+
+pub walk_counted : (w : Walk) → ((p n : ℕ) → w ≡ Edited p n → ⊥) → (walk_as w).found ≡ false
+walk_counted (Counted n) h = refl
+walk_counted (Edited p n) h = absurd (h p n refl)
 
 -- ---- the same walk, by an editor that does the same
 

@@ -13,16 +13,7 @@ use Rattle.editor_basic.specs.declared.fields.Field.{Field}
 use Rattle.editor_basic.specs.Elements.{behind_of, Standing}
 use Rattle.editor_basic.specs.Rows.{behind_field, StandingRow, last_now, row_now}
 use Rattle.editor_basic.specs.Puts.{over}
-use Rattle.editor_steps.specs.declared.answers.Walked.{Walked}
-
-abbrev pub counted_as : ℕ → Walked
-counted_as n = record { found = false; refusal = 0; place = 0; length = n }
-
-abbrev pub refused_as : ℕ → Walked
-refused_as k = record { found = true; refusal = k; place = 0; length = 0 }
-
-abbrev pub edited_as : ℕ → ℕ → Walked
-edited_as p n = record { found = true; refusal = 0; place = p; length = n }
+use Rattle.editor_steps.specs.Walked.{Walked, edited_as}
 
 abbrev pub edits : Walked → Bool
 edits w = w.found && eqb w.refusal 0

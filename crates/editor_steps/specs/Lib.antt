@@ -1,3 +1,4 @@
+pub mod Walked
 pub mod Walks
 pub mod Slots
 pub mod Closing

@@ -15,7 +15,7 @@ use Rattle.signature.specs.Places.{basic_kind}
 use Rattle.signature.specs.declared.Letter.{Letter}
 use Rattle.editor_basic.specs.declared.elements.Elements.{Elements}
 use Rattle.editor_steps.specs.declared.answers.Aim.{Aim}
-use Rattle.editor_steps.specs.declared.answers.Walked.{Walked}
+use Rattle.editor_steps.specs.Walked.{Walked}
 use Rattle.editor_steps.specs.Walks.{new_of, Walks, container_most, most, Ready, elements_test, elements_editor}
 
 -- so many elements passed: the one in front of the rest ends where its own offset says

@@ -10,7 +10,7 @@ use Rattle.signature.specs.Places.{basic_kind}
 use Rattle.signature.specs.declared.Letter.{Letter}
 use Rattle.signature.specs.declared.Letter.TheVariants.{End, Bad, Boolean, Number, Text, Variant, Maybe, Array, OpenStructure, CloseStructure, OpenEntry, CloseEntry}
 use Rattle.editor_steps.specs.declared.answers.Aim.{Aim}
-use Rattle.editor_steps.specs.declared.answers.Walked.{Walked}
+use Rattle.editor_steps.specs.Walked.{Walked}
 use Rattle.editor_steps.specs.Walks.{Walks, new_of, most}
 
 -- a maybe of it is a reading

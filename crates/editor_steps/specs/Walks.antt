@@ -1,5 +1,5 @@
 -- What the functions of the edit's walk are asked and answer. Assumes nothing: these are definitions.
-use Rattle.std.specs.Prelude.{◌≡◌, List, [], ◌∷◌, Bool, true, false, ℕ, ◌+◌, ◌-◌, ◌*◌, ◌≤◌, ◌<◌, length, drop}
+use Rattle.std.specs.Prelude.{◌≡◌, Option, None, Some, List, [], ◌∷◌, Bool, true, false, ℕ, ◌+◌, ◌-◌, ◌*◌, ◌≤◌, ◌<◌, length, drop}
 use Rattle.std.proofs.Math.Option.{none, some}
 use Rattle.meaning.specs.Choice.{pick}
 use Rattle.meaning.specs.Limits.{largest_frame, most_variants}
@@ -20,14 +20,12 @@ use Rattle.strict_basic.specs.Basics.{letter_extent, letter_test}
 use Rattle.strict_ends.specs.Ends.{shaped, Laid}
 use Rattle.strict_sizes.specs.Items.{Placed, tree_test}
 use Rattle.editor_basic.specs.Puts.{over}
-use Rattle.editor_steps.specs.declared.answers.New.{New}
-use Rattle.editor_steps.specs.declared.answers.New.TheVariants.{Nothing, Number}
-use Rattle.editor_steps.specs.declared.answers.Walked.{Walked}
+use Rattle.editor_steps.specs.Walked.{Walked}
 
 -- what a reading is put as
-abbrev pub new_of : New → MaybeNumber
-new_of Nothing = none
-new_of (Number n) = some n
+abbrev pub new_of : Option ℕ → MaybeNumber
+new_of None = none
+new_of (Some n) = some n
 
 -- why a reading that stands at a spot may not be put so: 17, then 12
 unfoldable pub barred : Spot → MaybeNumber → ℕ

@@ -4,11 +4,12 @@ ghost use Rattle.meaning.specs.Padding.{Aligns};
 ghost use Rattle.strict_basic.specs.Basics.{letter_extent};
 ghost use Rattle.strict_ends.specs.Ends.{Laid};
 ghost use Rattle.editor_steps.specs.Slots.{is_slot, letter_spells, Reads, PutsReading};
+ghost use Rattle.editor_steps.specs.Walked.{walked_as};
 
-use crate::answers::{Aim, New, Walked, counted, edited, refused};
+use crate::answers::{Aim, Walk};
 use container_depths::ContainerDepths;
 use editor_basic::mover::put_number;
-use meaning::refusals::{CONTAINERS_TOO_DEEP, NO_VALUE};
+use meaning::refusals::Refusal;
 use signature::Letter;
 use strict_basic::basic::extent_of;
 
@@ -16,11 +17,7 @@ use strict_basic::basic::extent_of;
 pub fn is_slot(kind: Letter) -> bool
     ensures { result ≡ is_slot kind }
 {
-    match kind {
-        Letter::Boolean => true,
-        Letter::Number { code: _, width: _ } => true,
-        _ => false,
-    }
+    matches!(kind, Letter::Boolean | Letter::Number { .. })
 }
 
 // Whether a number fits a width.
@@ -42,7 +39,7 @@ fn spells(kind: Letter, bits: usize) -> bool
     ensures { result ≡ letter_spells kind bits }
 {
     match kind {
-        Letter::Number { code: _, width } => suits(bits, width),
+        Letter::Number { width, .. } => suits(bits, width),
         _ => bits <= 1,
     }
 }
@@ -54,22 +51,19 @@ fn put(
     big: bool,
     d: ContainerDepths,
     out: &mut [u8],
-) -> Walked
+) -> Result<Walk, Refusal>
     requires { Laid (letter_extent kind) }
-    ensures { PutsReading kind place bits big d out.old out.new result }
+    ensures { PutsReading kind place bits big d out.old out.new (walked_as result) }
 {
     if !spells(kind, bits) {
-        return refused(NO_VALUE);
+        return Err(Refusal::NoValue);
     }
-    let raised = d.inc_maybe();
-    let refusal = raised.refusal;
-    if refusal != 0 {
-        return refused(CONTAINERS_TOO_DEEP);
-    }
-    let lies = extent_of(kind);
-    let width = lies.size;
-    put_number(out, 0, big, width, bits);
-    edited(place, width)
+    let Ok(_) = d.inc_maybe() else {
+        return Err(Refusal::ContainersTooDeep);
+    };
+    let length = extent_of(kind).size;
+    put_number(out, 0, big, length, bits);
+    Ok(Walk::Edited { place, length })
 }
 
 // The walk over it: the reading is its first.
@@ -80,16 +74,15 @@ pub fn reading(
     aim: Aim,
     d: ContainerDepths,
     out: &mut [u8],
-) -> Walked
+) -> Result<Walk, Refusal>
     requires { Laid (letter_extent kind) }
-    ensures { Reads kind aim d place number out.old out.new result }
+    ensures { Reads kind aim d place number out.old out.new (walked_as result) }
 {
     if 0 < number {
-        return counted(1);
+        return Ok(Walk::Counted(1));
     }
-    let new = aim.new;
-    match new {
-        New::Nothing => edited(place, 0),
-        New::Number { bits } => put(kind, place, bits, aim.big, d, out),
+    match aim.new {
+        None => Ok(Walk::Edited { place, length: 0 }),
+        Some(bits) => put(kind, place, bits, aim.big, d, out),
     }
 }

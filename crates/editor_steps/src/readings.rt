@@ -2,13 +2,15 @@
 ghost use Rattle.std.specs.Prelude.{◌≡◌, ◌≤◌};
 ghost use Rattle.editor_basic.specs.Elements.{Standing};
 ghost use Rattle.editor_steps.specs.ReadingArrays.{from_nth, ReadyEach, ReadsEach};
+ghost use Rattle.editor_steps.specs.Walked.{walked_as};
 
-use crate::answers::{Aim, Walked, counted};
+use crate::answers::{Aim, Walk};
 use crate::closing::close_element;
 use crate::reading::reading;
 use crate::starts::elements_of;
 use container_depths::ContainerDepths;
-use editor_basic::elements::{Elements, first_element};
+use editor_basic::elements::{Child, Elements, first_element};
+use meaning::refusals::Refusal;
 use signature::Letter;
 use strict_ends::offset_at;
 
@@ -20,16 +22,14 @@ fn from_nth(part: &[u8], all: Elements, number: usize) -> Elements
     if number == 0 {
         return all;
     }
-    let size = all.size;
-    let width = size.width();
+    let width = all.size.width();
     let before = all.from + (number - 1) * width;
     let place = offset_at(part, before, width);
     Elements {
-        alignment: all.alignment,
-        size,
         count: all.count - number,
         from: before + width,
         place,
+        ..all
     }
 }
 
@@ -43,19 +43,16 @@ pub fn readings(
     aim: Aim,
     d: ContainerDepths,
     out: &mut [u8],
-) -> Walked
+) -> Result<Walk, Refusal>
     requires { ReadyEach kind alignment d place part.now }
-    ensures { ReadsEach kind alignment aim d place part.now number out.old out.new result }
+    ensures { ReadsEach kind alignment aim d place part.now number out.old out.new (walked_as result) }
 {
     let all = elements_of(part, alignment);
-    let count = all.count;
-    if count <= number {
-        return counted(count);
+    if all.count <= number {
+        return Ok(Walk::Counted(all.count));
     }
     let rest = from_nth(part, all, number);
-    let child = first_element(part, rest);
-    let start = child.start;
-    let end = child.end;
-    let walked = reading(kind, place + start, 0, aim, d, out);
-    close_element(walked, place, start, end, part, all, rest, out)
+    let Child { start, end } = first_element(part, rest);
+    let walk = reading(kind, place + start, 0, aim, d, out)?;
+    Ok(close_element(walk, place, start, end, part, all, rest, out))
 }

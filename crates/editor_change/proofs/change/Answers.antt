@@ -1,22 +1,24 @@
 -- `change` meets its contract. Assumes nothing.
+use mathlib.Core.Path.{refl}
 use native.Mathlib.Omega.{arith}
+use Rattle.std.proofs.lemmas.Result.{err_from_is_err_and}
+use Rattle.meaning.proofs.RefusalLaws.{number_not_0}
+use Rattle.editor_change.proofs.Tails.{used_short}
 use Rattle.editor_change.proofs.Changes.{change_refused, change_allowed}
 use Rattle.editor_change.proofs.change.Goals as goal
 
-pub returns-then-refusal-ne0 : goal.returns-then-refusal-ne0
-returns-then-refusal-ne0 c =
-    rw c.refused.ensures
-    (change_refused c.requires (λ j. omega (arith, c.slice_known-1.given j)) _
-    c.length_refusal-refusal.ensures c.if-refusal-ne0.true)
+pub returns-in_err-check_length : goal.returns-in_err-check_length
+returns-in_err-check_length c =
+    let p = err_from_is_err_and c.from_residual.result c.from_residual.ensures.1 in
+    rw (p.1, p.2) (change_refused c.requires (λ j. omega (arith, c.slice_known-1.given j)) _ c.in_err-check_length.ensures (number_not_0 _))
 
-pub change_small-requires : goal.change_small-requires
-change_small-requires c = (
-  c.if-used-le-SMALL.true,
-  change_allowed c.requires (λ j. omega (arith, c.slice_known-1.given j)) _
-      c.length_refusal-refusal.ensures c.if-refusal-ne0.false,
+pub change_within-requires : goal.change_within-requires
+change_within-requires c =
+    (c.if-used-le-SMALL.true, omega arith, change_allowed c.requires (λ j. omega (arith, c.slice_known-1.given j)) _ c.in_ok-check_length.ensures refl)
+
+pub change_within-requires-2 : goal.change_within-requires-2
+change_within-requires-2 c = (
+  used_short _ _ c.requires.held.roomy c.requires.held.frame.short,
+  omega arith,
+  change_allowed c.requires (λ j. omega (arith, c.slice_known-1.given j)) _ c.in_ok-check_length.ensures refl,
 )
-
-pub change_large-requires : goal.change_large-requires
-change_large-requires c =
-    change_allowed c.requires (λ j. omega (arith, c.slice_known-1.given j)) _
-    c.length_refusal-refusal.ensures c.if-refusal-ne0.false

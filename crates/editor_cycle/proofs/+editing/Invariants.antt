@@ -13,13 +13,9 @@ use Rattle.editor_steps.proofs.Structures.{FieldsLeft}
 use Prim.Native.Nat.{◌-◌}
 use Rattle.editor_cycle.proofs.+editing.Given as goal
 
-abbrev pub invariant-array::elements-loop-rest : goal.invariant-array::elements-loop-rest
-invariant-array::elements-loop-rest l =
-    ElementsLeft (item_test l.d.variant l.text l.item) (item_editor l.aim.big l.d.variant l.text l.item) (depths_of l.d) l.part l.all l.rest l.number l.left × (l.out ≡ l.initial.out)
-
-abbrev pub decreases-array::elements-loop-rest : goal.decreases-array::elements-loop-rest
-decreases-array::elements-loop-rest l =
-    l.rest.count
+abbrev pub invariant-array::elements-loop : goal.invariant-array::elements-loop
+invariant-array::elements-loop l =
+    ElementsLeft (item_test l.d.variant l.text l.item) (item_editor l.aim.big l.d.variant l.text l.item) (depths_of l.d) l.part l.all l.rest l.number l.left × (l.out ≡ l.initial.out) × (l.rest.count + l.counter ≡ l.all.count)
 
 abbrev pub decreases-array::array : goal.decreases-array::array
 decreases-array::array l = level l.d * 8 + 2
@@ -45,10 +41,10 @@ decreases-value l = level l.d * 8 + 3
 abbrev pub decreases-variant::variant : goal.decreases-variant::variant
 decreases-variant::variant l = level l.d * 8 + 2
 
-abbrev pub invariant-structure::fields-loop-aim : goal.invariant-structure::fields-loop-aim
-invariant-structure::fields-loop-aim l =
+abbrev pub invariant-structure::fields-loop-count : goal.invariant-structure::fields-loop-count
+invariant-structure::fields-loop-count l =
     FieldsLeft l.aim.big (65 - l.d.variant) (depths_of l.d) l.text l.tables l.part l.initial.row l.row l.number l.left × (l.out ≡ l.initial.out)
 
-abbrev pub decreases-structure::fields-loop-aim : goal.decreases-structure::fields-loop-aim
-decreases-structure::fields-loop-aim l =
+abbrev pub decreases-structure::fields-loop-count : goal.decreases-structure::fields-loop-count
+decreases-structure::fields-loop-count l =
     length l.text - l.row.at

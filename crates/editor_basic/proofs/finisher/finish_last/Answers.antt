@@ -8,27 +8,6 @@ use Rattle.editor_basic.proofs.finisher.finish_last.Goals as goal
 pub nonzero_div-count : goal.nonzero_div-count
 nonzero_div-count c = aligns_positive c.requires.2
 
-pub widen-requires : goal.widen-requires
-widen-requires c =
-    let a = c.args in
-    let p = c.requires in
-    let f = filling a.old.now a.end a.narrow p.0 p.1 in
-    (f.stand, p.1, p.2, (table_most _ _ c.width_for-size.result c.width-width.ensures f.few).0, omega (arith, p.3))
-
-pub overflow_mul-result : goal.overflow_mul-result
-overflow_mul-result c =
-    let a = c.args in
-    let p = c.requires in
-    let f = filling a.old.now a.end a.narrow p.0 p.1 in
-    omega (arith, (table_most _ _ c.width_for-size.result c.width-width.ensures f.few).1)
-
-pub overflow_add-result : goal.overflow_add-result
-overflow_add-result c =
-    let a = c.args in
-    let p = c.requires in
-    let f = filling a.old.now a.end a.narrow p.0 p.1 in
-    omega (arith, (table_most _ _ c.width_for-size.result c.width-width.ensures f.few).1, p.3)
-
 pub returns : goal.returns
 returns c =
     let a = c.args in

@@ -1,5 +1,6 @@
 -- `widen` meets its contract.
-use mathlib.Core.Path.{refl, sym, ◌∙◌}
+use mathlib.Core.Path.{◌≡◌, sym, ◌∙◌}
+use Prim.Native.Nat.{◌+◌, ◌-◌, ◌<◌}
 use native.Mathlib.Omega.{arith}
 use lib.ListN.{length}
 use Rattle.editor_basic.proofs.PutLaws.{over_beyond}
@@ -9,39 +10,23 @@ use Rattle.editor_basic.proofs.finisher.widen.Goals as goal
 pub returns-then-out-at : goal.returns-then-out-at
 returns-then-out-at c = sym (over_beyond _ _ _ c.if-out-at.true)
 
-pub loop-left-init : goal.loop-left-init
-loop-left-init c = (refl, c.requires.0, omega arith, refl)
-
-pub offset_at-end-requires : goal.offset_at-end-requires
-offset_at-end-requires c = ((offsets_room _ _ _ _ c.loop-left-test.true c.loop-left.invariant.1).0, c.requires.2)
-
 pub overflow_add-next : goal.overflow_add-next
 overflow_add-next c =
     let a = c.args in
     let p = c.requires in
-    omega (arith, c.loop-left.invariant.2, p.1, p.3, p.4, offsets_few p.2 a.count (length a.old.now) (omega (arith, p.0)))
+    omega (arith, c.loop.invariant.2, p.1, p.3, p.4, offsets_few p.2 a.count (length a.old.now) (omega (arith, p.0)))
 
-pub overflow_add-place : goal.overflow_add-place
-overflow_add-place c = omega (arith, (offsets_room _ _ _ _ c.loop-left-test.true c.loop-left.invariant.1).0, c.requires.1)
-
-pub overflow_sub-left : goal.overflow_sub-left
-overflow_sub-left c = omega (arith, c.loop-left-test.true)
-
-pub loop-left-smaller : goal.loop-left-smaller
-loop-left-smaller c = omega (arith, c.loop-left-test.true)
-
-pub loop-left-preserved : goal.loop-left-preserved
-loop-left-preserved c =
-    let i = c.loop-left.invariant in
-    let t = c.loop-left-test.true in (
+pub loop-preserved : goal.loop-preserved
+loop-preserved c =
+    let i = c.loop.invariant in
+    let t : 0 < c.args.count - c.loop.counter = omega (arith, c.loop-test.true) in
+    let n : c.args.count - (c.loop.counter + 1) ≡ c.args.count - c.loop.counter - 1 = omega arith in
+    rw n (
       widen_turn _ _ _ _ _ _ _ _ i.0 _ _ t c.offset_at-end.ensures c.put_low_first.ensures,
       (offsets_room _ _ _ _ t i.1).1,
       omega (arith, i.2, c.requires.3, t),
       c.put_low_first.auto.out ∙ i.3,
     )
 
-pub shape_of-out : goal.shape_of-out
-shape_of-out c = c.loop-left.invariant.3
-
 pub returns : goal.returns
-returns c = widen_end c.args.old.now _ _ c.loop-left.place _ _ _ _ c.loop-left.invariant.0 (omega (arith, c.loop-left-test.false))
+returns c = widen_end c.args.old.now _ _ c.loop.place _ _ _ _ c.loop.invariant.0 (omega (arith, c.loop-test.false))

@@ -1,15 +1,8 @@
 -- `finish_array` meets its contract.
 use mathlib.Core.Path.{refl, ◌∙◌}
 use native.Mathlib.Omega.{arith}
-use Rattle.editor_basic.proofs.ElementLaws.{few}
 use Rattle.editor_basic.proofs.RewriteLaws.{finish_sizes, finish_done}
 use Rattle.editor_basic.proofs.rewriter.finish_array.Goals as goal
-
-pub overflow_add-count : goal.overflow_add-count
-overflow_add-count c = omega (arith, few _ _ c.requires.1)
-
-pub overflow_add-count-2 : goal.overflow_add-count-2
-overflow_add-count-2 c = omega (arith, few _ _ c.requires.0, few _ _ c.requires.1)
 
 pub overflow_add-table : goal.overflow_add-table
 overflow_add-table c =
@@ -20,11 +13,6 @@ pub rewrite_ends-requires : goal.rewrite_ends-requires
 rewrite_ends-requires c =
     let s = finish_sizes c.args.front c.args.rest c.args.old.now c.args.to _ _ c.width_for-size.result c.requires.0 c.requires.1 c.move_elements-end.ensures.end c.width-width.ensures in
     (c.requires.0, omega (arith, s.few_front, s.few_rest, s.slim, s.ends_front, s.ends_all, s.low, s.high, c.requires.2), s.slim)
-
-pub overflow_mul-own : goal.overflow_mul-own
-overflow_mul-own c =
-    let s = finish_sizes c.args.front c.args.rest c.args.old.now c.args.to _ _ c.width_for-size.result c.requires.0 c.requires.1 c.move_elements-end.ensures.end c.width-width.ensures in
-    omega (arith, s.few_front, s.few_rest, s.slim, s.ends_front, s.ends_all, s.low, s.high, c.requires.2)
 
 pub overflow_add-own : goal.overflow_add-own
 overflow_add-own c =
@@ -40,11 +28,6 @@ pub rewrite_ends-requires-2 : goal.rewrite_ends-requires-2
 rewrite_ends-requires-2 c =
     let s = finish_sizes c.args.front c.args.rest c.args.old.now c.args.to _ _ c.width_for-size.result c.requires.0 c.requires.1 c.move_elements-end.ensures.end c.width-width.ensures in
     (c.requires.1, omega (arith, s.few_front, s.few_rest, s.slim, s.ends_front, s.ends_all, s.low, s.high, c.requires.2), s.slim)
-
-pub overflow_mul-result : goal.overflow_mul-result
-overflow_mul-result c =
-    let s = finish_sizes c.args.front c.args.rest c.args.old.now c.args.to _ _ c.width_for-size.result c.requires.0 c.requires.1 c.move_elements-end.ensures.end c.width-width.ensures in
-    omega (arith, s.few_front, s.few_rest, s.slim, s.ends_front, s.ends_all, s.low, s.high, c.requires.2)
 
 pub overflow_add-result : goal.overflow_add-result
 overflow_add-result c =

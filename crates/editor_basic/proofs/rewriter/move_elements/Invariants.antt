@@ -8,12 +8,10 @@ use Rattle.editor_basic.specs.Elements.{elements_in}
 use Rattle.editor_basic.proofs.RewriteLaws.{Reaching}
 use Rattle.editor_basic.proofs.rewriter.move_elements.Given as goal
 
-abbrev pub invariant-loop-rest : goal.invariant-loop-rest
-invariant-loop-rest l =
+abbrev pub invariant-loop : goal.invariant-loop
+invariant-loop l =
     Reaching l.rest l.old l.place (l.to + length (layout l.to (elements_in l.initial.rest l.old)))
     × (over l.out l.next (layout l.place (elements_in l.rest l.old)) ≡ over l.initial.out l.at (layout l.to (elements_in l.initial.rest l.old)))
     × (l.next + l.to ≡ l.at + l.place)
     × (length l.out ≡ length l.initial.out)
-
-abbrev pub decreases-loop-rest : goal.decreases-loop-rest
-decreases-loop-rest l = l.rest.count
+    × (l.rest.count + l.counter ≡ l.initial.rest.count)

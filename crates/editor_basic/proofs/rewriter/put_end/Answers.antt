@@ -9,10 +9,6 @@ returns-then-fixed c =
     let whole = (end_none c.args.fixed c.args.out.now c.args.below c.args.width c.args.end c.if-fixed.true) in
     record { bytes = whole.0; place = whole.1 }
 
-pub overflow_sub-first : goal.overflow_sub-first
-overflow_sub-first c =
-    omega (arith, end_room c.args.fixed c.args.below c.args.width c.args.end c.if-fixed.false c.requires)
-
 pub returns : goal.returns
 returns c =
     let whole = (let r = end_room c.args.fixed c.args.below c.args.width c.args.end c.if-fixed.false c.requires in

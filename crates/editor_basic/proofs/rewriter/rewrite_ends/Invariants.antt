@@ -9,12 +9,10 @@ use Rattle.editor_basic.specs.Elements.{elements_in}
 use Rattle.editor_basic.proofs.RewriteLaws.{Reaching}
 use Rattle.editor_basic.proofs.rewriter.rewrite_ends.Given as goal
 
-abbrev pub invariant-loop-rest : goal.invariant-loop-rest
-invariant-loop-rest l =
+abbrev pub invariant-loop : goal.invariant-loop
+invariant-loop l =
     Reaching l.rest l.old l.place (l.to + length (layout l.to (elements_in l.initial.rest l.old)))
     × (over l.out l.next (table l.width (ends l.place (elements_in l.rest l.old))) ≡ over l.initial.out l.at (table l.width (ends l.to (elements_in l.initial.rest l.old))))
     × (l.next + 8 * l.rest.count ≤ l.at + 8 * l.initial.rest.count)
     × (length l.out ≡ length l.initial.out)
-
-abbrev pub decreases-loop-rest : goal.decreases-loop-rest
-decreases-loop-rest l = l.rest.count
+    × (l.rest.count + l.counter ≡ l.initial.rest.count)

@@ -2,10 +2,12 @@
 use Rattle.editor_steps.proofs.Values.{held_placed, held_ready, maybe_closed, maybe_deeper, maybe_empty, maybe_fits, maybe_fixed, maybe_reading, slot_laid}
 use Rattle.editor_steps.proofs.WalkLaws.{counts}
 use Rattle.strict_sizes.proofs.TableLaws.{placed_at}
-use lib.ListN.{length-take}
 use mathlib.Core.Path.{◌∙◌, refl, sym}
 use native.Mathlib.Omega.{arith}
+use Rattle.std.proofs.lemmas.Result.{err_from_is_err_and}
+use Rattle.editor_steps.proofs.ClosingLaws.{closes_refused}
 use Rattle.editor_cycle.proofs.+editing.Goals as goal
+use Rattle.editor_cycle.proofs.+editing.Goals.{maybe::maybe-then-len-eq0-via-then-len-eq0, maybe::maybe-then-len-eq0-via-else-len-eq0+then-held}
 
 pub overflow_add-shape : goal.maybe::maybe-overflow_add-shape
 overflow_add-shape t c =
@@ -21,26 +23,25 @@ returns-then-is_slot t c =
 
 pub returns-then-len-eq0 : goal.maybe::maybe-returns-then-len-eq0
 returns-then-len-eq0 t c =
-    counts _ _ _ _ _ _ _ _ _ 0 _ c.counted.ensures (maybe_empty c.requires.0 c.requires.1 _ c.shape_in-held.ensures (sym
-    c.is_slot.ensures ∙ c.if-is_slot.false) c.args.d c.args.part.now c.args.aim.big c.if-len-eq0.true) (omega arith) refl
+    elim c.then-len-eq0.branch [
+      | maybe::maybe-then-len-eq0-via-then-len-eq0 w ↦ counts _ _ _ _ _ _ _ _ _ 0 _ refl (maybe_empty c.requires.0 c.requires.1 _ c.shape_in-held.ensures (sym c.is_slot.ensures ∙ c.if-is_slot.false) c.args.d c.args.part.now c.args.aim.big w.if-len-eq0.true) (omega arith) refl
+      | maybe::maybe-then-len-eq0-via-else-len-eq0+then-held w ↦ counts _ _ _ _ _ _ _ _ _ 0 _ refl (maybe_fixed c.requires.0 c.requires.1 _ c.shape_in-held.ensures (sym c.is_slot.ensures ∙ c.if-is_slot.false) c.args.d c.args.part.now c.args.aim.big w.if-held.true) (omega arith) refl
+    ]
 
-pub returns-then-fixed : goal.maybe::maybe-returns-then-fixed
-returns-then-fixed t c =
-    counts _ _ _ _ _ _ _ _ _ 0 _ c.counted-then-fixed.ensures (maybe_fixed c.requires.0 c.requires.1 _ c.shape_in-held.ensures (sym
-    c.is_slot.ensures ∙ c.if-is_slot.false) c.args.d c.args.part.now c.args.aim.big c.if-fixed.true) (omega arith) refl
+pub returns-in_err-deeper : goal.maybe::maybe-returns-in_err-deeper
+returns-in_err-deeper t c =
+    absurd (omega (
+      arith,
+      (maybe_deeper c.requires.0 c.requires.1 _ c.shape_in-held.ensures (sym c.is_slot.ensures ∙ c.if-is_slot.false) c.args.d
+          c.args.part.now c.if-len-eq0.false c.if-held.false _ c.in_err-deeper.ensures c.args.place c.requires.2).falls,
+    ))
 
-pub overflow_sub-end : goal.maybe::maybe-overflow_sub-end
-overflow_sub-end t c = omega arith
-
-pub slice_bounds-value-end : goal.maybe::maybe-slice_bounds-value-end
-slice_bounds-value-end t c = simp length-take (omega arith)
-
-pub value-walked-requires : goal.maybe::maybe-value-walked-requires
-value-walked-requires t c = (
+pub value-requires : goal.maybe::maybe-value-requires
+value-requires t c = (
   omega (
     arith,
     (maybe_deeper c.requires.0 c.requires.1 _ c.shape_in-held.ensures (sym c.is_slot.ensures ∙ c.if-is_slot.false) c.args.d
-        c.args.part.now c.if-len-eq0.false c.if-fixed.false c.inc_maybe-raised.result c.inc_maybe-raised.ensures c.args.place
+        c.args.part.now c.if-len-eq0.false c.if-held.false _ c.in_ok-deeper.ensures c.args.place
         c.requires.2).falls,
     c.decreases,
   ),
@@ -48,18 +49,19 @@ value-walked-requires t c = (
     held_placed c.requires.0 c.requires.1 _ c.shape_in-held.ensures,
     held_ready c.requires.0
         c.requires.1 _ c.shape_in-held.ensures (sym c.is_slot.ensures ∙ c.if-is_slot.false) c.args.d c.args.part.now c.if-len-eq0.false
-        c.if-fixed.false c.inc_maybe-raised.result c.inc_maybe-raised.ensures c.args.place c.requires.2,
+        c.if-held.false _ c.in_ok-deeper.ensures c.args.place c.requires.2,
   ),
 )
 
-pub close_maybe-requires : goal.maybe::maybe-close_maybe-requires
-close_maybe-requires t c =
-    maybe_fits c.requires.0 c.requires.1 _ c.shape_in-held.ensures (sym c.is_slot.ensures ∙ c.if-is_slot.false) c.args.d
-    c.args.part.now c.if-len-eq0.false c.if-fixed.false c.inc_maybe-raised.result c.inc_maybe-raised.ensures c.args.place
-    c.requires.2 c.args.aim.big _ _ _ _ _ c.value-walked.ensures
+pub returns-in_err-walk : goal.maybe::maybe-returns-in_err-walk
+returns-in_err-walk t c =
+    let p = err_from_is_err_and c.from_residual-in_err-walk.result c.from_residual-in_err-walk.ensures.1 in
+    rw (p.1, p.2) (maybe_closed c.requires.0 c.requires.1 _ c.shape_in-held.ensures (sym c.is_slot.ensures ∙ c.if-is_slot.false) c.args.d
+    c.args.part.now c.if-len-eq0.false c.if-held.false _ c.in_ok-deeper.ensures c.args.place
+    c.requires.2 c.args.aim.big _ _ _ _ _ c.in_err-walk.ensures _ _ (closes_refused _ _ _ _ _ _))
 
 pub returns : goal.maybe::maybe-returns
 returns t c =
     maybe_closed c.requires.0 c.requires.1 _ c.shape_in-held.ensures (sym c.is_slot.ensures ∙ c.if-is_slot.false) c.args.d
-    c.args.part.now c.if-len-eq0.false c.if-fixed.false c.inc_maybe-raised.result c.inc_maybe-raised.ensures c.args.place
-    c.requires.2 c.args.aim.big _ _ _ _ _ c.value-walked.ensures _ _ c.close_maybe.ensures
+    c.args.part.now c.if-len-eq0.false c.if-held.false _ c.in_ok-deeper.ensures c.args.place
+    c.requires.2 c.args.aim.big _ _ _ _ _ c.in_ok-walk.ensures _ _ c.close_maybe.ensures

@@ -24,21 +24,12 @@ pub variant-requires : goal.value-variant-requires
 variant-requires t c =
     (omega (arith, c.decreases), variant_ready c.args.text.now c.args.shape.at c.args.d c.requires.0.shape.typed (sym (described_kind c.requires.0.shape) ∙ c.in-Variant.is) c.requires.1)
 
-pub returns-in-Maybe : goal.value-returns-in-Maybe
-returns-in-Maybe t c = c.maybe.ensures
-
-pub returns-in-Array : goal.value-returns-in-Array
-returns-in-Array t c = c.array.ensures
-
-pub returns-in-OpenStructure : goal.value-returns-in-OpenStructure
-returns-in-OpenStructure t c = c.structure.ensures
-
 pub returns-in-Variant : goal.value-returns-in-Variant
 returns-in-Variant t c =
     value_variant c.args.text.now c.args.shape.at c.args.d c.requires.0.shape.typed (sym (described_kind c.requires.0.shape) ∙ c.in-Variant.is) _ _ _ _ _ _ _ _ _ c.variant.ensures
 
 pub returns-in_default : goal.value-returns-in_default
 returns-in_default t c =
-    counts _ _ _ _ _ _ _ _ _ 0 _ c.counted.ensures (basic_none c.args.text.now c.args.shape.at c.args.shape.kind c.args.aim.big
+    counts _ _ _ _ _ _ _ _ _ 0 _ refl (basic_none c.args.text.now c.args.shape.at c.args.shape.kind c.args.aim.big
     (65 - c.args.d.variant) c.args.part.now c.requires.0.shape.typed (described_kind c.requires.0.shape) (opened c.in_default.in_default-own.keys5))
     (omega arith) refl

@@ -1,33 +1,13 @@
 -- `close_last` meets its contract. Assumes nothing.
 use mathlib.Core.Path.{refl, sym, ◌∙◌}
 use native.Mathlib.Omega.{arith}
-use borrow.Author.Tests.{not-true, not-false}
-use Rattle.editor_steps.proofs.ClosingLaws.{closes_same, closes_joined}
 use Rattle.editor_basic.proofs.FinishLaws.{last_rest_length}
+use Rattle.editor_steps.specs.Walked.{edited_as}
+use Rattle.editor_steps.proofs.ClosingLaws.{closes_joined}
 use Rattle.editor_steps.proofs.closing.close_last.Goals as goal
-
-pub returns-then-not-edits : goal.returns-then-not-edits
-returns-then-not-edits c =
-    closes_same _ _ _ _ c.args.walked _ (sym c.edits.ensures ∙ not-true _ c.if-not-edits.true-raw)
-
-pub overflow_add-to : goal.overflow_add-to
-overflow_add-to c =
-    let fits_of = c.requires.0 (sym c.edits.ensures ∙ not-false _ c.if-not-edits.false-raw) in omega (arith, fits_of.after, fits_of.inside, fits_of.short)
-
-pub overflow_sub-at : goal.overflow_sub-at
-overflow_sub-at c =
-    let fits_of = c.requires.0 (sym c.edits.ensures ∙ not-false _ c.if-not-edits.false-raw) in omega (arith, fits_of.after, fits_of.inside, fits_of.short)
-
-pub overflow_sub-at-2 : goal.overflow_sub-at-2
-overflow_sub-at-2 c =
-    let fits_of = c.requires.0 (sym c.edits.ensures ∙ not-false _ c.if-not-edits.false-raw) in omega (arith, fits_of.after, fits_of.inside, fits_of.short)
-
-pub finish_last-length-requires : goal.finish_last-length-requires
-finish_last-length-requires c =
-    let fits_of = c.requires.0 (sym c.edits.ensures ∙ not-false _ c.if-not-edits.false-raw) in (c.requires.1, c.requires.2, c.requires.3, omega (arith, fits_of.after, fits_of.inside, fits_of.short))
 
 pub returns : goal.returns
 returns c =
-    closes_joined _ _ _ _ c.args.walked _ _ _ _ _ (sym
-    c.edits.ensures ∙ not-false _ c.if-not-edits.false-raw) c.edited.ensures (last_rest_length c.args.end c.args.width c.args.part.now _ ∙ sym
-    c.finish_last-length.ensures.length) refl c.finish_last-length.ensures.bytes (omega (arith, c.finish_last-length.ensures.near))
+    let n = c.finish_last-length.ensures in
+    rw c.in-Edited.is (closes_joined _ _ _ _ (edited_as c.in-Edited.place c.in-Edited.length) _ _ _ _ _ refl refl
+    (last_rest_length c.args.end c.args.width c.args.part.now _ ∙ sym n.length) refl n.bytes (omega (arith, n.near)))

@@ -1,6 +1,5 @@
 -- `from_nth` meets its contract.
 use mathlib.Core.Path.{refl, sym, subst}
-use native.Mathlib.Omega.{arith}
 use Rattle.meaning.specs.Padding.{Aligns}
 use Rattle.framing_offset_size.proofs.WidthLaws.{width_aligns}
 use Rattle.editor_steps.proofs.ReadingsLaws.{nth_inside, nth_first, nth_made}
@@ -9,21 +8,9 @@ use Rattle.editor_steps.proofs.readings.from_nth.Goals as goal
 pub returns-then-number-eq0 : goal.returns-then-number-eq0
 returns-then-number-eq0 c = nth_first c.args.all c.args.number c.args.part.now c.if-number-eq0.true
 
-pub overflow_mul-before : goal.overflow_mul-before
-overflow_mul-before c =
-    let near = nth_inside c.args.all c.args.part.now c.args.number c.width-width.result c.requires.0 c.requires.1 c.if-number-eq0.false c.width-width.ensures in omega arith
-
-pub overflow_add-before : goal.overflow_add-before
-overflow_add-before c =
-    let near = nth_inside c.args.all c.args.part.now c.args.number c.width-width.result c.requires.0 c.requires.1 c.if-number-eq0.false c.width-width.ensures in omega arith
-
 pub offset_at-place-requires : goal.offset_at-place-requires
 offset_at-place-requires c =
     ((nth_inside c.args.all c.args.part.now c.args.number c.width-width.result c.requires.0 c.requires.1 c.if-number-eq0.false c.width-width.ensures).0, subst Aligns (sym c.width-width.ensures) (width_aligns c.args.all.size))
-
-pub overflow_add-result : goal.overflow_add-result
-overflow_add-result c =
-    let near = nth_inside c.args.all c.args.part.now c.args.number c.width-width.result c.requires.0 c.requires.1 c.if-number-eq0.false c.width-width.ensures in omega arith
 
 pub returns : goal.returns
 returns c =

@@ -1,6 +1,6 @@
--- `length_refusal` meets its contract. Assumes nothing.
+-- `check_length` meets its contract. Assumes nothing.
 use Rattle.editor_change.proofs.Changes.{new_long, new_full, new_roomy}
-use Rattle.editor_change.proofs.length_refusal.Goals as goal
+use Rattle.editor_change.proofs.check_length.Goals as goal
 
 pub returns-then-length-gt-LARGEST_FRAME : goal.returns-then-length-gt-LARGEST_FRAME
 returns-then-length-gt-LARGEST_FRAME c = new_long _ _ c.if-length-gt-LARGEST_FRAME.true

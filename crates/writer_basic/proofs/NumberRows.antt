@@ -25,11 +25,11 @@ use Rattle.meaning_writing.proofs.PieceLaws.{basic_alignment_lem as piece_alignm
 use Rattle.meaning.proofs.NumberLaws.{length_bytes}
 use Rattle.container_depths.specs.Opening.{depths_of, Raises}
 use Rattle.container_depths.specs.declared.ContainerDepths.{ContainerDepths}
-use Rattle.container_depths.specs.declared.Raised.{Raised}
+use Rattle.container_depths.specs.Opening.{Raised}
 use Rattle.signature.specs.declared.Letter.TheVariants.{Number, Text}
 use Rattle.writer_store.specs.Stores.{cap, sum}
 use Rattle.writer_basic.specs.Wrote.{key_basic, IsKey, Says, Done, marks_of, DoneAll, around_child}
-use Rattle.writer_basic.specs.declared.Answer.{Answer}
+use Rattle.writer_basic.specs.Wrote.{Answer}
 use Rattle.writer_ends.proofs.EndLaws.{kept_not}
 use Rattle.writer_basic.proofs.Answers.{made_of, Bounds, bounds, length_ordered, key_number, key_text, key_aligned, aligns_small, basic_number, basic_text}
 use Rattle.writer_basic.proofs.Openings.{maybe_on}

@@ -25,8 +25,8 @@ use Rattle.meaning.proofs.LayoutLaws.{length_back_table, length_table, length_en
 use Rattle.writer_store.specs.Stores.{cap, sum, puts}
 use Rattle.writer_ends.specs.Ends.{Stored, Room, TableRoom, TableFrom}
 use Rattle.writer_basic.specs.Wrote.{Opens, Done, marks_of, DoneAll, around_child, around_value, Structured}
-use Rattle.writer_basic.specs.declared.Answer.{Answer}
-use Rattle.writer_basic.specs.declared.Run.{Run}
+use Rattle.writer_basic.specs.Wrote.{Answer}
+use Rattle.writer_basic.specs.Wrote.{Run}
 use Rattle.writer_store.proofs.Puts.{puts_none, puts_cons}
 use Rattle.writer_ends.proofs.EndLaws.{puts_stored, stored_then, stored_forget, room_in, room_front, room_most}
 use Rattle.writer_basic.proofs.Answers.{answer, made_of, fault_of, wrong}

@@ -6,7 +6,7 @@ use mathlib.Core.List.{List, [], ◌∷◌}
 use mathlib.Core.Bool.{Bool, true, false, false≢true}
 use native.Mathlib.Omega.{arith}
 use Prim.Native.Nat.{ℕ, ◌+◌, ◌-◌, ◌≤◌}
-use lib.ListN.{length, take, drop}
+use lib.ListN.{length, drop}
 use Rattle.meaning.specs.Depths as Depth
 use Rattle.meaning.specs.Depths.{Depths, opened}
 use Rattle.meaning.specs.Letters.{number_letter, text_letter}
@@ -22,7 +22,7 @@ use Rattle.meaning_writing.specs.EventsAt.{PlainAt, NotPlain}
 use Rattle.meaning_writing.proofs.WritingSteps.{Shorter}
 use Rattle.container_depths.specs.Opening.{depths_of, Raises}
 use Rattle.container_depths.specs.declared.ContainerDepths.{ContainerDepths}
-use Rattle.container_depths.specs.declared.Raised.{Raised}
+use Rattle.container_depths.specs.Opening.{Raised}
 use Rattle.signature.specs.Places.{is_type, basic_kind, letter_at}
 use Rattle.signature.specs.Trees.{tree_at, behind_by, Typed, fields_at, Described}
 use Rattle.signature.specs.declared.Letter.{Letter}
@@ -35,9 +35,8 @@ use Rattle.signature.proofs.Dispatch.{Shown, shown, begins, is_boolean, is_numbe
 use Rattle.signature.proofs.TreeLaws.{front, maybe_tree, structure_tree, structure_alignment, structure_fixed}
 use Rattle.signature.specs.Items.{item_kind}
 use Rattle.writer_basic.specs.Wrote.{Taken, Untaken, Done, around_child, around_value, Structured}
-use Rattle.writer_basic.specs.declared.Answer.{Answer}
+use Rattle.writer_basic.specs.Wrote.{Answer}
 use Rattle.writer_basic.proofs.Answers.{answer}
-use Rattle.writer_basic.proofs.Rounds.{part_length}
 use Rattle.writer_cycle.specs.Places.{value_of, fields_of, item_of, ItemAt}
 use Rattle.writer_cycle.proofs.ItemLaws.{emit_basic_lem, emit_maybe_lem, emit_structure_lem, emit_variant_lem}
 use Rattle.container_depths.proofs.Levels.{raised_to}
@@ -202,29 +201,26 @@ module _ (texts : List ℕ) (big : Bool) (d : ContainerDepths) (w : d.variant �
     pub value_variant_text : (n : ℕ) → Untaken texts 103 ns (i + 3) n → Done (value_of texts big d.variant variant (depths_of d) (drop i ns)) ns i start top l l s s (answer n 0 0)
     value_variant_text n u = as_variant l s _ (variant_text_lem texts big _ d ns i start top l s p n l s u)
 
-    module _ (from to : ℕ) (t : Taken texts 103 ns (i + 3) from to) where
-      pub value_variant_type : is_type (take (to - from) (drop from texts)) ≡ false → Done (value_of texts big d.variant variant (depths_of d) (drop i ns)) ns i start top l l s s (answer 9 0 0)
-      value_variant_type e = as_variant l s _ (variant_type_lem texts big _ d ns i start top l s p from to t l s (judged_none _ e))
+    module _ (part : List ℕ) (t : Taken texts 103 ns (i + 3) part) where
+      pub value_variant_type : is_type part ≡ false → Done (value_of texts big d.variant variant (depths_of d) (drop i ns)) ns i start top l l s s (answer 9 0 0)
+      value_variant_type e = as_variant l s _ (variant_type_lem texts big _ d ns i start top l s p part t l s (judged_none _ e))
 
-      module _ (e : is_type (take (to - from) (drop from texts)) ≡ true) (r : Raised) (h : Raises (depths_of d) (opened Depth.variant (depths_of d)) r) where
+      module _ (e : is_type part ≡ true) (r : Raised) (h : Raises (depths_of d) (opened Depth.variant (depths_of d)) r) where
         pub value_variant_deep : (r.refusal ≡ 0 → ⊥) → Done (value_of texts big d.variant variant (depths_of d) (drop i ns)) ns i start top l l s s (answer r.refusal 0 0)
-        value_variant_deep z = as_variant l s _ (variant_deep texts big _ d ns i start top l s p from to t _ (front _ e).type r h l s z)
+        value_variant_deep z = as_variant l s _ (variant_deep texts big _ d ns i start top l s p part t _ (front _ e).type r h l s z)
 
         -- the type stands at the front of its text, as the code has it
         pub value_variant_on : (b : Bool) (x : ℕ) (l' s' : List ℕ) (q : Answer) → b ≡ big → x ≡ 0 → r.refusal ≡ 0
-            → Done (around_value (tree_at (take (to - from) (drop from texts)) x) (value_of texts b r.depths.variant (tree_at (take (to - from) (drop from texts)) x) (depths_of r.depths) (drop (i + 6) ns))) ns i start top l l' s s' q
+            → Done (around_value (tree_at part x) (value_of texts b r.depths.variant (tree_at part x) (depths_of r.depths) (drop (i + 6) ns))) ns i start top l l' s s' q
             → Done (value_of texts big d.variant variant (depths_of d) (drop i ns)) ns i start top l l' s s' q
         value_variant_on b x l' s' q m o z g =
             let v : r.depths.variant ≡ d.variant + 1 = ap (λ (x : Depths). x.variant) (raised_to Depth.variant d r h z) in
             let y : 65 - r.depths.variant ≡ 64 - d.variant = omega arith in
-            as_variant l' s' q (variant_on texts big _ d ns i start top l s p from to t _ (front _ e).type r h l' s' q z (rw (m, o, y) at g))
+            as_variant l' s' q (variant_on texts big _ d ns i start top l s p part t _ (front _ e).type r h l' s' q z (rw (m, o, y) at g))
 
 pub structure_structured : (a : ℕ) (fx : Bool) → Structured a fx (structure_piece a fx)
 unfolding structure_piece
 structure_structured a fx = record { bytes_are = λ cs. refl }
-
-pub front_short : (texts : List ℕ) (from to : ℕ) → from ≤ to → to ≤ length texts → length (take (to - from) (drop from texts)) ≤ 255 → to - from ≤ 255
-front_short texts from to h g n = omega (arith, n, part_length texts from to h g)
 
 -- a text that is one type is that type's text
 pub front_spells : (l : List ℕ) → is_type l ≡ true → (x : ℕ) → x ≡ 0 → type_text (tree_at l x) ≡ l

@@ -20,7 +20,7 @@ use Rattle.std.specs.Prelude.{Result, Ok, Err, is_ok}
 use Rattle.std.proofs.lemmas.List.{get_or_at, take_all, take-append-le}
 use Rattle.std.specs.List.{IsLastAndRest}
 use Rattle.meaning.specs.Refused.{number_of, refusal_in}
-use Rattle.meaning.proofs.RefusalNumbers.{number_not_0}
+use Rattle.meaning.proofs.RefusalLaws.{number_not_0}
 use Rattle.meaning.specs.declared.refusals.Refusal.{Refusal}
 use mathlib.Core.Option.{some}
 use Rattle.meaning.specs.Types.{Basic, bool, number, text, variant}

@@ -3,11 +3,12 @@
 
 ghost use Rattle.std.specs.Prelude.{◌≡◌, true, ◌+◌, ◌≤◌, ◌<◌, length};
 ghost use Rattle.meaning.specs.Texts.{without_final_nul, wanted, following, after_byte, text_refusal};
+ghost use Rattle.meaning.specs.Refused.{refusal_in};
 ghost use Rattle.texts.specs.Letters.{wanted_of, Plain, PlainIf, PlainBytesIf, Two, Three};
 
-use meaning::refusals::{NOT_UTF8, NUL_IN_TEXT};
+use meaning::refusals::Refusal;
 
-// The text of a part: all of it but one final nul. `text_refusal` judges it.
+// The text of a part: all of it but one final nul. `check` judges it.
 pub fn text(part: &[u8]) -> &[u8]
     ensures { result.now ≡ without_final_nul part.now }
 {
@@ -393,17 +394,17 @@ fn letters_end(text: &[u8], start: usize) -> usize
     }
 }
 
-// The refusal of a text from a place on, up to which it has whole letters.
-fn refusal_from(text: &[u8], start: usize) -> u8
+// Checks a text from a place on, up to which it has whole letters.
+fn check_from(text: &[u8], start: usize) -> Result<(), Refusal>
     requires { Plain text.now 0 start }
-    ensures { result ≡ text_refusal text.now }
+    ensures { refusal_in result ≡ text_refusal text.now }
 {
     let mut wanted = Wanted::new(0, 0, 0);
     let mut i = start;
     while i < text.len() {
         let byte = text[i];
         if byte == 0 {
-            return NUL_IN_TEXT;
+            return Err(Refusal::NulInText);
         }
         wanted = after_byte(wanted, byte);
         i += 1;
@@ -412,24 +413,27 @@ fn refusal_from(text: &[u8], start: usize) -> u8
         }
     }
     if wanted.count == 0 {
-        return 0;
+        Ok(())
+    } else {
+        Err(Refusal::NotUtf8)
     }
-    NOT_UTF8
 }
 
-// The refusal of a text, 0 where there is none: a nul in it before a letter that is not UTF-8.
-pub fn text_refusal(text: &[u8]) -> u8
-    ensures { result ≡ text_refusal text.now }
+// Checks a text: a nul in it is refused before a letter that is not UTF-8.
+pub fn check(text: &[u8]) -> Result<(), Refusal>
+    ensures { refusal_in result ≡ text_refusal text.now }
 {
     if text.len() < 16 {
-        if plain_short(text) {
-            return 0;
-        }
-        return refusal_from(text, 0);
+        return if plain_short(text) {
+            Ok(())
+        } else {
+            check_from(text, 0)
+        };
     }
     let i = plain_sixteens(text, 0);
     if plain_last(text, i) {
-        return 0;
+        Ok(())
+    } else {
+        check_from(text, i)
     }
-    refusal_from(text, i)
 }

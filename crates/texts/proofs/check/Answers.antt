@@ -1,7 +1,7 @@
--- `text_refusal` meets its contract. Assumes nothing.
+-- `check` meets its contract. Assumes nothing.
 use mathlib.Core.Path.{sym}
 use Rattle.texts.proofs.Runs.{plain_on, plain_whole}
-use Rattle.texts.proofs.text_refusal.Goals as goal
+use Rattle.texts.proofs.check.Goals as goal
 
 pub returns-then-plain_short : goal.returns-then-plain_short
 returns-then-plain_short c = sym (plain_whole c.args.text.now (c.plain_short.ensures c.if-plain_short.true))

@@ -1,10 +1,10 @@
--- `refusal_from` meets its contract. Assumes nothing.
+-- `check_from` meets its contract. Assumes nothing.
 use mathlib.Core.Path.{sym, ◌∙◌}
 use native.Mathlib.Omega.{arith}
 use Rattle.meaning.proofs.TextSteps.{nul_stop, text_nul, text_whole, text_broken}
 use Rattle.texts.specs.Letters.{wanted_of}
 use Rattle.texts.proofs.Runs.{judged_begin, judged_next, judged_plain}
-use Rattle.texts.proofs.refusal_from.Goals as goal
+use Rattle.texts.proofs.check_from.Goals as goal
 
 pub loop-i-init : goal.loop-i-init
 loop-i-init c = judged_begin _ _ _ c.new-wanted.ensures c.requires
@@ -43,5 +43,5 @@ loop-i-preserved c =
 pub returns-then-wanted-eq0-2 : goal.returns-then-wanted-eq0-2
 returns-then-wanted-eq0-2 c = sym (text_whole c.args.text.now _ _ c.loop-i-test.false c.loop-i.invariant.nul c.loop-i.invariant.letters c.if-wanted-eq0-2.true)
 
-pub returns : goal.returns
-returns c = sym (text_broken c.args.text.now _ _ c.loop-i-test.false c.loop-i.invariant.nul c.loop-i.invariant.letters c.if-wanted-eq0-2.false)
+pub returns-else-wanted-eq0-2 : goal.returns-else-wanted-eq0-2
+returns-else-wanted-eq0-2 c = sym (text_broken c.args.text.now _ _ c.loop-i-test.false c.loop-i.invariant.nul c.loop-i.invariant.letters c.if-wanted-eq0-2.false)

@@ -11,9 +11,8 @@ use borrow.Fn.Kinds.{In}
 use borrow.Fn.PlainCycle.{Measures, and, falls, is}
 use Rattle.meaning.specs.Depths.{Opened, total, depth_refusal, opened}
 use Rattle.meaning.proofs.Bounds.{total_most, total_opened}
-use Rattle.container_depths.specs.Opening.{depths_of, Raises, level}
+use Rattle.container_depths.specs.Opening.{depths_of, Raised, Raises, level}
 use Rattle.container_depths.specs.declared.ContainerDepths.{ContainerDepths}
-use Rattle.container_depths.specs.declared.Raised.{Raised}
 
 -- of a function in a cycle of calls: what it is given at a measure, and what a call of it asks below one
 abbrev pub given : (n : ℕ) (ps : List (ParamKind n)) → Measures n ps ℕ → In n ps → ℕ → In n ps

@@ -1,3 +1,2 @@
-pub mod Raising
 pub mod Unique
 pub mod Levels

@@ -1,12 +1,13 @@
 // How many containers are open, and the limits on them. Ports container_depths.rs.
 #![tactic(auto)]
 
-ghost use Rattle.std.specs.Prelude.{◌≡◌, ◌+◌, ◌-◌, ◌<◌};
+ghost use Rattle.std.specs.Prelude.{◌≡◌, ◌+◌, ◌<◌};
 ghost use Rattle.meaning.specs.Depths.{structure, array, variant, maybe, depths, none_open, depth_refusal, opened, closed};
-ghost use Rattle.container_depths.specs.Opening.{depths_of, Raises};
+ghost use Rattle.meaning.specs.Refused.{refusal_in};
+ghost use Rattle.container_depths.specs.Opening.{depths_of, raised_in, Raises};
 
 use meaning::limits::{MOST_ARRAYS, MOST_CONTAINERS, MOST_STRUCTURES};
-use meaning::refusals::{ARRAYS_TOO_DEEP, CONTAINERS_TOO_DEEP, STRUCTURES_TOO_DEEP};
+use meaning::refusals::Refusal;
 
 #[derive(Clone, Copy)]
 pub struct ContainerDepths {
@@ -16,40 +17,22 @@ pub struct ContainerDepths {
     pub maybe: u8,
 }
 
-// A refusal's number with the record as it was, or 0 with the record raised.
-#[derive(Clone, Copy)]
-pub struct Raised {
-    pub refusal: u8,
-    pub depths: ContainerDepths,
-}
-
-fn wide(count: u8) -> usize
-    ensures { result ≡ count }
-{
-    count as usize
-}
-
-fn lowered(count: u8) -> u8
-    ensures { result ≡ count - 1 }
-{
-    if count == 0 { 0 } else { count - 1 }
-}
-
 // Which limit, if any, these counts are over.
-fn check(structure: usize, array: usize, variant: usize, maybe: usize) -> u8
+#[tactic(auto, unfolding(meaning::specs::Depths::depth_refusal))]
+fn check(structure: usize, array: usize, variant: usize, maybe: usize) -> Result<(), Refusal>
     requires { structure + array + variant + maybe < 65536 }
-    ensures { result ≡ depth_refusal (depths structure array variant maybe) }
+    ensures { refusal_in result ≡ depth_refusal (depths structure array variant maybe) }
 {
     if ContainerDepths::MAX_STRUCTURE < structure {
-        return STRUCTURES_TOO_DEEP;
+        return Err(Refusal::StructuresTooDeep);
     }
     if ContainerDepths::MAX_ARRAY < array {
-        return ARRAYS_TOO_DEEP;
+        return Err(Refusal::ArraysTooDeep);
     }
     if ContainerDepths::MAX_TOTAL < structure + array + variant + maybe {
-        return CONTAINERS_TOO_DEEP;
+        return Err(Refusal::ContainersTooDeep);
     }
-    0
+    Ok(())
 }
 
 impl ContainerDepths {
@@ -71,50 +54,50 @@ impl ContainerDepths {
     }
 
     // So many more of each kind, where no limit is in the way.
-    fn raised(self, structure: usize, array: usize, variant: usize, maybe: usize) -> Raised
+    #[tactic(auto, using(meaning::proofs::DepthLaws::limits))]
+    fn raised(
+        self,
+        structure: usize,
+        array: usize,
+        variant: usize,
+        maybe: usize,
+    ) -> Result<Self, Refusal>
         requires { structure + array + variant + maybe < 2 }
-        ensures { Raises (depths_of self) (depths (self.structure + structure) (self.array + array) (self.variant + variant) (self.maybe + maybe)) result }
+        ensures { Raises (depths_of self) (depths (self.structure + structure) (self.array + array) (self.variant + variant) (self.maybe + maybe)) (raised_in self result) }
     {
-        let structures = wide(self.structure) + structure;
-        let arrays = wide(self.array) + array;
-        let variants = wide(self.variant) + variant;
-        let maybes = wide(self.maybe) + maybe;
-        let refusal = check(structures, arrays, variants, maybes);
-        if refusal != 0 {
-            return Raised {
-                refusal,
-                depths: self,
-            };
-        }
-        let depths = ContainerDepths {
+        let structures = usize::from(self.structure) + structure;
+        let arrays = usize::from(self.array) + array;
+        let variants = usize::from(self.variant) + variant;
+        let maybes = usize::from(self.maybe) + maybe;
+        check(structures, arrays, variants, maybes)?;
+        Ok(ContainerDepths {
             structure: structures as u8,
             array: arrays as u8,
             variant: variants as u8,
             maybe: maybes as u8,
-        };
-        Raised { refusal: 0, depths }
+        })
     }
 
-    pub fn inc_structure(self) -> Raised
-        ensures { Raises (depths_of self) (opened structure (depths_of self)) result }
+    pub fn inc_structure(self) -> Result<Self, Refusal>
+        ensures { Raises (depths_of self) (opened structure (depths_of self)) (raised_in self result) }
     {
         self.raised(1, 0, 0, 0)
     }
 
-    pub fn inc_array(self) -> Raised
-        ensures { Raises (depths_of self) (opened array (depths_of self)) result }
+    pub fn inc_array(self) -> Result<Self, Refusal>
+        ensures { Raises (depths_of self) (opened array (depths_of self)) (raised_in self result) }
     {
         self.raised(0, 1, 0, 0)
     }
 
-    pub fn inc_variant(self) -> Raised
-        ensures { Raises (depths_of self) (opened variant (depths_of self)) result }
+    pub fn inc_variant(self) -> Result<Self, Refusal>
+        ensures { Raises (depths_of self) (opened variant (depths_of self)) (raised_in self result) }
     {
         self.raised(0, 0, 1, 0)
     }
 
-    pub fn inc_maybe(self) -> Raised
-        ensures { Raises (depths_of self) (opened maybe (depths_of self)) result }
+    pub fn inc_maybe(self) -> Result<Self, Refusal>
+        ensures { Raises (depths_of self) (opened maybe (depths_of self)) (raised_in self result) }
     {
         self.raised(0, 0, 0, 1)
     }
@@ -122,21 +105,21 @@ impl ContainerDepths {
     pub fn dec_structure(mut self) -> Self
         ensures { depths_of result ≡ closed structure (depths_of self) }
     {
-        self.structure = lowered(self.structure);
+        self.structure = self.structure.saturating_sub(1);
         self
     }
 
     pub fn dec_array(mut self) -> Self
         ensures { depths_of result ≡ closed array (depths_of self) }
     {
-        self.array = lowered(self.array);
+        self.array = self.array.saturating_sub(1);
         self
     }
 
     pub fn dec_maybe(mut self) -> Self
         ensures { depths_of result ≡ closed maybe (depths_of self) }
     {
-        self.maybe = lowered(self.maybe);
+        self.maybe = self.maybe.saturating_sub(1);
         self
     }
 }

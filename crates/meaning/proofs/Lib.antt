@@ -13,6 +13,7 @@ pub mod TypeTextLaws
 pub mod OutcomeLaws
 pub mod FitLaws
 pub mod LayoutLaws
+pub mod RefusalNumbers
 pub mod ReadsBack
 pub mod ReadsBackStructures
 pub mod ReadsBackDictionaries

@@ -1,6 +1,0 @@
--- `ContainerDepths::inc_maybe` opens a maybe, or refuses and keeps the record. Assumes nothing.
-use native.Mathlib.Nat.{add-zero}
-use Rattle.container_depths.proofs.ContainerDepths.inc_maybe.Goals as goal
-
-pub returns : goal.returns
-returns c = simp add-zero at c.raised.ensures

@@ -1,101 +1,47 @@
 // The number of a width that stands at a place, in either byte order: the first byte is the highest where `big` says so.
 #![tactic(auto)]
 
-ghost use Rattle.std.specs.Prelude.{◌≡◌, false, ◌+◌, ◌≤◌, ◌<◌, length};
-ghost use Rattle.meaning.specs.Numbers.{spelled};
+ghost use Rattle.std.specs.Prelude.{◌≡◌, ◌≤◌, ◌<◌};
+ghost use Rattle.meaning.specs.Numbers.{next_byte};
+ghost use Rattle.utils.specs.Checks.{checked};
 ghost use Rattle.byte_order.specs.Standing.{number_at, number_of};
 
-use meaning::refusals::{NO_VALUE, OUT_OF_BOUNDS};
-use utils::{Checked, reaches};
+use meaning::refusals::Refusal;
+use utils::reaches;
 
-fn wide(byte: u8) -> usize
-    ensures { (result ≡ byte) × (result < 256) }
+// The byte that comes next of a number, from the highest down.
+fn next_byte(width: usize, i: usize, big: bool) -> usize
+    requires { i < width }
+    ensures { result ≡ next_byte big width i }
 {
-    byte as usize
+    if big { i } else { width - 1 - i }
 }
 
-// Two, four and eight bytes, each from its two halves.
-fn two(part: &[u8], place: usize, big: bool) -> usize
-    requires { place + 2 ≤ length part.now }
-    ensures { (result ≡ spelled big 2 place part.now) × (result < 65536) }
+// Of a width that is known where it is called. Taken from the highest byte down.
+pub fn number<const WIDTH: usize>(part: &[u8], place: usize, big: bool) -> Result<usize, Refusal>
+    requires { WIDTH ≤ 8 }
+    ensures { checked result ≡ number_at WIDTH big part.now place }
 {
-    let first = wide(part[place]);
-    let second = wide(part[place + 1]);
-    if big {
-        return second + 256 * first;
+    if !reaches(part, place, WIDTH) {
+        return Err(Refusal::OutOfBounds);
     }
-    first + 256 * second
-}
-
-fn four(part: &[u8], place: usize, big: bool) -> usize
-    requires { place + 4 ≤ length part.now }
-    ensures { (result ≡ spelled big 4 place part.now) × (result < 4294967296) }
-{
-    let first = two(part, place, big);
-    let second = two(part, place + 2, big);
-    if big {
-        return second + 65536 * first;
+    let mut number = 0;
+    for i in 0..WIDTH {
+        let next = next_byte(WIDTH, i, big);
+        number = 256 * number + part[place + next] as usize;
     }
-    first + 65536 * second
+    Ok(number)
 }
 
-fn eight(part: &[u8], place: usize, big: bool) -> usize
-    requires { place + 8 ≤ length part.now }
-    ensures { result ≡ spelled big 8 place part.now }
-{
-    let first = four(part, place, big);
-    let second = four(part, place + 4, big);
-    if big {
-        return second + 4294967296 * first;
-    }
-    first + 4294967296 * second
-}
-
-// One byte is the same in either byte order.
-pub fn byte_at(part: &[u8], place: usize) -> Checked
-    ensures { result ≡ number_at 1 false part.now place }
-{
-    if reaches(part, place, 1) {
-        return Checked::passed(wide(part[place]));
-    }
-    Checked::failed(OUT_OF_BOUNDS)
-}
-
-pub fn two_at(part: &[u8], place: usize, big: bool) -> Checked
-    ensures { result ≡ number_at 2 big part.now place }
-{
-    if reaches(part, place, 2) {
-        return Checked::passed(two(part, place, big));
-    }
-    Checked::failed(OUT_OF_BOUNDS)
-}
-
-pub fn four_at(part: &[u8], place: usize, big: bool) -> Checked
-    ensures { result ≡ number_at 4 big part.now place }
-{
-    if reaches(part, place, 4) {
-        return Checked::passed(four(part, place, big));
-    }
-    Checked::failed(OUT_OF_BOUNDS)
-}
-
-pub fn eight_at(part: &[u8], place: usize, big: bool) -> Checked
-    ensures { result ≡ number_at 8 big part.now place }
-{
-    if reaches(part, place, 8) {
-        return Checked::passed(eight(part, place, big));
-    }
-    Checked::failed(OUT_OF_BOUNDS)
-}
-
-pub fn number_at(part: &[u8], place: usize, width: usize, big: bool) -> Checked
-    ensures { result ≡ number_of width big part.now place }
+// Of any width: one that is not 1, 2, 4 or 8 is refused.
+pub fn number_at(part: &[u8], place: usize, width: usize, big: bool) -> Result<usize, Refusal>
+    ensures { checked result ≡ number_of width big part.now place }
 {
     match width {
-        1 => byte_at(part, place),
-        2 => two_at(part, place, big),
-        4 => four_at(part, place, big),
-        8 => eight_at(part, place, big),
-        _ => Checked::failed(NO_VALUE),
+        1 => number::<1>(part, place, big),
+        2 => number::<2>(part, place, big),
+        4 => number::<4>(part, place, big),
+        8 => number::<8>(part, place, big),
+        _ => Err(Refusal::NoValue),
     }
 }

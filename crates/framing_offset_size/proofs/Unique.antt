@@ -3,11 +3,12 @@ use mathlib.Core.Path.{◌≡◌, refl, sym, ap, ◌∙◌}
 use Prim.Native.Nat.{ℕ}
 use lib.Dec.{eqb}
 use Rattle.meaning.specs.Choice.{pick}
+use Rattle.std.specs.Prelude.{Option, Some, None}
 use Rattle.meaning.specs.OneAnswer.{OneAnswer}
+use Rattle.meaning.proofs.RefusalLaws.{refusal_one}
+use Rattle.utils.proofs.Answered.{checked_one}
 use Rattle.framing_offset_size.specs.declared.FramingOffsetSize.{FramingOffsetSize}
 use Rattle.framing_offset_size.specs.declared.FramingOffsetSize.TheVariants.{U8, U16, U32, U64}
-use Rattle.framing_offset_size.specs.declared.Fitting.{Fitting}
-use Rattle.framing_offset_size.specs.declared.Fitting.TheVariants.{Size, Nothing}
 use Rattle.framing_offset_size.specs.Widths.{width_of, fitting_width}
 use Rattle.framing_offset_size.proofs.FramingOffsetSize.width.Kinds as width_kinds
 use Rattle.framing_offset_size.proofs.FramingOffsetSize.width.Reads as width
@@ -29,21 +30,21 @@ use Rattle.framing_offset_size.proofs.FramingOffsetSize.read_last_offset_from_bu
 use Rattle.framing_offset_size.proofs.FramingOffsetSize.read_last_offset_from_buffer.Reads as read_last_offset_from_buffer
 
 -- the enums by their widths
-abbrev size_of : ℕ → Fitting
-size_of n = pick (eqb n 1) (Size U8) (pick (eqb n 2) (Size U16) (pick (eqb n 4) (Size U32) (pick (eqb n 8) (Size U64) Nothing)))
+abbrev size_of : ℕ → Option FramingOffsetSize
+size_of n = pick (eqb n 1) (Some U8) (pick (eqb n 2) (Some U16) (pick (eqb n 4) (Some U32) (pick (eqb n 8) (Some U64) None)))
 
-size_back : (f : Fitting) → size_of (fitting_width f) ≡ f
-size_back (Size U8) = refl
-size_back (Size U16) = refl
-size_back (Size U32) = refl
-size_back (Size U64) = refl
-size_back Nothing = refl
+size_back : (f : Option FramingOffsetSize) → size_of (fitting_width f) ≡ f
+size_back (Some U8) = refl
+size_back (Some U16) = refl
+size_back (Some U32) = refl
+size_back (Some U64) = refl
+size_back None = refl
 
-same_fitting : {n : ℕ} (f g : Fitting) → fitting_width f ≡ n → fitting_width g ≡ n → f ≡ g
+same_fitting : {n : ℕ} (f g : Option FramingOffsetSize) → fitting_width f ≡ n → fitting_width g ≡ n → f ≡ g
 same_fitting f g p q = sym (size_back f) ∙ ap size_of (p ∙ sym q) ∙ size_back g
 
 pub same_width : {n : ℕ} (s t : FramingOffsetSize) → width_of s ≡ n → width_of t ≡ n → s ≡ t
-same_width s t p q = let e = same_fitting (Size s) (Size t) p q in cc
+same_width s t p q = let e = same_fitting (Some s) (Some t) p q in cc
 
 pub width_unique : OneAnswer width_kinds.ps width_kinds.r width.Learnt
 width_unique κs a z z' w w' p q = (p ∙ sym q, refl)
@@ -58,10 +59,10 @@ pub bump_up_unique : OneAnswer bump_up_kinds.ps bump_up_kinds.r bump_up.Learnt
 bump_up_unique κs a z z' w w' p q = (p ∙ sym q, refl)
 
 pub offset_at_unique : OneAnswer offset_at_kinds.ps offset_at_kinds.r offset_at.Learnt
-offset_at_unique κs a z z' w w' p q = (p ∙ sym q, refl)
+offset_at_unique κs a z z' w w' p q = (checked_one z z' (p ∙ sym q), refl)
 
 pub read_last_offset_from_buffer_unique : OneAnswer read_last_offset_from_buffer_kinds.ps read_last_offset_from_buffer_kinds.r read_last_offset_from_buffer.Learnt
-read_last_offset_from_buffer_unique κs a z z' w w' p q = (p ∙ sym q, refl)
+read_last_offset_from_buffer_unique κs a z z' w w' p q = (checked_one z z' (p ∙ sym q), refl)
 
 pub for_bare_container_unique : OneAnswer for_bare_container_kinds.ps for_bare_container_kinds.r for_bare_container.Learnt
 for_bare_container_unique κs a z z' w w' p q = (same_fitting z z' p.width q.width, refl)
@@ -72,4 +73,4 @@ for_encoded_container_unique κs a z z' w w' p q = (same_width z z' p q, refl)
 pub write_offset_unique : OneAnswer write_offset_kinds.ps write_offset_kinds.r write_offset.Learnt
 write_offset_unique κs a z z' w w' p q =
     let buffers = p.1 ∙ sym q.1 in
-    (p.0 ∙ sym q.0, λ i. (tt, (buffers i, (tt, tt))))
+    (refusal_one (λ a b. refl) z z' (p.0 ∙ sym q.0), λ i. (tt, (buffers i, (tt, tt))))

@@ -17,8 +17,7 @@ use Rattle.meaning.specs.Offsets.{largest, first_width, bare_width, last_offset}
 use Rattle.meaning.proofs.OffsetSteps.{room_for, first_fits, first_not}
 use Rattle.framing_offset_size.specs.declared.FramingOffsetSize.{FramingOffsetSize}
 use Rattle.framing_offset_size.specs.declared.FramingOffsetSize.TheVariants.{U8, U16, U32, U64}
-use Rattle.framing_offset_size.specs.declared.Fitting.{Fitting}
-use Rattle.framing_offset_size.specs.declared.Fitting.TheVariants.{Size, Nothing}
+use Rattle.std.specs.Prelude.{Option, Some, None}
 use Rattle.utils.specs.Checks.{passed, failed}
 use Rattle.byte_order.specs.Standing.{number_at}
 use Rattle.byte_order.proofs.Standings.{number_at_is}
@@ -42,7 +41,7 @@ width_aligns U16 = by2
 width_aligns U32 = by4
 width_aligns U64 = by8
 
-same_size : {s t : FramingOffsetSize} → Size s ≡ Size t → s ≡ t
+same_size : {s t : FramingOffsetSize} → Some s ≡ Some t → s ≡ t
 same_size h = cc
 
 -- the widths from one on
@@ -69,14 +68,14 @@ module _ (len count : ℕ) {b : Bool} where
   trying_done U64 e t h = sym (first_fits 0 8 [] len count (sym e ∙ t)) ∙ h
 
   pub trying_next : (s next : FramingOffsetSize) → b ≡ leb (len + count * width_of s) (largest (width_of s)) → b ≡ false
-      → Size next ≡ bumped s → Trying s len count → Trying next len count
+      → Some next ≡ bumped s → Trying s len count → Trying next len count
   trying_next U8 next e f g h = rw (same_size g) (sym (first_not 0 1 (2 ∷ 4 ∷ 8 ∷ []) len count (sym e ∙ f)) ∙ h)
   trying_next U16 next e f g h = rw (same_size g) (sym (first_not 0 2 (4 ∷ 8 ∷ []) len count (sym e ∙ f)) ∙ h)
   trying_next U32 next e f g h = rw (same_size g) (sym (first_not 0 4 (8 ∷ []) len count (sym e ∙ f)) ∙ h)
   trying_next U64 next e f g h = absurd (let z : ◌≡◌ {A = ℕ} 0 1 = cc in omega arith)
 
   pub trying_none : (s : FramingOffsetSize) → b ≡ leb (len + count * width_of s) (largest (width_of s)) → b ≡ false
-      → Nothing ≡ bumped s → Trying s len count → 0 ≡ bare_width len count
+      → None ≡ bumped s → Trying s len count → 0 ≡ bare_width len count
   unfolding first_width
   trying_none U64 e f g h = sym (first_not 0 8 [] len count (sym e ∙ f)) ∙ h
   trying_none U8 e f g h = absurd (let z : ◌≡◌ {A = ℕ} 0 1 = cc in omega arith)
@@ -84,16 +83,16 @@ module _ (len count : ℕ) {b : Bool} where
   trying_none U32 e f g h = absurd (let z : ◌≡◌ {A = ℕ} 0 1 = cc in omega arith)
 
 -- each width is above the one before
-pub bumped_above : (s next : FramingOffsetSize) → Size next ≡ bumped s → 8 - width_of next < 8 - width_of s
+pub bumped_above : (s next : FramingOffsetSize) → Some next ≡ bumped s → 8 - width_of next < 8 - width_of s
 bumped_above U8 next g = rw (same_size g) (omega arith)
 bumped_above U16 next g = rw (same_size g) (omega arith)
 bumped_above U32 next g = rw (same_size g) (omega arith)
 bumped_above U64 next g = absurd (let z : ◌≡◌ {A = ℕ} 0 1 = cc in omega arith)
 
-pub fitted : (len count : ℕ) (r : Fitting) → fitting_width r ≡ bare_width len count → Fitted len count r
-fitted len count (Size s) h =
+pub fitted : (len count : ℕ) (r : Option FramingOffsetSize) → fitting_width r ≡ bare_width len count → Fitted len count r
+fitted len count (Some s) h =
     record { refusal = rw (ne_eqb (bare_width len count) 0 (λ z. omega (arith, width_positive s, h))); width = h }
-fitted len count Nothing h = record { refusal = rw (eq-eqb (bare_width len count) 0 (sym h)); width = h }
+fitted len count None h = record { refusal = rw (eq-eqb (bare_width len count) 0 (sym h)); width = h }
 
 pub fits_count : (s : FramingOffsetSize) (len count : ℕ) {most room : ℕ} → most ≡ largest (width_of s) → len ≤ most
     → room ≡ (most - len) / width_of s → leb count room ≡ leb (len + count * width_of s) (largest (width_of s))
@@ -116,18 +115,18 @@ module _ (w : ℕ) (l : List ℕ) where
       go true e = ap passed (last_none w l (eqb-true (length l) 0 e))
       go false e = refl
 
-  pub last_empty : length l ≡ 0 → passed 0 ≡ last_offset_in w l
-  last_empty h = sym (last_offset_in_is ∙ rw (eq-eqb (length l) 0 h))
+  pub last_empty : eqb (length l) 0 ≡ true → passed 0 ≡ last_offset_in w l
+  last_empty h = sym (last_offset_in_is ∙ rw h)
 
-  module _ (h : length l ≡ 0 → ⊥) where
+  module _ (h : eqb (length l) 0 ≡ false) where
     pub last_short : length l < w → failed out_of_bounds ≡ last_offset_in w l
-    last_short g = sym (last_offset_in_is ∙ rw (ne_eqb (length l) 0 h, lt-leb w (length l) g))
+    last_short g = sym (last_offset_in_is ∙ rw (h, lt-leb w (length l) g))
 
     pub last_there : {n : ℕ} → n ≡ w → w ≤ length l → number_at w false l (length l - n) ≡ last_offset_in w l
     last_there e g =
         let inside : length l - w + w ≤ length l = omega arith in
         rw e (number_at_is w false l (length l - w) ∙ rw (le-leb (length l - w + w) (length l) inside)
-        (sym (last_offset_in_is ∙ rw (ne_eqb (length l) 0 h, le-leb w (length l) g))))
+        (sym (last_offset_in_is ∙ rw (h, le-leb w (length l) g))))
 
 -- what `write_offset` owes: its refusal, and the buffer afterwards
 abbrev Wrote : ℕ → ℕ → List ℕ → ℕ → List ℕ → Type 0

@@ -3,26 +3,20 @@
 
 ghost use Rattle.std.specs.Prelude.{◌≡◌, false, ◌+◌, ◌*◌, ◌/◌, leb};
 ghost use Rattle.meaning.specs.Offsets.{largest, encoded_width};
+ghost use Rattle.meaning.specs.Refused.{refusal_in};
+ghost use Rattle.utils.specs.Checks.{checked};
 ghost use Rattle.byte_order.specs.Standing.{number_at};
 ghost use Rattle.framing_offset_size.specs.Widths.{width_of, bumped, Fitted, write_refusal, buffer_after, last_offset_in};
 
-use byte_order::{byte_at, eight_at, four_at, two_at};
-use meaning::refusals::{OUT_OF_BOUNDS, ROOM_TOO_SMALL};
-use utils::Checked;
+use byte_order::number;
+use meaning::refusals::Refusal;
 
-#[derive(Clone, Copy)]
+#[derive(Clone, Copy, Debug, PartialEq, Eq)]
 pub enum FramingOffsetSize {
     U8,
     U16,
     U32,
     U64,
-}
-
-// A width that fits, or none: the refusal 2.
-#[derive(Clone, Copy)]
-pub enum Fitting {
-    Size(FramingOffsetSize),
-    Nothing,
 }
 
 impl FramingOffsetSize {
@@ -60,14 +54,15 @@ impl FramingOffsetSize {
         }
     }
 
-    pub fn bump_up(self) -> Fitting
+    // The next width, none behind the last.
+    pub fn bump_up(self) -> Option<Self>
         ensures { result ≡ bumped self }
     {
         match self {
-            FramingOffsetSize::U8 => Fitting::Size(FramingOffsetSize::U16),
-            FramingOffsetSize::U16 => Fitting::Size(FramingOffsetSize::U32),
-            FramingOffsetSize::U32 => Fitting::Size(FramingOffsetSize::U64),
-            FramingOffsetSize::U64 => Fitting::Nothing,
+            FramingOffsetSize::U8 => Some(FramingOffsetSize::U16),
+            FramingOffsetSize::U16 => Some(FramingOffsetSize::U32),
+            FramingOffsetSize::U32 => Some(FramingOffsetSize::U64),
+            FramingOffsetSize::U64 => None,
         }
     }
 
@@ -76,24 +71,19 @@ impl FramingOffsetSize {
         ensures { result ≡ leb (len + count * width_of self) (largest (width_of self)) }
     {
         let most = self.max();
-        if most < len {
-            return false;
-        }
-        count <= self.count_in(most - len)
+        len <= most && count <= self.count_in(most - len)
     }
 
-    pub fn for_bare_container(len: usize, count: usize) -> Fitting
+    // The smallest width that fits a body and its offsets, if any does.
+    pub fn for_bare_container(len: usize, count: usize) -> Option<Self>
         ensures { Fitted len count result }
     {
         let mut size = FramingOffsetSize::U8;
         loop {
             if size.holds(len, count) {
-                return Fitting::Size(size);
+                return Some(size);
             }
-            let Fitting::Size(next) = size.bump_up() else {
-                return Fitting::Nothing;
-            };
-            size = next;
+            size = size.bump_up()?;
         }
     }
 
@@ -112,46 +102,44 @@ impl FramingOffsetSize {
         FramingOffsetSize::U64
     }
 
-    // The low bytes of an offset at the front of a buffer, the lowest first. The refusal's number, 0 where there is none.
-    pub fn write_offset(self, buffer: &mut [u8], offset: usize) -> u8
-        ensures refusal { result ≡ write_refusal (width_of self) buffer.old }
+    // The low bytes of an offset at the front of a buffer, the lowest first.
+    pub fn write_offset(self, buffer: &mut [u8], offset: usize) -> Result<(), Refusal>
+        ensures refusal { refusal_in result ≡ write_refusal (width_of self) buffer.old }
         ensures bytes { buffer.new ≡ buffer_after (width_of self) offset buffer.old }
     {
         let width = self.width();
         if buffer.len() < width {
-            return ROOM_TOO_SMALL;
+            return Err(Refusal::RoomTooSmall);
         }
         let mut rest = offset;
-        let mut i = 0;
-        while i < width {
+        for i in 0..width {
             buffer[i] = (rest % 256) as u8;
-            rest = rest / 256;
-            i += 1;
+            rest /= 256;
         }
-        0
+        Ok(())
     }
 
     // The offset of this width that stands at a place.
-    pub fn offset_at(self, part: &[u8], place: usize) -> Checked
-        ensures { result ≡ number_at (width_of self) false part.now place }
+    pub fn offset_at(self, part: &[u8], place: usize) -> Result<usize, Refusal>
+        ensures { checked result ≡ number_at (width_of self) false part.now place }
     {
         match self {
-            FramingOffsetSize::U8 => byte_at(part, place),
-            FramingOffsetSize::U16 => two_at(part, place, false),
-            FramingOffsetSize::U32 => four_at(part, place, false),
-            FramingOffsetSize::U64 => eight_at(part, place, false),
+            FramingOffsetSize::U8 => number::<1>(part, place, false),
+            FramingOffsetSize::U16 => number::<2>(part, place, false),
+            FramingOffsetSize::U32 => number::<4>(part, place, false),
+            FramingOffsetSize::U64 => number::<8>(part, place, false),
         }
     }
 
-    pub fn read_last_offset_from_buffer(self, buffer: &[u8]) -> Checked
-        ensures { result ≡ last_offset_in (width_of self) buffer.now }
+    pub fn read_last_offset_from_buffer(self, buffer: &[u8]) -> Result<usize, Refusal>
+        ensures { checked result ≡ last_offset_in (width_of self) buffer.now }
     {
-        if buffer.len() == 0 {
-            return Checked::passed(0);
+        if buffer.is_empty() {
+            return Ok(0);
         }
         let width = self.width();
         if buffer.len() < width {
-            return Checked::failed(OUT_OF_BOUNDS);
+            return Err(Refusal::OutOfBounds);
         }
         self.offset_at(buffer, buffer.len() - width)
     }

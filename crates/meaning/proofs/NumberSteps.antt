@@ -8,7 +8,7 @@ use native.Mathlib.Omega.{arith}
 use lib.ListN.{length, take, drop, get_or, length-reverse, length-take, length-drop}
 use lib.Seq.{take-add, drop-drop, drop-cons}
 use Rattle.meaning.specs.Choice.{pick}
-use Rattle.meaning.specs.Numbers.{value, spelled}
+use Rattle.meaning.specs.Numbers.{value, spelled, next_byte}
 
 pub value_append : (x y : List ℕ) → value (x ++ y) ≡ value x + 256 ^ length x * value y
 unfolding value
@@ -58,14 +58,9 @@ abbrev pub highest_from : Bool → ℕ → ℕ → ℕ → ℕ
 highest_from true w i place = place
 highest_from false w i place = place + (w - i)
 
--- the place of the next byte, from the highest down
-abbrev pub next_byte : Bool → ℕ → ℕ → ℕ → ℕ
-next_byte true w i place = place + i
-next_byte false w i place = place + (w - 1 - i)
-
 -- one more byte of a number, from the highest down
 pub spelled_next : (big : Bool) (w i place : ℕ) (l : List ℕ) → i < w → place + w ≤ length l
-    → 256 * spelled big i (highest_from big w i place) l + get_or l (next_byte big w i place) 0 ≡ spelled big (i + 1) (highest_from big w (i + 1) place) l
+    → 256 * spelled big i (highest_from big w i place) l + get_or l (place + next_byte big w i) 0 ≡ spelled big (i + 1) (highest_from big w (i + 1) place) l
 spelled_next true w i place l h k =
     sym (spelled_parts true i 1 place l (omega arith) ∙ rw (spelled_byte true (place + i) l (omega arith)) (omega arith))
 spelled_next false w i place l h k =

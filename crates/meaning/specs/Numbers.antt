@@ -1,5 +1,5 @@
 -- Numbers as bytes, once over the width and the byte order. Assumes nothing: these are definitions.
-use Rattle.std.specs.Prelude.{List, [], ◌∷◌, reverse, Bool, true, false, ℕ, zero, suc, ◌+◌, ◌*◌, ◌/◌, ◌%◌, take, drop}
+use Rattle.std.specs.Prelude.{List, [], ◌∷◌, reverse, Bool, true, false, ℕ, zero, suc, ◌+◌, ◌-◌, ◌*◌, ◌/◌, ◌%◌, take, drop}
 
 -- the `w` low bytes of a number, the lowest first: a number that is too wide loses its high bytes
 unfoldable pub bytes : ℕ → ℕ → List ℕ
@@ -19,3 +19,8 @@ ordered false l = l
 -- the number of a width that stands at a place
 abbrev pub spelled : Bool → ℕ → ℕ → List ℕ → ℕ
 spelled big w place l = value (ordered big (take w (drop place l)))
+
+-- the byte that comes next of a number of a width, from the highest down
+abbrev pub next_byte : Bool → ℕ → ℕ → ℕ
+next_byte true w i = i
+next_byte false w i = w - 1 - i

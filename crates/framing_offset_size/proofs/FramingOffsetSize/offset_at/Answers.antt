@@ -2,13 +2,13 @@
 use Rattle.framing_offset_size.proofs.FramingOffsetSize.offset_at.Goals as goal
 
 pub returns-in-U8 : goal.returns-in-U8
-returns-in-U8 c = rw c.in-U8.is c.byte_at.ensures
+returns-in-U8 c = rw c.in-U8.is c.number.ensures
 
 pub returns-in-U16 : goal.returns-in-U16
-returns-in-U16 c = rw c.in-U16.is c.two_at.ensures
+returns-in-U16 c = rw c.in-U16.is c.number-in-U16.ensures
 
 pub returns-in-U32 : goal.returns-in-U32
-returns-in-U32 c = rw c.in-U32.is c.four_at.ensures
+returns-in-U32 c = rw c.in-U32.is c.number-in-U32.ensures
 
 pub returns-in-U64 : goal.returns-in-U64
-returns-in-U64 c = rw c.in-U64.is c.eight_at.ensures
+returns-in-U64 c = rw c.in-U64.is c.number-in-U64.ensures

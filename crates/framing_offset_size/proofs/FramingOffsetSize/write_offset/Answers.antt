@@ -19,12 +19,6 @@ overflow_cast-buffer c = omega arith
 pub bounds-buffer-i : goal.bounds-buffer-i
 bounds-buffer-i c = omega arith
 
-pub overflow_add-i : goal.overflow_add-i
-overflow_add-i c = omega arith
-
-pub loop-i-smaller : goal.loop-i-smaller
-loop-i-smaller c = omega arith
-
 pub loop-i-preserved : goal.loop-i-preserved
 loop-i-preserved c = writing_next _ _ _ _ _ _ c.loop-i.invariant c.loop-i-test.true c.if-buffer-width.false
 

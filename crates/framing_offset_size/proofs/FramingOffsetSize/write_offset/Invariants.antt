@@ -1,10 +1,6 @@
 -- `framing_offset_size::FramingOffsetSize::write_offset` meets its contract. Assumes nothing.
 use Rattle.meaning.proofs.OffsetSteps.{Writing}
-use Prim.Native.Nat.{◌-◌}
 use Rattle.framing_offset_size.proofs.FramingOffsetSize.write_offset.Given as goal
 
 abbrev pub invariant-loop-i : goal.invariant-loop-i
 invariant-loop-i l = Writing l.width l.offset l.initial.buffer l.buffer l.rest l.i
-
-abbrev pub decreases-loop-i : goal.decreases-loop-i
-decreases-loop-i l = l.width - l.i

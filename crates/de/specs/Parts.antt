@@ -1,8 +1,10 @@
 -- What stands at a place of a part: padding, the place behind some bytes, and bools. Assumes nothing: these are definitions.
-use Rattle.std.specs.Prelude.{List, ℕ, ◌+◌, ltb, drop}
+use Rattle.std.specs.Prelude.{List, Bool, ℕ, ◌+◌, ltb, drop, Result, Ok, Err}
 use Rattle.meaning.specs.Choice.{pick}
 use Rattle.meaning.specs.Limits.{largest_number}
 use Rattle.meaning.specs.Refusals.{out_of_bounds, no_value}
+use Rattle.meaning.specs.Refused.{number_of}
+use Rattle.meaning.specs.declared.refusals.Refusal.{Refusal}
 use Rattle.meaning.specs.Padding.{is_alignment}
 use Rattle.meaning.specs.Depths.{none_open}
 use Rattle.meaning.specs.Reading.{pad, read_bool}
@@ -24,3 +26,8 @@ place_after l place len = pick (holds l place len) (passed (place + len)) (faile
 -- what a reading of a bool tells, whatever is open and wherever it stands
 unfoldable pub bool_at : List ℕ → ℕ → Checked
 bool_at l place = told_by (read_bool none_open 0 (drop place l))
+
+-- what a bool is answered with: 1 where it is true
+abbrev pub bool_checked : Result Bool Refusal → Checked
+bool_checked (Ok b) = passed (pick b 1 0)
+bool_checked (Err r) = failed (number_of r)

@@ -4,59 +4,62 @@
 ghost use Rattle.std.specs.Prelude.{◌≡◌, ◌+◌, ◌≤◌, leb, length, drop};
 ghost use Rattle.meaning.specs.Padding.{leading_zeros};
 ghost use Rattle.meaning.specs.Parts.{part_at};
+ghost use Rattle.utils.specs.Checks.{checked};
 ghost use Rattle.byte_order.specs.Standing.{number_at};
 ghost use Rattle.framing_offset_size.specs.Widths.{width_of};
-ghost use Rattle.de.specs.Parts.{padding_at, place_after, bool_at};
+ghost use Rattle.de.specs.Parts.{padding_at, place_after, bool_at, bool_checked};
 
 use byte_order::number_at;
 use framing_offset_size::FramingOffsetSize;
-use meaning::refusals::{OUT_OF_BOUNDS, PADDING_NOT_ZERO};
-use utils::{Checked, padding_for_n_bytes, reaches};
+use meaning::refusals::Refusal;
+use utils::{padding_for_n_bytes, reaches};
 
 // Whether so many bytes at a place are 0.
 pub fn zeros(part: &[u8], place: usize, count: usize) -> bool
     requires { place + count ≤ length part.now }
     ensures { result ≡ leb count (leading_zeros (drop place part.now)) }
 {
-    let mut i = 0;
-    while i < count {
-        if part[place + i] != 0 {
+    for byte in &part[place..place + count] {
+        if *byte != 0 {
             return false;
         }
-        i += 1;
     }
     true
 }
 
 // The padding that is due at a place, alignment counted from position plus place.
-pub fn parse_padding(position: usize, place: usize, alignment: usize, part: &[u8]) -> Checked
-    ensures { result ≡ padding_at position place alignment part.now }
+pub fn parse_padding(
+    position: usize,
+    place: usize,
+    alignment: usize,
+    part: &[u8],
+) -> Result<usize, Refusal>
+    ensures { checked result ≡ padding_at position place alignment part.now }
 {
     if usize::MAX - position < place {
-        return Checked::failed(OUT_OF_BOUNDS);
+        return Err(Refusal::OutOfBounds);
     }
-    let due = padding_for_n_bytes(position + place, alignment);
-    let size = due.value;
+    let size = padding_for_n_bytes(position + place, alignment)?;
     if size == 0 {
-        return due;
+        return Ok(0);
     }
-    if reaches(part, place, size) {
-        if zeros(part, place, size) {
-            return due;
-        }
-        return Checked::failed(PADDING_NOT_ZERO);
+    if !reaches(part, place, size) {
+        return Err(Refusal::OutOfBounds);
     }
-    Checked::failed(OUT_OF_BOUNDS)
+    if !zeros(part, place, size) {
+        return Err(Refusal::PaddingNotZero);
+    }
+    Ok(size)
 }
 
 // The place after so many bytes.
-pub fn next_place(part: &[u8], place: usize, len: usize) -> Checked
-    ensures { result ≡ place_after part.now place len }
+pub fn next_place(part: &[u8], place: usize, len: usize) -> Result<usize, Refusal>
+    ensures { checked result ≡ place_after part.now place len }
 {
-    if reaches(part, place, len) {
-        return Checked::passed(place + len);
+    if !reaches(part, place, len) {
+        return Err(Refusal::OutOfBounds);
     }
-    Checked::failed(OUT_OF_BOUNDS)
+    Ok(place + len)
 }
 
 // The bytes up to that place, none where it is refused.
@@ -70,21 +73,23 @@ pub fn next_slice(part: &[u8], place: usize, len: usize) -> &[u8]
     &part[..0]
 }
 
-pub fn read_number(part: &[u8], place: usize, size: FramingOffsetSize, big: bool) -> Checked
-    ensures { result ≡ number_at (width_of size) big part.now place }
+pub fn read_number(
+    part: &[u8],
+    place: usize,
+    size: FramingOffsetSize,
+    big: bool,
+) -> Result<usize, Refusal>
+    ensures { checked result ≡ number_at (width_of size) big part.now place }
 {
     number_at(part, place, size.width(), big)
 }
 
 // Any byte but 0 is true.
-pub fn read_bool(part: &[u8], place: usize) -> Checked
-    ensures { result ≡ bool_at part.now place }
+pub fn read_bool(part: &[u8], place: usize) -> Result<bool, Refusal>
+    ensures { bool_checked result ≡ bool_at part.now place }
 {
-    if reaches(part, place, 1) {
-        if part[place] == 0 {
-            return Checked::passed(0);
-        }
-        return Checked::passed(1);
+    if !reaches(part, place, 1) {
+        return Err(Refusal::OutOfBounds);
     }
-    Checked::failed(OUT_OF_BOUNDS)
+    Ok(part[place] != 0)
 }

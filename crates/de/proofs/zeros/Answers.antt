@@ -1,30 +1,29 @@
--- `de::zeros` says whether so many bytes at a place are 0. The loop passes a zero a turn. Assumes nothing.
+-- `de::zeros` says whether so many bytes at a place are 0. Assumes nothing.
 use Rattle.meaning.proofs.TextSteps.{run_next, run_stop, run_end}
+use Rattle.std.proofs.Common.{◌<◌, ◌≤◌}
+use Rattle.utils.proofs.Places.{part_length, part_item}
 use native.Mathlib.Nat.{add-zero, sub-zero}
-use native.Mathlib.Omega.{arith}
 use mathlib.Core.Path.{sym, ◌∙◌}
 use Rattle.de.proofs.zeros.Goals as goal
 
-pub loop-i-init : goal.loop-i-init
-loop-i-init c = (omega arith, simp (add-zero, sub-zero))
+pub loop-byte-init : goal.loop-byte-init
+loop-byte-init c = simp (add-zero, sub-zero)
 
-pub overflow_add-place : goal.overflow_add-place
-overflow_add-place c = omega arith
+pub returns-then-byte-ne0 : goal.returns-then-byte-ne0
+returns-then-byte-ne0 c =
+    let a = c.args in
+    let i = c.loop-byte.byte-index in
+    let before : i < a.count = rw (part_length a.part.now a.place a.count c.requires) at c.loop-byte-test.true in
+    sym (c.loop-byte.invariant ∙ run_stop a.part.now a.place a.count i before c.requires (λ z. c.if-byte-ne0.true (part_item a.part.now a.place a.count before ∙ z)))
 
-pub bounds-part-place : goal.bounds-part-place
-bounds-part-place c = omega arith
-
-pub returns-then-part-place-ne0 : goal.returns-then-part-place-ne0
-returns-then-part-place-ne0 c = sym (c.loop-i.invariant.1 ∙ run_stop c.args.part.now _ _ _ c.loop-i-test.true c.requires c.if-part-place-ne0.true)
-
-pub overflow_add-i : goal.overflow_add-i
-overflow_add-i c = omega arith
-
-pub loop-i-smaller : goal.loop-i-smaller
-loop-i-smaller c = omega arith
-
-pub loop-i-preserved : goal.loop-i-preserved
-loop-i-preserved c = (omega arith, c.loop-i.invariant.1 ∙ run_next c.args.part.now _ _ _ c.loop-i-test.true c.requires c.if-part-place-ne0.false)
+pub loop-byte-preserved : goal.loop-byte-preserved
+loop-byte-preserved c =
+    let a = c.args in
+    let i = c.loop-byte.byte-index in
+    let before : i < a.count = rw (part_length a.part.now a.place a.count c.requires) at c.loop-byte-test.true in
+    c.loop-byte.invariant ∙ run_next a.part.now a.place a.count i before c.requires (sym (part_item a.part.now a.place a.count before) ∙ c.if-byte-ne0.false)
 
 pub returns : goal.returns
-returns c = sym (c.loop-i.invariant.1 ∙ run_end _ _ _ c.loop-i-test.false)
+returns c =
+    let past : c.args.count ≤ c.loop-byte.byte-index = rw (part_length c.args.part.now c.args.place c.args.count c.requires) at c.loop-byte-test.false in
+    sym (c.loop-byte.invariant ∙ run_end _ _ _ past)

@@ -6,21 +6,19 @@ use Prim.Native.Nat.{ℕ, ◌+◌, ◌*◌, ◌-◌, ◌/◌, ◌%◌, ◌≤◌
 use native.Mathlib.Omega.{arith}
 use native.Mathlib.Nat.{div_self, zero-mul}
 use lib.Dec.{leb, eqb}
-use lib.ListN.{length, take, drop, get_or, length-drop}
+use lib.ListN.{length, take, drop, length-drop}
 use lib.Seq.{take_all, drop-drop, drop-length}
 use borrow.Author.Tests.{leb-true, leb-false, le-leb, eqb-true, eqb-false}
 use Rattle.meaning.proofs.Lists.{tail}
 use Rattle.meaning.specs.Choice.{pick}
 use Rattle.meaning.specs.Refusals.{out_of_bounds}
 use Rattle.meaning.specs.Offsets.{Table, table_from, table_of, ends_of, none_above, table_stands}
-use Rattle.framing_offsets.specs.declared.EncodedArray.{EncodedArray}
 use Rattle.meaning.specs.Numbers.{spelled, value}
-use Rattle.meaning.proofs.NumberSteps.{spelled_byte, first_low}
 use Rattle.utils.specs.Checks.{Checked}
 use Rattle.utils.specs.Checks.{passed, failed}
 use Rattle.byte_order.specs.Standing.{number_at}
 use Rattle.byte_order.proofs.Standings.{number_at_is}
-use Rattle.framing_offsets.specs.Tables.{count_from, empty_table, Encoded, offset_in}
+use Rattle.framing_offsets.specs.Tables.{EncodedArray, count_from, empty_table, Encoded, offset_in}
 use Rattle.framing_offsets.specs.Held.{held_table, table_bytes}
 use Rattle.framing_offsets.proofs.TableLaws.{count_past, offset_behind, offset_past, offset_inside, offset_there}
 
@@ -45,27 +43,6 @@ module _ (w i : ℕ) (l : List ℕ) {n : ℕ} (e : n ≡ count_from w 0 l) where
 
     pub held_spelled : {m : ℕ} → m ≡ spelled false w (i * w) l → passed m ≡ offset_in (held_table w l) i l
     held_spelled h = ap passed h ∙ sym (number_at_is w false l (i * w) ∙ rw (le-leb (i * w + w) (length l) held_inside)) ∙ held_there
-
--- the offsets of one byte and of two, from the bytes as they stand
-module _ (i : ℕ) (l : List ℕ) where
-  pub byte_behind : length l ≤ i → failed out_of_bounds ≡ offset_in (held_table 1 l) i l
-  byte_behind h = held_behind 1 i l (count_held 1 l {n = length l} (omega arith)) h
-
-  pub byte_there : {b : ℕ} → i < length l → b ≡ get_or l i 0 → passed b ≡ offset_in (held_table 1 l) i l
-  byte_there g h =
-      let z : i ≡ i * 1 = omega arith in
-      held_spelled 1 i l (count_held 1 l {n = length l} (omega arith)) (omega arith) g (h ∙ sym (spelled_byte false i l g) ∙ ap (λ (k : ℕ). spelled false 1 k l) z)
-
-  pub two_behind : length l / 2 ≤ i → failed out_of_bounds ≡ offset_in (held_table 2 l) i l
-  two_behind h = held_behind 2 i l (count_held 2 l refl) h
-
-  pub two_there : {low high : ℕ} → i < length l / 2 → low ≡ get_or l (i * 2) 0 → high ≡ get_or l (i * 2 + 1) 0
-      → passed (low + 256 * high) ≡ offset_in (held_table 2 l) i l
-  two_there g p q =
-      let fits : i * 2 + 1 + 1 ≤ length l = omega arith in
-      let first = p ∙ sym (spelled_byte false (i * 2) l (omega arith)) in
-      let second = q ∙ sym (spelled_byte false (i * 2 + 1) l (omega arith)) in
-      held_spelled 2 i l (count_held 2 l refl) (omega arith) g (first_low 1 (i * 2) l fits refl first second)
 
 -- a table that stands begins inside its container
 stands_inside : (t : Table) (l : List ℕ) → table_stands t l ≡ true → t.start ≤ length l

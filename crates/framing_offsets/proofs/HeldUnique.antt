@@ -14,7 +14,10 @@ use contract.Monad.{Fun, fact, fact_i, fact_use}
 use denote.Ref.{Bor}
 use denote.Triple.Clauses.{ensured, lasts}
 use Rattle.meaning.specs.Offsets.{encoded_width}
-use Rattle.utils.specs.Checks.{Checked}
+use Rattle.std.specs.Prelude.{Result}
+use Rattle.meaning.specs.declared.refusals.Refusal.{Refusal}
+use Rattle.utils.specs.Checks.{checked}
+use Rattle.utils.proofs.Answered.{checked_one}
 use Rattle.framing_offset_size.specs.Widths.{width_of, last_offset_in}
 use Rattle.framing_offset_size.specs.declared.FramingOffsetSize.{FramingOffsetSize}
 use Rattle.framing_offset_size.proofs.Unique.{same_width}
@@ -44,34 +47,34 @@ module _ {M : Type 1} {𝓤 : Ura M} (𝓛 : Logic 𝓤) (mem : Memory → SProp
     count_unique r r' = both _ _ (r ≡ r') (count_tells r) (count_tells r') (λ a b. a ∙ sym b)
 
   module _ (d : FramingOffsets) where
-    abbrev first_ensured : Checked → SProp 𝓤
+    abbrev first_ensured : Result ℕ Refusal → SProp 𝓤
     first_ensured r = ensured 𝓛 first.ended (first.clauses 𝓛 mem run) (κ, tt) (d, tt) tt r
 
-    first_tells : (r : Checked) → ent 𝓤 (first_ensured r) (fact 𝓤 (r ≡ offset_in (held_table (width_of d.size) d.table.now) 0 d.table.now))
-    first_tells r = ex_e 𝓤 _ (λ ws. snd∗ 𝓤 (sem 𝓛 (lasts first.ended (κ, tt) (d, tt) ws)) (fact 𝓤 (r ≡ offset_in (held_table (width_of d.size) d.table.now) 0 d.table.now)))
+    first_tells : (r : Result ℕ Refusal) → ent 𝓤 (first_ensured r) (fact 𝓤 (checked r ≡ offset_in (held_table (width_of d.size) d.table.now) 0 d.table.now))
+    first_tells r = ex_e 𝓤 _ (λ ws. snd∗ 𝓤 (sem 𝓛 (lasts first.ended (κ, tt) (d, tt) ws)) (fact 𝓤 (checked r ≡ offset_in (held_table (width_of d.size) d.table.now) 0 d.table.now)))
 
-    pub first_unique : (r r' : Checked) → ent 𝓤 (sep 𝓤 (first_ensured r) (first_ensured r')) (fact 𝓤 (r ≡ r'))
-    first_unique r r' = both _ _ (r ≡ r') (first_tells r) (first_tells r') (λ a b. a ∙ sym b)
+    pub first_unique : (r r' : Result ℕ Refusal) → ent 𝓤 (sep 𝓤 (first_ensured r) (first_ensured r')) (fact 𝓤 (r ≡ r'))
+    first_unique r r' = both _ _ (r ≡ r') (first_tells r) (first_tells r') (λ a b. checked_one r r' (a ∙ sym b))
 
   module _ (d : FramingOffsets) (i : ℕ) where
-    abbrev next_ensured : Checked → SProp 𝓤
+    abbrev next_ensured : Result ℕ Refusal → SProp 𝓤
     next_ensured r = ensured 𝓛 next.ended (next.clauses 𝓛 mem run) (κ, tt) (d, (i, tt)) tt r
 
-    next_tells : (r : Checked) → ent 𝓤 (next_ensured r) (fact 𝓤 (r ≡ offset_in (held_table (width_of d.size) d.table.now) i d.table.now))
-    next_tells r = ex_e 𝓤 _ (λ ws. snd∗ 𝓤 (sem 𝓛 (lasts next.ended (κ, tt) (d, (i, tt)) ws)) (fact 𝓤 (r ≡ offset_in (held_table (width_of d.size) d.table.now) i d.table.now)))
+    next_tells : (r : Result ℕ Refusal) → ent 𝓤 (next_ensured r) (fact 𝓤 (checked r ≡ offset_in (held_table (width_of d.size) d.table.now) i d.table.now))
+    next_tells r = ex_e 𝓤 _ (λ ws. snd∗ 𝓤 (sem 𝓛 (lasts next.ended (κ, tt) (d, (i, tt)) ws)) (fact 𝓤 (checked r ≡ offset_in (held_table (width_of d.size) d.table.now) i d.table.now)))
 
-    pub next_unique : (r r' : Checked) → ent 𝓤 (sep 𝓤 (next_ensured r) (next_ensured r')) (fact 𝓤 (r ≡ r'))
-    next_unique r r' = both _ _ (r ≡ r') (next_tells r) (next_tells r') (λ a b. a ∙ sym b)
+    pub next_unique : (r r' : Result ℕ Refusal) → ent 𝓤 (sep 𝓤 (next_ensured r) (next_ensured r')) (fact 𝓤 (r ≡ r'))
+    next_unique r r' = both _ _ (r ≡ r') (next_tells r) (next_tells r') (λ a b. checked_one r r' (a ∙ sym b))
 
   module _ (d : FramingOffsets) where
-    abbrev last_ensured : Checked → SProp 𝓤
+    abbrev last_ensured : Result ℕ Refusal → SProp 𝓤
     last_ensured r = ensured 𝓛 last.ended (last.clauses 𝓛 mem run) (κ, tt) (d, tt) tt r
 
-    last_tells : (r : Checked) → ent 𝓤 (last_ensured r) (fact 𝓤 (r ≡ last_offset_in (width_of d.size) d.table.now))
-    last_tells r = ex_e 𝓤 _ (λ ws. snd∗ 𝓤 (sem 𝓛 (lasts last.ended (κ, tt) (d, tt) ws)) (fact 𝓤 (r ≡ last_offset_in (width_of d.size) d.table.now)))
+    last_tells : (r : Result ℕ Refusal) → ent 𝓤 (last_ensured r) (fact 𝓤 (checked r ≡ last_offset_in (width_of d.size) d.table.now))
+    last_tells r = ex_e 𝓤 _ (λ ws. snd∗ 𝓤 (sem 𝓛 (lasts last.ended (κ, tt) (d, tt) ws)) (fact 𝓤 (checked r ≡ last_offset_in (width_of d.size) d.table.now)))
 
-    pub last_unique : (r r' : Checked) → ent 𝓤 (sep 𝓤 (last_ensured r) (last_ensured r')) (fact 𝓤 (r ≡ r'))
-    last_unique r r' = both _ _ (r ≡ r') (last_tells r) (last_tells r') (λ a b. a ∙ sym b)
+    pub last_unique : (r r' : Result ℕ Refusal) → ent 𝓤 (sep 𝓤 (last_ensured r) (last_ensured r')) (fact 𝓤 (r ≡ r'))
+    last_unique r r' = both _ _ (r ≡ r') (last_tells r) (last_tells r') (λ a b. checked_one r r' (a ∙ sym b))
 
   module _ (s : Bor (List ℕ)) (z : FramingOffsetSize) where
     abbrev new_ensured : FramingOffsets → SProp 𝓤

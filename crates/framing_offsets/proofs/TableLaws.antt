@@ -10,12 +10,14 @@ use borrow.Author.Tests.{le-leb, lt-leb, ne_eqb}
 use Rattle.meaning.specs.Refusals.{out_of_bounds}
 use Rattle.meaning.specs.Offsets.{Table, encoded_width, last_offset, table_from, table_of, table_stands}
 use Rattle.meaning.proofs.OffsetSteps.{end_at, entry_past, entry_there, own_width, rest_stands, rest_piece, rest_above, rest_next}
+use Rattle.std.specs.Prelude.{Ok, Err}
+use Rattle.meaning.specs.declared.refusals.Refusal.TheVariants.{OutOfBounds}
 use Rattle.utils.specs.Checks.{Checked}
 use Rattle.framing_offset_size.specs.declared.FramingOffsetSize.{FramingOffsetSize}
 use Rattle.utils.specs.Checks.{failed}
 use Rattle.byte_order.specs.Standing.{number_at}
 use Rattle.byte_order.proofs.Standings.{number_at_is, number_inside, number_outside, number_value}
-use Rattle.framing_offsets.specs.Tables.{table_in, count_from, encoded_as, Encoded, offset_in}
+use Rattle.framing_offsets.specs.Tables.{table_in, count_from, encoded_in, Encoded, offset_in}
 use Rattle.framing_offset_size.specs.Widths.{width_of, last_offset_in}
 
 pub count_past : (w start : ℕ) (l : List ℕ) → length l < start → 0 ≡ count_from w start l
@@ -52,12 +54,11 @@ module _ (l : List ℕ) (s : FramingOffsetSize) {last : Checked}
     judged : table_stands (table_of l) l ≡ b
     judged = sym (h ∙ ap (λ (t : Table). table_stands t l) table_is)
 
-    pub encoded_by : {n : ℕ} → n ≡ count_from (width_of s) last.value l → Encoded l (encoded_as b last.value n s)
-    encoded_by {n} c = go b refl
-      where
-        go : (x : Bool) → b ≡ x → Encoded l (encoded_as x last.value n s)
-        go true t = record { refusal = rw (judged ∙ t); table = held c ∙ table_is ∙ rw (judged ∙ t) }
-        go false t = record { refusal = rw (judged ∙ t); table = rw (judged ∙ t) }
+    pub encoded_by : {n : ℕ} → b ≡ true → n ≡ count_from (width_of s) last.value l → Encoded l (encoded_in (Ok (record { start = last.value; count = n; size = s })))
+    encoded_by t c = record { refusal = rw (judged ∙ t); table = held c ∙ table_is ∙ rw (judged ∙ t) }
+
+    pub refused_by : b ≡ false → Encoded l (encoded_in (Err OutOfBounds))
+    refused_by f = record { refusal = rw (judged ∙ f); table = rw (judged ∙ f) }
 
 module _ (t : Table) (i : ℕ) (l : List ℕ) where
   pub offset_behind : t.count ≤ i → failed out_of_bounds ≡ offset_in t i l

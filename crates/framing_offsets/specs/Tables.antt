@@ -1,14 +1,14 @@
 -- A table of framing offsets as code holds it, and what the leaves over it answer. Assumes nothing: these are definitions.
-use Rattle.std.specs.Prelude.{◌≡◌, List, Bool, ℕ, ◌+◌, ◌*◌, leb, get_or}
+use Rattle.std.specs.Prelude.{◌≡◌, List, ℕ, ◌+◌, ◌*◌, leb, get_or, Result, Ok, Err}
 use Rattle.meaning.specs.Choice.{pick}
 use Rattle.meaning.specs.Refusals.{out_of_bounds}
 use Rattle.meaning.specs.Offsets.{Table, table_from, table_of, ends_of, table_stands}
 use Rattle.meaning.specs.Parts.{holds}
 use Rattle.utils.specs.Checks.{Checked}
 use Rattle.framing_offsets.specs.declared.OffsetTable.{OffsetTable}
-use Rattle.framing_offsets.specs.declared.EncodedArray.{EncodedArray}
+use Rattle.meaning.specs.declared.refusals.Refusal.{Refusal}
+use Rattle.meaning.specs.Refused.{number_of}
 use Rattle.utils.specs.Checks.{passed, failed}
-use Rattle.framing_offset_size.specs.declared.FramingOffsetSize.{FramingOffsetSize}
 use Rattle.framing_offset_size.specs.declared.FramingOffsetSize.TheVariants.{U8}
 use Rattle.framing_offset_size.specs.Widths.{width_of}
 
@@ -21,12 +21,15 @@ count_from w start l = (table_from w start l).count
 abbrev pub empty_table : Table
 empty_table = record { start = 0; count = 0; width = 1 }
 
--- what a table is answered with: an empty one where it does not stand
-abbrev pub encoded_as : Bool → ℕ → ℕ → FramingOffsetSize → EncodedArray
-encoded_as stands start count size =
-    pick stands
-    (record { refusal = 0; offsets = record { start = start; count = count; size = size } })
-    (record { refusal = out_of_bounds; offsets = record { start = 0; count = 0; size = U8 } })
+-- a refusal's number, 0 where there is none, and the table, an empty one where it is refused
+pub record EncodedArray : Type 0 where
+  pub refusal : ℕ
+  pub offsets : OffsetTable
+
+-- what a table is answered with
+abbrev pub encoded_in : Result OffsetTable Refusal → EncodedArray
+encoded_in (Ok t) = record { refusal = 0; offsets = t }
+encoded_in (Err r) = record { refusal = number_of r; offsets = record { start = 0; count = 0; size = U8 } }
 
 -- the table of a whole array or dictionary; every fault in it is 3
 pub record Encoded (l : List ℕ) (r : EncodedArray) : Type 0 where

@@ -3,29 +3,22 @@
 
 pub mod table;
 
-ghost use Rattle.std.specs.Prelude.{◌≡◌};
-ghost use Rattle.meaning.specs.Offsets.{table_from, table_stands};
+ghost use Rattle.std.specs.Prelude.{◌≡◌, length};
+ghost use Rattle.meaning.specs.Offsets.{encoded_width, table_from, table_stands};
+ghost use Rattle.utils.specs.Checks.{checked};
 ghost use Rattle.framing_offset_size.specs.Widths.{width_of};
-ghost use Rattle.framing_offsets.specs.Tables.{table_in, count_from, encoded_as, Encoded, offset_in};
+ghost use Rattle.framing_offsets.specs.Tables.{table_in, count_from, encoded_in, Encoded, offset_in};
 
 use crate::table::next_in;
 use framing_offset_size::FramingOffsetSize;
-use meaning::refusals::OUT_OF_BOUNDS;
-use utils::Checked;
+use meaning::refusals::Refusal;
 
 // Where the table begins, how many offsets it has, and how wide they are.
-#[derive(Clone, Copy)]
+#[derive(Clone, Copy, Debug, PartialEq, Eq)]
 pub struct OffsetTable {
     pub start: usize,
     pub count: usize,
     pub size: FramingOffsetSize,
-}
-
-// The refusal's number, 0 where there is none, and the table, an empty one where it is refused.
-#[derive(Clone, Copy)]
-pub struct EncodedArray {
-    pub refusal: u8,
-    pub offsets: OffsetTable,
 }
 
 // How many offsets of a width there are from a start on.
@@ -45,79 +38,61 @@ fn stands(container: &[u8], start: usize, size: FramingOffsetSize) -> bool
     if container.len() < start {
         return false;
     }
-    let width = size.width();
-    let mut i = start;
-    while i < container.len() {
-        let entry = size.offset_at(container, i);
-        if entry.refusal != 0 {
-            return false;
+    for i in (start..container.len()).step_by(size.width()) {
+        match size.offset_at(container, i) {
+            Ok(entry) => {
+                if start < entry {
+                    return false;
+                }
+            }
+            Err(_) => return false,
         }
-        if start < entry.value {
-            return false;
-        }
-        i += width;
     }
     true
 }
 
-// What a table from a start on is answered with: itself where it stands, else a refusal.
-fn encoded(stands: bool, start: usize, count: usize, size: FramingOffsetSize) -> EncodedArray
-    ensures { result ≡ encoded_as stands start count size }
+// The table of a container whose offsets have a width.
+fn table_by(container: &[u8], size: FramingOffsetSize) -> Result<OffsetTable, Refusal>
+    requires { width_of size ≡ encoded_width (length container.now) }
+    ensures { Encoded container.now (encoded_in result) }
 {
-    if stands {
-        let offsets = OffsetTable { start, count, size };
-        return EncodedArray {
-            refusal: 0,
-            offsets,
-        };
+    let start = size.read_last_offset_from_buffer(container).unwrap_or(0);
+    if !stands(container, start, size) {
+        return Err(Refusal::OutOfBounds);
     }
-    let offsets = OffsetTable {
-        start: 0,
-        count: 0,
-        size: FramingOffsetSize::U8,
-    };
-    EncodedArray {
-        refusal: OUT_OF_BOUNDS,
-        offsets,
-    }
+    let count = count(container, start, size);
+    Ok(OffsetTable { start, count, size })
 }
 
 // Nearly all containers have offsets of one byte: told so, the compiler makes steps for them that look at no width.
-pub fn from_encoded_array(container: &[u8]) -> EncodedArray
-    ensures { Encoded container.now result }
+pub fn from_encoded_array(container: &[u8]) -> Result<OffsetTable, Refusal>
+    ensures { Encoded container.now (encoded_in result) }
 {
     if container.len() <= FramingOffsetSize::U8.max() {
-        let last = FramingOffsetSize::U8.read_last_offset_from_buffer(container);
-        let start = last.value;
-        let good = stands(container, start, FramingOffsetSize::U8);
-        let many = count(container, start, FramingOffsetSize::U8);
-        return encoded(good, start, many, FramingOffsetSize::U8);
+        return table_by(container, FramingOffsetSize::U8);
     }
-    let size = FramingOffsetSize::for_encoded_container(container.len());
-    let last = size.read_last_offset_from_buffer(container);
-    let start = last.value;
-    let good = stands(container, start, size);
-    let many = count(container, start, size);
-    encoded(good, start, many, size)
+    table_by(
+        container,
+        FramingOffsetSize::for_encoded_container(container.len()),
+    )
 }
 
 // The i-th offset of a table that stands in a container, from 0 on.
-pub fn next(container: &[u8], offsets: OffsetTable, i: usize) -> Checked
-    ensures { result ≡ offset_in (table_in offsets) i container.now }
+pub fn next(container: &[u8], offsets: OffsetTable, i: usize) -> Result<usize, Refusal>
+    ensures { checked result ≡ offset_in (table_in offsets) i container.now }
 {
     let start = offsets.start;
-    let size = offsets.size;
     if offsets.count <= i {
-        return Checked::failed(OUT_OF_BOUNDS);
+        return Err(Refusal::OutOfBounds);
     }
     if container.len() < start {
-        return Checked::failed(OUT_OF_BOUNDS);
+        return Err(Refusal::OutOfBounds);
     }
-    next_in(&container[start..], size, i)
+    next_in(&container[start..], offsets.size, i)
 }
 
-pub fn first(container: &[u8], offsets: OffsetTable) -> Checked
-    ensures { result ≡ offset_in (table_in offsets) 0 container.now }
+pub fn first(container: &[u8], offsets: OffsetTable) -> Result<usize, Refusal>
+    ensures { checked result ≡ offset_in (table_in offsets) 0 container.now }
 {
     next(container, offsets, 0)
 }

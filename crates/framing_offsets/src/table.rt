@@ -1,17 +1,18 @@
 // A table of framing offsets that holds its own bytes and their width, read where it stands. Ports the type of framing_offsets.rs.
-ghost use Rattle.std.specs.Prelude.{◌≡◌, ◌<◌, length};
+ghost use Rattle.std.specs.Prelude.{◌≡◌, ◌<◌, ◌≤◌, length};
+ghost use Rattle.utils.specs.Checks.{checked};
 ghost use Rattle.meaning.specs.Offsets.{encoded_width};
 ghost use Rattle.framing_offset_size.specs.Widths.{width_of, last_offset_in};
 ghost use Rattle.framing_offsets.specs.Tables.{count_from, offset_in};
 ghost use Rattle.framing_offsets.specs.Held.{held_table, table_bytes};
 
 use crate::from_encoded_array;
+use byte_order::number;
 use framing_offset_size::FramingOffsetSize;
-use meaning::refusals::OUT_OF_BOUNDS;
-use utils::Checked;
+use meaning::refusals::Refusal;
 
 // The table's bytes, from its first offset to its last, and how wide an offset is.
-#[derive(Clone, Copy)]
+#[derive(Clone, Copy, Debug)]
 pub struct FramingOffsets<'a> {
     pub table: &'a [u8],
     pub size: FramingOffsetSize,
@@ -24,50 +25,25 @@ fn count_of(table: &[u8], size: FramingOffsetSize) -> usize
     size.count_in(table.len())
 }
 
-fn wide(byte: u8) -> usize
-    ensures { (result ≡ byte) × (result < 256) }
+// The i-th offset of a table, from 0 on, of a width that is known where it is called.
+fn entry<const WIDTH: usize>(table: &[u8], i: usize) -> Result<usize, Refusal>
+    requires { (0 < WIDTH) × (WIDTH ≤ 8) }
+    ensures { checked result ≡ offset_in (held_table WIDTH table.now) i table.now }
 {
-    byte as usize
-}
-
-// The i-th offset of a table, from 0 on, by its width. Nearly all are one byte or two: a test, and the bytes as they stand.
-fn byte_of(table: &[u8], i: usize) -> Checked
-    ensures { result ≡ offset_in (held_table 1 table.now) i table.now }
-{
-    if table.len() <= i {
-        return Checked::failed(OUT_OF_BOUNDS);
+    if table.len() / WIDTH <= i {
+        return Err(Refusal::OutOfBounds);
     }
-    Checked::passed(wide(table[i]))
+    number::<WIDTH>(table, i * WIDTH, false)
 }
 
-fn two_of(table: &[u8], i: usize) -> Checked
-    ensures { result ≡ offset_in (held_table 2 table.now) i table.now }
-{
-    if table.len() / 2 <= i {
-        return Checked::failed(OUT_OF_BOUNDS);
-    }
-    let place = i * 2;
-    let low = wide(table[place]);
-    let high = wide(table[place + 1]);
-    Checked::passed(low + 256 * high)
-}
-
-fn wider_of(table: &[u8], size: FramingOffsetSize, i: usize) -> Checked
-    ensures { result ≡ offset_in (held_table (width_of size) table.now) i table.now }
-{
-    if count_of(table, size) <= i {
-        return Checked::failed(OUT_OF_BOUNDS);
-    }
-    size.offset_at(table, i * size.width())
-}
-
-fn offset_of(table: &[u8], size: FramingOffsetSize, i: usize) -> Checked
-    ensures { result ≡ offset_in (held_table (width_of size) table.now) i table.now }
+fn offset_of(table: &[u8], size: FramingOffsetSize, i: usize) -> Result<usize, Refusal>
+    ensures { checked result ≡ offset_in (held_table (width_of size) table.now) i table.now }
 {
     match size {
-        FramingOffsetSize::U8 => byte_of(table, i),
-        FramingOffsetSize::U16 => two_of(table, i),
-        _ => wider_of(table, size, i),
+        FramingOffsetSize::U8 => entry::<1>(table, i),
+        FramingOffsetSize::U16 => entry::<2>(table, i),
+        FramingOffsetSize::U32 => entry::<4>(table, i),
+        FramingOffsetSize::U64 => entry::<8>(table, i),
     }
 }
 
@@ -75,12 +51,10 @@ fn offset_of(table: &[u8], size: FramingOffsetSize, i: usize) -> Checked
 fn table_of(container: &[u8]) -> &[u8]
     ensures { result.now ≡ table_bytes container.now }
 {
-    let array = from_encoded_array(container);
-    if array.refusal != 0 {
-        return &container[container.len()..];
+    match from_encoded_array(container) {
+        Ok(offsets) => &container[offsets.start..],
+        Err(_) => &container[container.len()..],
     }
-    let start = array.offsets.start;
-    &container[start..]
 }
 
 impl<'a> FramingOffsets<'a> {
@@ -106,37 +80,37 @@ impl<'a> FramingOffsets<'a> {
         count_of(self.table, self.size)
     }
 
-    pub fn first(self) -> Checked
-        ensures { result ≡ offset_in (held_table (width_of self.entry.size) self.entry.table.now) 0 self.entry.table.now }
+    pub fn first(self) -> Result<usize, Refusal>
+        ensures { checked result ≡ offset_in (held_table (width_of self.entry.size) self.entry.table.now) 0 self.entry.table.now }
     {
         self.next(0)
     }
 
     // The i-th offset, from 0 on.
-    pub fn next(self, i: usize) -> Checked
-        ensures { result ≡ offset_in (held_table (width_of self.entry.size) self.entry.table.now) i self.entry.table.now }
+    pub fn next(self, i: usize) -> Result<usize, Refusal>
+        ensures { checked result ≡ offset_in (held_table (width_of self.entry.size) self.entry.table.now) i self.entry.table.now }
     {
         offset_of(self.table, self.size, i)
     }
 
     // The offset at the table's end, the first of a structure.
-    pub fn last(self) -> Checked
-        ensures { result ≡ last_offset_in (width_of self.entry.size) self.entry.table.now }
+    pub fn last(self) -> Result<usize, Refusal>
+        ensures { checked result ≡ last_offset_in (width_of self.entry.size) self.entry.table.now }
     {
         self.size.read_last_offset_from_buffer(self.table)
     }
 }
 
 // The i-th offset of a table that a caller has as its bytes and their width.
-pub fn next_in(table: &[u8], size: FramingOffsetSize, i: usize) -> Checked
-    ensures { result ≡ offset_in (held_table (width_of size) table.now) i table.now }
+pub fn next_in(table: &[u8], size: FramingOffsetSize, i: usize) -> Result<usize, Refusal>
+    ensures { checked result ≡ offset_in (held_table (width_of size) table.now) i table.now }
 {
     FramingOffsets::new(table, size).next(i)
 }
 
 // The offset at the end of such a table.
-pub fn last_in(table: &[u8], size: FramingOffsetSize) -> Checked
-    ensures { result ≡ last_offset_in (width_of size) table.now }
+pub fn last_in(table: &[u8], size: FramingOffsetSize) -> Result<usize, Refusal>
+    ensures { checked result ≡ last_offset_in (width_of size) table.now }
 {
     FramingOffsets::new(table, size).last()
 }

@@ -1,5 +1,4 @@
 -- That `next` gives what the table says of a number, by the table's own bytes. Assumes nothing.
-use mathlib.Core.Path.{◌∙◌}
 use Rattle.framing_offset_size.proofs.WidthLaws.{width_positive}
 use Rattle.framing_offsets.specs.Tables.{table_in}
 use Rattle.framing_offsets.proofs.TableLaws.{offset_behind}
@@ -7,12 +6,12 @@ use Rattle.framing_offsets.proofs.HeldLaws.{offset_beyond, offset_through}
 use Rattle.framing_offsets.proofs.next.Goals as goal
 
 pub returns-then-offsets-i : goal.returns-then-offsets-i
-returns-then-offsets-i c = c.failed.ensures ∙ offset_behind (table_in c.args.offsets) _ c.args.container.now c.if-offsets-i.true
+returns-then-offsets-i c = offset_behind (table_in c.args.offsets) _ c.args.container.now c.if-offsets-i.true
 
 pub returns-then-container-start : goal.returns-then-container-start
 returns-then-container-start c =
     let a = c.args in
-    c.failed-then-container-start.ensures ∙ offset_beyond (table_in a.offsets) a.i a.container.now c.if-offsets-i.false (width_positive a.offsets.size) c.if-container-start.true
+    offset_beyond (table_in a.offsets) a.i a.container.now c.if-offsets-i.false (width_positive a.offsets.size) c.if-container-start.true
 
 pub returns : goal.returns
 returns c =

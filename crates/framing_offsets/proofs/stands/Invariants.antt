@@ -1,6 +1,6 @@
 -- `framing_offsets::stands` judges a table as `table_stands` does. The loop passes one offset a turn. Assumes nothing.
 use mathlib.Core.Path.{◌≡◌}
-use Prim.Native.Nat.{◌-◌, ◌≤◌}
+use Prim.Native.Nat.{◌≤◌}
 use lib.ListN.{length}
 use Rattle.meaning.specs.Offsets.{table_from, table_stands}
 use Rattle.meaning.proofs.OffsetSteps.{rest_stands}
@@ -11,6 +11,3 @@ abbrev pub invariant-loop-i : goal.invariant-loop-i
 invariant-loop-i l =
     (l.i ≤ length l.container)
     × (table_stands (table_from (width_of l.size) l.start l.container) l.container ≡ rest_stands (width_of l.size) l.start l.container l.i)
-
-abbrev pub decreases-loop-i : goal.decreases-loop-i
-decreases-loop-i l = length l.container - l.i

@@ -3,7 +3,7 @@ use mathlib.Core.Path.{◌≡◌, refl, ap, sym, subst, subst⁻¹, ◌∙◌}
 use types.Run.{OneOf, miss}
 use denote.Enum.Declared.{tag_of}
 use mathlib.Core.List.{List, [], ◌∷◌}
-use mathlib.Core.Bool.{Bool, true, false, false≢true}
+use mathlib.Core.Bool.{Bool, true, false}
 use native.Mathlib.Omega.{arith}
 use Prim.Native.Nat.{ℕ, ◌+◌, ◌-◌, ◌≤◌}
 use lib.ListN.{length, drop}
@@ -26,12 +26,12 @@ use Rattle.container_depths.specs.Opening.{Raised}
 use Rattle.signature.specs.Places.{is_type, basic_kind, letter_at}
 use Rattle.signature.specs.Trees.{tree_at, behind_by, Typed, fields_at, Described}
 use Rattle.signature.specs.declared.Letter.{Letter}
-use Rattle.signature.specs.declared.Letter.TheVariants.{Boolean, Number, Text, Variant, Maybe, Array, OpenStructure}
+use Rattle.signature.specs.declared.Letter.TheVariants.{Boolean, Number, Text, Maybe, Array, OpenStructure}
 use Rattle.signature.specs.declared.shapes.Shape.{Shape}
 use Rattle.signature.specs.declared.items.Item.{Item}
 use Rattle.signature.specs.contracts.Letter.{the_type}
 use Rattle.signature.proofs.Answers.{judged_none}
-use Rattle.signature.proofs.Dispatch.{Shown, shown, begins, is_boolean, is_number, is_text_lem, is_variant}
+use Rattle.signature.proofs.Dispatch.{Shown, shown, is_boolean, is_number, is_text_lem}
 use Rattle.signature.proofs.TreeLaws.{front, maybe_tree, structure_tree, structure_alignment, structure_fixed}
 use Rattle.signature.specs.Items.{item_kind}
 use Rattle.writer_basic.specs.Wrote.{Taken, Untaken, Done, around_child, around_value, Structured}
@@ -44,28 +44,9 @@ use Rattle.writer_basic.proofs.Openings.{maybe_empty, maybe_neither, maybe_deep,
 
 -- ---- value, by the letter
 
--- a type begins with a letter that begins one, and with no other
-pub begins_not : {A : Type 0} (signature : List ℕ) (at : ℕ) → Typed signature at → (k : Letter) → letter_at signature at ≡ k → begins k ≡ false → A
-begins_not {A} signature at t k e h = go (tree_at signature at) (shown signature at _ _ t.found)
-  where
-    other : (j : Letter) → letter_at signature at ≡ j → begins j ≡ true → A
-    other j q y = absurd (false≢true (sym h ∙ ap begins (sym e ∙ q) ∙ y))
-
-    by_basic : (b : Basic) → begins (basic_kind b) ≡ true
-    by_basic bool = refl
-    by_basic (number c) = refl
-    by_basic (text c) = refl
-
-    go : (u : Tree) → Shown signature at u (behind_by (first_type (drop at signature))) → A
-    go (basic b) w = other (basic_kind b) w.letter (by_basic b)
-    go variant w = other Variant w.letter refl
-    go (maybe u) w = other Maybe w.letter refl
-    go (array u) w = other Array w.letter refl
-    go (dictionary b u) w = other Array w.letter refl
-    go (structure us) w = other OpenStructure w.letter refl
-
-abbrev not_named : List ℕ
-not_named = 9 ∷ 10 ∷ []
+-- the letters that are neither a basic type's nor a maybe's, an array's or a structure's
+abbrev others : List ℕ
+others = 0 ∷ 1 ∷ 5 ∷ 9 ∷ 10 ∷ 11 ∷ []
 
 module _ (signature : List ℕ) (at : ℕ) (t : Typed signature at) (texts : List ℕ) (big : Bool) (d : ContainerDepths) (ns : List ℕ) (i start top : ℕ) (l l' s s' : List ℕ) (r : Answer) where
   abbrev Here : Type 0
@@ -76,28 +57,25 @@ module _ (signature : List ℕ) (at : ℕ) (t : Typed signature at) (texts : Lis
       let q : value_of texts big d.variant (tree_at signature at) ≡ emit_basic texts big b = ap (λ u. value_of texts big d.variant u) e ∙ emit_basic_lem texts big (65 - d.variant) b in
       subst⁻¹ (λ (x : Builder Piece). Done (x (depths_of d) (drop i ns)) ns i start top l l' s s' r) q g
 
-  pub value_variant : letter_at signature at ≡ Variant → Done (value_of texts big d.variant variant (depths_of d) (drop i ns)) ns i start top l l' s s' r → Here
-  value_variant e g = let q : tree_at signature at ≡ variant = (is_variant signature at _ _ t.found e).0 in rw q g
-
-  -- a type begins with one of the other letters
-  pub value_none : (k : Letter) → k ≡ letter_at signature at → OneOf not_named (tag_of the_type k) → Here
-  value_none k e h = absurd (go (tree_at signature at) (shown signature at _ _ t.found))
+  -- a type that begins with one of those is a variant
+  pub value_other : (k : Letter) → k ≡ letter_at signature at → OneOf others (tag_of the_type k) → Done (value_of texts big d.variant variant (depths_of d) (drop i ns)) ns i start top l l' s s' r → Here
+  value_other k e h g = go (tree_at signature at) refl (shown signature at _ _ t.found)
     where
-      tags : (x : Letter) → letter_at signature at ≡ x → OneOf not_named (tag_of the_type x)
-      tags x q = subst (λ (x : Letter). OneOf not_named (tag_of the_type x)) (e ∙ q) h
+      tags : (x : Letter) → letter_at signature at ≡ x → OneOf others (tag_of the_type x)
+      tags x q = subst (λ (x : Letter). OneOf others (tag_of the_type x)) (e ∙ q) h
 
-      not_basic : (b : Basic) → OneOf not_named (tag_of the_type (basic_kind b)) → ⊥
-      not_basic bool w = miss not_named 2 tt w
-      not_basic (number c) w = miss not_named 3 tt w
-      not_basic (text c) w = miss not_named 4 tt w
+      not_basic : (b : Basic) → OneOf others (tag_of the_type (basic_kind b)) → ⊥
+      not_basic bool w = miss others 2 tt w
+      not_basic (number c) w = miss others 3 tt w
+      not_basic (text c) w = miss others 4 tt w
 
-      go : (u : Tree) → Shown signature at u (behind_by (first_type (drop at signature))) → ⊥
-      go (basic b) w = not_basic b (tags (basic_kind b) w.letter)
-      go variant w = miss not_named 5 tt (tags Variant w.letter)
-      go (maybe u) w = miss not_named 6 tt (tags Maybe w.letter)
-      go (array u) w = miss not_named 7 tt (tags Array w.letter)
-      go (dictionary b u) w = miss not_named 7 tt (tags Array w.letter)
-      go (structure us) w = miss not_named 8 tt (tags OpenStructure w.letter)
+      go : (u : Tree) → tree_at signature at ≡ u → Shown signature at u (behind_by (first_type (drop at signature))) → Here
+      go (basic b) q w = absurd (not_basic b (tags (basic_kind b) w.letter))
+      go variant q w = rw q g
+      go (maybe u) q w = absurd (miss others 6 tt (tags Maybe w.letter))
+      go (array u) q w = absurd (miss others 7 tt (tags Array w.letter))
+      go (dictionary b u) q w = absurd (miss others 7 tt (tags Array w.letter))
+      go (structure us) q w = absurd (miss others 8 tt (tags OpenStructure w.letter))
 
 module _ (signature : List ℕ) (at : ℕ) (t : Typed signature at) (texts : List ℕ) (big : Bool) (d : ContainerDepths) (ns : List ℕ) (i start top : ℕ) (l l' s : List ℕ) (r : Answer) where
   pub value_boolean : letter_at signature at ≡ Boolean → ((texts : List ℕ) (big : Bool) (d : Depths) (top : ℕ) (s : List ℕ) → Done (emit_basic texts big bool d (drop i ns)) ns i start top l l' s s r)

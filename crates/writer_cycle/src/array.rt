@@ -21,6 +21,7 @@ use writer_store::{add, pad};
 
 // An array or a dictionary.
 #[cycle(writing)]
+#[inline(never)]
 pub(crate) fn array(
     text: &[u8],
     shapes: &[u16],

@@ -23,8 +23,7 @@ use signature::shapes::Shape;
 use writer_basic::basic::{boolean, number, text_value};
 use writer_basic::{Context, Spot, Wrote};
 
-// The value of a type. Each container is called twice, so that it keeps its own stack frame; no type begins with the letters of the second
-// calls.
+// The value of a type. The writers of containers are never inlined here, so that each value takes the stack of its own kind alone.
 #[cycle(writing)]
 pub fn value(
     text: &[u8],
@@ -51,10 +50,6 @@ pub fn value(
         Letter::OpenStructure => structure(
             text, shapes, shape, events, texts, context, spot, out, ends,
         ),
-        Letter::Bad => array(text, shapes, shape, events, texts, context, spot, out, ends),
-        Letter::End => structure(text, shapes, shape, events, texts, context, spot, out, ends),
-        Letter::CloseEntry => maybe(text, shapes, shape, events, texts, context, spot, out, ends),
-        Letter::Variant => variant(events, texts, context, spot, out, ends),
         _ => variant(events, texts, context, spot, out, ends),
     }
 }

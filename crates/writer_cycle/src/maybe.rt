@@ -15,6 +15,7 @@ use writer_basic::closing::present;
 use writer_basic::{Context, Spot, Wrote};
 
 #[cycle(writing)]
+#[inline(never)]
 pub(crate) fn maybe(
     text: &[u8],
     shapes: &[u16],

@@ -19,6 +19,7 @@ use writer_ends::keep;
 use writer_store::{add, pad};
 
 #[cycle(writing)]
+#[inline(never)]
 pub(crate) fn structure(
     text: &[u8],
     shapes: &[u16],

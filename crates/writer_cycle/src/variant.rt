@@ -16,6 +16,7 @@ use writer_basic::closing::variant_end;
 use writer_basic::{Context, Spot, Wrote};
 
 #[cycle(writing)]
+#[inline(never)]
 pub(crate) fn variant(
     events: &[u64],
     texts: &[u8],

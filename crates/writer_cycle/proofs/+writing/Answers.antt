@@ -316,20 +316,8 @@ value-array-requires = Value.array-requires
 pub value-structure-requires : goal.value-structure-requires
 value-structure-requires = Value.structure-requires
 
-pub value-array-requires-in-Bad : goal.value-array-requires-in-Bad
-value-array-requires-in-Bad = Value.array-requires-in-Bad
-
-pub value-structure-requires-in-End : goal.value-structure-requires-in-End
-value-structure-requires-in-End = Value.structure-requires-in-End
-
-pub value-maybe-requires-in-CloseEntry : goal.value-maybe-requires-in-CloseEntry
-value-maybe-requires-in-CloseEntry = Value.maybe-requires-in-CloseEntry
-
 pub value-variant-requires : goal.value-variant-requires
 value-variant-requires = Value.variant-requires
-
-pub value-variant-requires-in_default : goal.value-variant-requires-in_default
-value-variant-requires-in_default = Value.variant-requires-in_default
 
 pub value-returns-in-Boolean : goal.value-returns-in-Boolean
 value-returns-in-Boolean = Value.returns-in-Boolean
@@ -348,18 +336,6 @@ value-returns-in-Array = Value.returns-in-Array
 
 pub value-returns-in-OpenStructure : goal.value-returns-in-OpenStructure
 value-returns-in-OpenStructure = Value.returns-in-OpenStructure
-
-pub value-returns-in-Bad : goal.value-returns-in-Bad
-value-returns-in-Bad = Value.returns-in-Bad
-
-pub value-returns-in-End : goal.value-returns-in-End
-value-returns-in-End = Value.returns-in-End
-
-pub value-returns-in-CloseEntry : goal.value-returns-in-CloseEntry
-value-returns-in-CloseEntry = Value.returns-in-CloseEntry
-
-pub value-returns-in-Variant : goal.value-returns-in-Variant
-value-returns-in-Variant = Value.returns-in-Variant
 
 pub value-returns-in_default : goal.value-returns-in_default
 value-returns-in_default = Value.returns-in_default

@@ -12,6 +12,7 @@ use lib.Dec.{leb, ltb, eqb}
 use lib.ListN.{length, take, drop, get_or, length-take, length-drop}
 use lib.Seq.{take-nil, take-take, drop-drop}
 use borrow.Author.Tests.{eq-eqb, ne_eqb, lt-ltb, le-ltb, le-leb, lt-leb, leb-true, leb-false, eqb-true, eqb-false}
+use mir.Val.{bool_byte}
 use Rattle.meaning.specs.Choice.{pick}
 use Rattle.meaning.specs.Padding.{padding, leading_zeros, Aligns}
 use Rattle.meaning.specs.Numbers.{value, ordered}
@@ -27,7 +28,6 @@ use Rattle.utils.specs.Checks as leaf
 use Rattle.utils.specs.Checks.{padding_for}
 use Rattle.de.proofs.PaddingAnswers.{padding_in}
 use Rattle.de.specs.Parts.{padding_at}
-use Rattle.utils.specs.declared.Checked as leafs
 use Rattle.byte_order.specs.Standing.{number_at}
 use Rattle.de.specs.Parts.{bool_at}
 use Rattle.framing_offset_size.specs.Widths.{last_offset_in}
@@ -35,7 +35,7 @@ use Rattle.container_depths.specs.declared.ContainerDepths.{ContainerDepths}
 use Rattle.reader_basic.specs.Parts.{Within, Inside, offset_answer}
 use Rattle.events.specs.Slices.{next_event, put, put_all, advance}
 use Rattle.reader_basic.specs.Answers.{Done}
-use Rattle.reader_basic.specs.declared.Answer.{Answer}
+use Rattle.meaning.specs.Calls.{Counts}
 use Rattle.reader_basic.specs.declared.Context.{Context}
 use Rattle.reader_basic.proofs.Answers.{answer, refusing, single, wider, both}
 use Rattle.reader_basic.proofs.Rests.{Rest, rest_chain}
@@ -43,7 +43,7 @@ use Rattle.reader_basic.proofs.Rests.{Rest, rest_chain}
 -- ---- padding
 
 -- a leaf's answer is a reading with no event, of a part of so many bytes
-pub record Pads (o : Outcome) (room : ℕ) (r : leafs.Checked) : Type 0 where
+pub record Pads (o : Outcome) (room : ℕ) (r : leaf.Checked) : Type 0 where
   pub place : ℕ
   pub there : r.refusal ≡ 0 → o ≡ done r.value []
   pub missing : (r.refusal ≡ 0 → ⊥) → o ≡ refused r.refusal place
@@ -83,7 +83,7 @@ unfolding padding_for
 padding_for_lem n al = rw al.listed
 
 -- the padding at the place j of a part that begins at a place
-pub pads_at : (position place j a : ℕ) (l : List ℕ) (r : leafs.Checked) → Aligns a → position + place + j ≤ 18446744073709551615 → j ≤ length l
+pub pads_at : (position place j a : ℕ) (l : List ℕ) (r : leaf.Checked) → Aligns a → position + place + j ≤ 18446744073709551615 → j ≤ length l
     → r ≡ padding_at (position + place) j a l → Pads (pad position a (place + j) (drop j l)) (length l - j) r
 unfolding pad
 pads_at position place j a l r s n h e =
@@ -91,7 +91,7 @@ pads_at position place j a l r s n h e =
     (pads_in (padding (position + (place + j)) a) j (place + j) l h)
 
 -- and at its front
-pub pads_first : (position place a : ℕ) (l : List ℕ) (r : leafs.Checked) → Aligns a → position + place ≤ 18446744073709551615
+pub pads_first : (position place a : ℕ) (l : List ℕ) (r : leaf.Checked) → Aligns a → position + place ≤ 18446744073709551615
     → r ≡ padding_at (position + place) 0 a l → Pads (pad position a place l) (length l) r
 pads_first position place a l r s n e =
     let g = pads_at position place 0 a l r s (omega arith) (omega arith) e in
@@ -99,11 +99,11 @@ pads_first position place a l r s n e =
     rw (← add-zero place, ← z) g
 
 -- the same inside the frame
-pub pads_inside : (c : Context) (place a : ℕ) (l : List ℕ) (r : leafs.Checked) → Inside (length l) place c → Aligns a → r ≡ padding_at (c.position + place) 0 a l → Pads (pad c.position a place l) (length l) r
+pub pads_inside : (c : Context) (place a : ℕ) (l : List ℕ) (r : leaf.Checked) → Inside (length l) place c → Aligns a → r ≡ padding_at (c.position + place) 0 a l → Pads (pad c.position a place l) (length l) r
 pads_inside c place a l r w s e = pads_first c.position place a l r s (omega (arith, w.in_frame, w.near)) e
 
 -- as the answer of a reader that tells no event
-pub pads_done : {o : Outcome} {room : ℕ} {r : leafs.Checked} (n : ℕ) (l : List ℕ) → Pads o room r → Done o room room n l l (answer r.refusal r.value n)
+pub pads_done : {o : Outcome} {room : ℕ} {r : leaf.Checked} (n : ℕ) (l : List ℕ) → Pads o room r → Done o room room n l l (answer r.refusal r.value n)
 unfolding put_all advance
 pads_done {o} {room} {r} n l p = go (eqb r.refusal 0) refl
   where
@@ -116,7 +116,7 @@ pads_done {o} {room} {r} n l p = go (eqb r.refusal 0) refl
         rw (p.missing z) (record { refusal = refl; used = p.none_used z; fits = p.fits; ends = λ q. p.fits; count = refl; slice = refl })
 
 -- padding, and what is read behind it: the padding is refused, or what is read answers from its end on
-module _ {o : Outcome} {room : ℕ} {r : leafs.Checked} (f : ℕ → Outcome) (end len n : ℕ) (l : List ℕ) (p : Pads o room r) where
+module _ {o : Outcome} {room : ℕ} {r : leaf.Checked} (f : ℕ → Outcome) (end len n : ℕ) (l : List ℕ) (p : Pads o room r) where
   pub pads_stop : (r.refusal ≡ 0 → ⊥) → Done (chain o f) end len n l l (answer r.refusal 0 n)
   unfolding chain
   pads_stop z = rw (p.missing z, ne_eqb r.refusal 0 z) (refusing r.refusal p.place end len n l z)
@@ -125,12 +125,12 @@ module _ {o : Outcome} {room : ℕ} {r : leafs.Checked} (f : ℕ → Outcome) (e
     pub pads_rest : Rest (chain o f) end len n l r.value (f r.value) end' len' n l
     pads_rest = rest_chain end room end' len room len' n l l o f (answer r.refusal r.value n) z h i (pads_done n l p)
 
-    pub pads_on : (l' : List ℕ) (s : Answer) → Done (f r.value) end' len' n l l' s → Done (chain o f) end len n l l' (answer s.refusal (r.value + s.used) s.count)
+    pub pads_on : (l' : List ℕ) (s : Counts) → Done (f r.value) end' len' n l l' s → Done (chain o f) end len n l l' (answer s.refusal (r.value + s.used) s.count)
     pads_on l' s d = pads_rest.whole l' s d
 
 -- ---- closing a container
 
-pub closed : (end len n m place : ℕ) (l l₁ l' : List ℕ) (o : Outcome) (r : Answer) → r.refusal ≡ 0 → m ≡ next_event r.count → l' ≡ put l₁ r.count (event 41 (place + r.used) 0)
+pub closed : (end len n m place : ℕ) (l l₁ l' : List ℕ) (o : Outcome) (r : Counts) → r.refusal ≡ 0 → m ≡ next_event r.count → l' ≡ put l₁ r.count (event 41 (place + r.used) 0)
     → Done o end len n l l₁ r → Done (chain o (closing_at place)) end len n l l' (answer 0 r.used m)
 closed end len n m place l l₁ l' o r z p q d =
     let f = d.fits in
@@ -140,7 +140,12 @@ closed end len n m place l l₁ l' o r z p q d =
 
 -- ---- bools
 
-module _ (d : Depths) (k n : ℕ) (l out : List ℕ) (r : leafs.Checked) (e : r ≡ bool_at l 0) where
+-- a bool as a number
+pub bool_told : (b : Bool) → bool_byte b ≡ pick b 1 0
+bool_told true = refl
+bool_told false = refl
+
+module _ (d : Depths) (k n : ℕ) (l out : List ℕ) (r : leaf.Checked) (e : r ≡ bool_at l 0) where
   pub bool_missing : (r.refusal ≡ 0 → ⊥) → Done (read_bool d k l) (length l) (length l) n out out (answer r.refusal 0 n)
   unfolding read_bool
   bool_missing z = go (eqb (length l) 0) refl
@@ -173,12 +178,12 @@ module _ (d : Depths) (k n : ℕ) (l out : List ℕ) (r : leafs.Checked) (e : r 
 -- ---- numbers
 
 -- the last width is 8
-module _ (position : ℕ) (big : Bool) (kind w : ℕ) (d : Depths) (k n : ℕ) (l out : List ℕ) (r : leafs.Checked) (p : Pads (pad position w k l) (length l) r) where
+module _ (position : ℕ) (big : Bool) (kind w : ℕ) (d : Depths) (k n : ℕ) (l out : List ℕ) (r : leaf.Checked) (p : Pads (pad position w k l) (length l) r) where
   pub number_unpadded : (r.refusal ≡ 0 → ⊥) → Done (read_number position big kind w d k l) (length l) (length l) n out out (answer r.refusal 0 n)
   unfolding read_number chain unused
   number_unpadded z = rw (p.missing z, ne_eqb r.refusal 0 z, ne_eqb r.refusal 0 z) (refusing r.refusal p.place (length l) (length l) n out z)
 
-  module _ (f : leafs.Checked) (z : r.refusal ≡ 0) (e : f ≡ number_at w big l r.value) where
+  module _ (f : leaf.Checked) (z : r.refusal ≡ 0) (e : f ≡ number_at w big l r.value) where
     pub number_short : (f.refusal ≡ 0 → ⊥) → Done (read_number position big kind w d k l) (length l) (length l) n out out (answer f.refusal 0 n)
     unfolding read_number chain unused number_in number_at
     number_short y = go (leb (r.value + w) (length l)) refl
@@ -229,7 +234,7 @@ module _ (kind : ℕ) (d : Depths) (k n : ℕ) (l out t : List ℕ) (x : ℕ) (e
 
 -- ---- the padding at the end of what is fixed
 
-module _ (position a k j end len n : ℕ) (l out out' : List ℕ) (o : Outcome) (r : Answer) (p : leafs.Checked) (b : j + r.used ≤ length l) (e : len ≡ length l - j)
+module _ (position a k j end len n : ℕ) (l out out' : List ℕ) (o : Outcome) (r : Counts) (p : leaf.Checked) (b : j + r.used ≤ length l) (e : len ≡ length l - j)
     (w : Pads (pad position a (k + (j + r.used)) (drop (j + r.used) l)) (length l - (j + r.used)) p) (d : Done o end len n out out' r) where
   pub ending_missing : (p.refusal ≡ 0 → ⊥) → Done (end_padding position true a k l j o) len len n out out' (answer p.refusal r.used r.count)
   unfolding end_padding padded
@@ -316,7 +321,7 @@ module _ (read : ℕ → List ℕ → Outcome) (k j e n : ℕ) (l out : List ℕ
   unfolding child
   child_past end len h i = rw (le-leb j e h, lt-leb e (length l) i) (refusing 3 (k + j) end len n out (λ q. omega arith))
 
-  pub child_there : (out' : List ℕ) (r : Answer) → j ≤ e → e ≤ length l
+  pub child_there : (out' : List ℕ) (r : Counts) → j ≤ e → e ≤ length l
       → Done (read (k + j) (take (e - j) (drop j l))) (length (take (e - j) (drop j l))) (length (take (e - j) (drop j l))) n out out' r
       → Done (child read k l j e) (e - j) (length l - j) n out out' r
   unfolding child

@@ -15,17 +15,16 @@ use Rattle.meaning.specs.Offsets.{Table, none_above, table_from, table_of, ends_
 use Rattle.meaning.specs.Outcome.{Outcome, done, chain, passing}
 use Rattle.meaning.specs.Reading.{further, elements, elements_to}
 use Rattle.meaning.proofs.OffsetLaws.{encoded_width_positive}
-use Rattle.framing_offsets.specs.Tables.{table_in, empty_table, Encoded, offset_in}
-use Rattle.utils.specs.declared.Checked as leafs
-use Rattle.framing_offsets.specs.declared.EncodedArray.{EncodedArray}
+use Rattle.framing_offsets.specs.Tables.{table_in, empty_table, EncodedArray, Encoded, offset_in}
+use Rattle.utils.specs.Checks as leafs
 use Rattle.reader_basic.specs.Answers.{Done}
 use Rattle.reader_basic.specs.Parts.{Stands}
-use Rattle.reader_basic.specs.declared.Answer.{Answer}
+use Rattle.meaning.specs.Calls.{Counts}
 use Rattle.reader_basic.proofs.Answers.{answer, plain, stopped, ended}
 use Rattle.reader_basic.proofs.Rests.{Rest, rest_all, rest_on, rest_as, rest_chain, rest_end}
 use Rattle.events.proofs.SliceLaws.{length_put_all}
 
-pub kept : {o : Outcome} {end len n : ℕ} {l l' : List ℕ} {r : Answer} → Done o end len n l l' r → length l' ≡ length l
+pub kept : {o : Outcome} {end len n : ℕ} {l l' : List ℕ} {r : Counts} → Done o end len n l l' r → length l' ≡ length l
 kept {o} {n = n} {l = l} d = ap length d.slice ∙ length_put_all o.events l n
 
 -- ---- elements that are fixed
@@ -65,7 +64,7 @@ module _ (step : ℕ → ℕ → Outcome) (part : List ℕ) (lead n : ℕ) (l : 
     pub elements_end : length part ≤ lead + u → Done all (length part - lead) (length part - lead) n l out (answer 0 u count)
     elements_end h = rest_end i.rest (rw (elements_none i.more (lead + u) h) (plain 0 _ _ count out (omega arith) (omega arith)))
 
-    module _ (h : lead + u < length part) (r : Answer) (out' : List ℕ) (d : Done (step (lead + u) (length part)) (length part - (lead + u)) (length part - (lead + u)) count out out' r) where
+    module _ (h : lead + u < length part) (r : Counts) (out' : List ℕ) (d : Done (step (lead + u) (length part)) (length part - (lead + u)) (length part - (lead + u)) count out out' r) where
       pub elements_stop : (r.refusal ≡ 0 → ⊥) → Done all (length part - lead) (length part - lead) n l out' (answer r.refusal (u + r.used) r.count)
       elements_stop z = i.rest.whole out' r (rw (elements_more i.more (lead + u) h i.enough) (stopped _ _ _ _ count out out' _ _ r z (omega arith) d))
 
@@ -131,7 +130,7 @@ module _ (step : ℕ → ℕ → Outcome) (part : List ℕ) (lead b n : ℕ) (l 
         v.rest.whole out (answer 0 (length part - b) count)
         (rw (to_none i (lead + u) h) (ended _ 0 _ 0 count (length part - b) (length part - b) out out (done 0 []) (passing (length part - b)) (answer 0 0 count) refl refl (omega arith) (omega arith) (omega arith) (plain 0 0 0 count out (omega arith) (omega arith))))
 
-    module _ (h : i < length ends) (r : Answer) (out' : List ℕ) (below : get_or ends i 0 ≤ b - lead)
+    module _ (h : i < length ends) (r : Counts) (out' : List ℕ) (below : get_or ends i 0 ≤ b - lead)
         (d : Done (step (lead + u) (lead + get_or ends i 0)) (lead + get_or ends i 0 - (lead + u)) (length part - (lead + u)) count out out' r) where
       left : chain (elements_to step lead (drop i ends) (lead + u)) (passing (length part - b)) ≡ chain (step (lead + u) (lead + get_or ends i 0)) (then (further (elements_to step lead (drop (i + 1) ends)) (lead + u)) (length part - b))
       left = rw (to_more i (lead + u) h) (chain_passing (step (lead + u) (lead + get_or ends i 0)) (further (elements_to step lead (drop (i + 1) ends)) (lead + u)) (length part - b))

@@ -6,12 +6,12 @@ use native.Mathlib.Nat.{add-zero, add_assoc}
 use native.Mathlib.Omega.{arith}
 use Rattle.meaning.specs.Outcome.{Outcome, chain}
 use Rattle.reader_basic.specs.Answers.{Done}
-use Rattle.reader_basic.specs.declared.Answer.{Answer}
+use Rattle.meaning.specs.Calls.{Counts}
 use Rattle.reader_basic.proofs.Answers.{answer, both}
 
 -- of the reading o, from event n on over the slice l, u bytes were passed, and o' is left, from event n' on over l'
 pub record Rest (o : Outcome) (end len n : ℕ) (l : List ℕ) (u : ℕ) (o' : Outcome) (end' len' n' : ℕ) (l' : List ℕ) : Type 0 where
-  pub whole : (l'' : List ℕ) (s : Answer) → Done o' end' len' n' l' l'' s → Done o end len n l l'' (answer s.refusal (u + s.used) s.count)
+  pub whole : (l'' : List ℕ) (s : Counts) → Done o' end' len' n' l' l'' s → Done o end len n l l'' (answer s.refusal (u + s.used) s.count)
 
 -- at first all is left
 pub rest_all : (o : Outcome) (end len n : ℕ) (l : List ℕ) → Rest o end len n l 0 o end len n l
@@ -36,7 +36,7 @@ pub rest_as : {o o₁ o₂ : Outcome} {end end₂ len len₂ n n₂ u : ℕ} {l 
 rest_as e a = rw e a
 
 -- the first of a chain is done: what goes on is left
-pub rest_chain : (end end₁ end₂ len len₁ len₂ n : ℕ) (l l₁ : List ℕ) (o : Outcome) (f : ℕ → Outcome) (r : Answer) → r.refusal ≡ 0 → r.used + len₂ ≤ len → r.used + end₂ ≤ end
+pub rest_chain : (end end₁ end₂ len len₁ len₂ n : ℕ) (l l₁ : List ℕ) (o : Outcome) (f : ℕ → Outcome) (r : Counts) → r.refusal ≡ 0 → r.used + len₂ ≤ len → r.used + end₂ ≤ end
     → Done o end₁ len₁ n l l₁ r → Rest (chain o f) end len n l r.used (f r.used) end₂ len₂ r.count l₁
 rest_chain end end₁ end₂ len len₁ len₂ n l l₁ o f r z h i d = record { whole = λ l'' s e. both end end₁ end₂ len len₁ len₂ n l l₁ l'' o f r s z h i d e }
 

@@ -8,8 +8,7 @@ use Rattle.meaning.specs.Reading.{Reader, read_bool, read_number, read_text, rea
 use Rattle.meaning.specs.Padding.{Aligns}
 use Rattle.meaning.specs.Limits.{largest_frame}
 use Rattle.meaning.specs.Refusals.{out_of_bounds}
-use Rattle.utils.specs.Checks.{passed, failed}
-use Rattle.utils.specs.Checks.{Checked}
+use Rattle.utils.specs.Checks.{Checked, passed, failed}
 use Rattle.container_depths.specs.Opening.{depths_of}
 use Rattle.container_depths.specs.declared.ContainerDepths.{ContainerDepths}
 use Rattle.framing_offsets.specs.Tables.{table_in}

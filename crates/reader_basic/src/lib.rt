@@ -3,17 +3,38 @@
 
 pub mod basic;
 
-ghost use Rattle.std.specs.Prelude.{◌≡◌, ◌+◌, ◌≤◌};
+ghost use Rattle.std.specs.Prelude.{◌≡◌, ◌+◌, ◌≤◌, MatchResult};
+ghost use Rattle.meaning.specs.Calls.{counts};
 ghost use Rattle.meaning.specs.Limits.{largest_number};
+ghost use Rattle.reader_basic.specs.Answers.{counts_of, StopsAt};
 
 use container_depths::ContainerDepths;
+use meaning::refusals::Refusal;
 
-// The refusal's number, 0 if done; the bytes used; the number of events.
+// What was read: the bytes used, and the number of events.
 #[derive(Clone, Copy)]
 pub struct Answer {
-    pub refusal: u8,
     pub used: usize,
     pub count: usize,
+}
+
+// Where reading stopped: why, behind so many bytes, and the number of events.
+#[derive(Clone, Copy)]
+pub struct Stop {
+    pub refusal: Refusal,
+    pub used: usize,
+    pub count: usize,
+}
+
+pub type Reading = Result<Answer, Stop>;
+
+// Who asks only why gets the refusal alone.
+impl From<Stop> for Refusal {
+    ghost from_gives = { λ stop refusal. refusal ≡ stop.refusal };
+
+    fn from(stop: Stop) -> Refusal {
+        stop.refusal
+    }
 }
 
 // What rides along: the position of the frame, its byte order, and how many containers are open.
@@ -25,48 +46,41 @@ pub struct Context {
 }
 
 // So many bytes were read, and so many events there are then.
-pub fn done(used: usize, count: usize) -> Answer
-    ensures { result ≡ record { refusal = 0; used = used; count = count } }
+pub fn done(used: usize, count: usize) -> Reading
+    ensures { result ≡ Ok (record { used = used; count = count }) }
 {
-    Answer {
-        refusal: 0,
-        used,
-        count,
-    }
+    Ok(Answer { used, count })
 }
 
 // A refusal, behind so many bytes and events.
-pub fn refused(refusal: u8, used: usize, count: usize) -> Answer
-    ensures { result ≡ record { refusal = refusal; used = used; count = count } }
+pub fn refused(refusal: Refusal, used: usize, count: usize) -> Reading
+    ensures { result ≡ Err (record { refusal = refusal; used = used; count = count }) }
 {
-    Answer {
+    Err(Stop {
         refusal,
         used,
         count,
-    }
+    })
+}
+
+// What was found, where a refusal stops the reading behind so many bytes and events.
+pub fn or_stop<T>(found: Result<T, Refusal>, used: usize, count: usize) -> Result<T, Stop>
+    ensures { MatchResult result (λ x. found ≡ Ok x) (StopsAt found used count) }
+{
+    found.map_err(|refusal| Stop {
+        refusal,
+        used,
+        count,
+    })
 }
 
 // The answer of what stands behind so many bytes.
-pub fn behind(used: usize, answer: Answer) -> Answer
-    requires { used + answer.used ≤ largest_number }
-    ensures { result ≡ record { refusal = answer.refusal; used = used + answer.used; count = answer.count } }
+pub fn behind(used: usize, reading: Reading) -> Reading
+    requires { used + (counts_of reading).used ≤ largest_number }
+    ensures { counts_of result ≡ counts (counts_of reading).refusal (used + (counts_of reading).used) (counts_of reading).count }
 {
-    Answer {
-        refusal: answer.refusal,
-        used: used + answer.used,
-        count: answer.count,
-    }
-}
-
-impl Context {
-    // The same, with so many containers open.
-    pub fn opened(self, depths: ContainerDepths) -> Self
-        ensures { result ≡ record { position = self.position; big = self.big; depths = depths } }
-    {
-        Context {
-            position: self.position,
-            big: self.big,
-            depths,
-        }
+    match reading {
+        Ok(answer) => done(used + answer.used, answer.count),
+        Err(stop) => refused(stop.refusal, used + stop.used, stop.count),
     }
 }

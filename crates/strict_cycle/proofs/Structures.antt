@@ -14,16 +14,15 @@ use Rattle.meaning.specs.Written.{deeper}
 use Rattle.meaning_writing.specs.Shapes.{one_more, offset_count, last_end, field_end, offsets_left, fixed_end}
 use Rattle.meaning_writing.specs.Strict.{Test, test_shapes, child_written, fields_finished, fields_written, structure_written, structure_test, test_of, tests_of}
 use Rattle.meaning_writing.proofs.StrictSteps.{test_structure, tests_last, tests_next}
-use Rattle.container_depths.specs.Opening.{depths_of, Raises}
+use Rattle.container_depths.specs.Opening.{depths_of, Raised, Raises}
 use Rattle.container_depths.specs.declared.ContainerDepths.{ContainerDepths}
-use Rattle.container_depths.specs.declared.Raised.{Raised}
 use Rattle.signature.specs.Places.{letter_at}
 use Rattle.signature.specs.Trees.{tree_at, fields_at, Rowed}
 use Rattle.signature.specs.declared.Letter.TheVariants.{OpenStructure}
 use Rattle.signature.specs.declared.shapes.Shape.{Shape}
 use Rattle.signature.proofs.TreeLaws.{structure_tree, structure_fixed, structure_alignment, LastField, NextField}
 use Rattle.container_depths.proofs.Levels.{raised_to}
-use Rattle.strict_ends.specs.Ends.{end_of, TableOf}
+use Rattle.strict_ends.specs.Ends.{end_of, TableIs, NoTable}
 use Rattle.strict_sizes.specs.Sizes.{Tabled, extent_in, offsets_by}
 use Rattle.strict_sizes.specs.Items.{Placed, tree_test, Known}
 use Rattle.strict_ends.specs.declared.Extent.{Extent}
@@ -40,8 +39,7 @@ last_same : (f : Bool) (x y b : ℕ) → (f ≡ true → x ≡ y) → last_end f
 last_same true x y b h = h refl
 last_same false x y b h = refl
 
-module _ (fx : Bool) (a : ℕ) (x : Extent) (test : ℕ → Test) (g : Known x test) (nested : ℕ) (d : Depths) (l : List ℕ) (b k e : ℕ) (he : e ≡ last_end x.fixed (end_of x k) b) (c : Bool)
-    (hc : c ≡ child_written (test nested) d l b k e) where
+module _ (fx : Bool) (a : ℕ) (x : Extent) (test : ℕ → Test) (g : Known x test) (nested : ℕ) (d : Depths) (l : List ℕ) (b k e : ℕ) (he : e ≡ last_end x.fixed (end_of x k) b) (c : Bool) (hc : child_written (test nested) d l b k e ≡ c) where
   last_by : last_written fx a (test nested) d l b k ≡ (c && fields_finished fx a e b l)
   unfolding last_written
   last_by =
@@ -50,7 +48,7 @@ module _ (fx : Bool) (a : ℕ) (x : Extent) (test : ℕ → Test) (g : Known x t
       let y : last_end t.shape.fixed (fixed_end k t.shape) b ≡ e =
       ap (λ (f : Bool). last_end f (fixed_end k t.shape) b) (g.same_fixed nested)
       ∙ last_same x.fixed (fixed_end k t.shape) (end_of x k) b (λ z. let q = g.same_size nested z in omega arith) ∙ sym he in
-      ap (λ (m : ℕ). child_written t d l b k m && fields_finished fx a m b l) y ∙ ap (λ (x : Bool). x && fields_finished fx a e b l) (sym hc)
+      ap (λ (m : ℕ). child_written t d l b k m && fields_finished fx a m b l) y ∙ ap (λ (x : Bool). x && fields_finished fx a e b l) hc
 
   pub last_stop_lem : c ≡ false → false ≡ last_written fx a (test nested) d l b k
   last_stop_lem z = sym (last_by ∙ rw z)
@@ -159,12 +157,12 @@ module _ {fx : Bool} {a nested : ℕ} {d : Depths} {text tables : List ℕ} {at 
     pub fields_room : x.fixed ≡ false → w ≤ e
     fields_room h = room_on.0 h
 
-    module _ (z : ℕ) (hz : z ≡ field_end x.fixed l w e (end_of x k)) (c : Bool) (hc : c ≡ child_written t d l b k z) where
+    module _ (z : ℕ) (hz : z ≡ field_end x.fixed l w e (end_of x k)) (c : Bool) (hc : child_written t d l b k z ≡ c) where
       turned : fields_written fx a d l b w (tests_of (65 - nested) (fields_at text at)) 0 (length l) ≡ (c && fields_written fx a d l b w us z (offsets_left x.fixed w e))
       turned =
           q.rest ∙ ap (λ (ts : List Test). fields_written fx a d l b w ts k e) tests
           ∙ fields_turn fx a d l b w t us some_left x (known.same_fixed nested) (known.same_alignment nested) (known.same_size nested) k e z hz
-          ∙ ap (λ (y : Bool). y && fields_written fx a d l b w us z (offsets_left x.fixed w e)) (sym hc)
+          ∙ ap (λ (y : Bool). y && fields_written fx a d l b w us z (offsets_left x.fixed w e)) hc
 
       pub fields_stop : c ≡ false → false ≡ fields_written fx a d l b w (tests_of (65 - nested) (fields_at text at)) 0 (length l)
       fields_stop h = sym (turned ∙ rw h)
@@ -172,7 +170,7 @@ module _ {fx : Bool} {a nested : ℕ} {d : Depths} {text tables : List ℕ} {at 
       pub fields_next : (e' : ℕ) → c ≡ true → e' ≡ offsets_left x.fixed w e → FieldsLeft fx a nested d text at l b w s.next z e'
       fields_next e' h p = rw p (record {
         rowed = g.rowed;
-        place = child_within t d l b k z (sym hc ∙ h);
+        place = child_within t d l b k z (hc ∙ h);
         inside = (let y = q.inside in let m = left_most x.fixed w e in omega arith);
         room = room_on.1;
         rest = turned ∙ rw h;
@@ -194,23 +192,20 @@ module _ {text tables : List ℕ} {s : Shape} (p : Placed text tables s) (e : le
   pub structure_deep : (r.refusal ≡ 0 → ⊥) → false ≡ (tree_test d.variant text s.at).accepts (depths_of d) l
   structure_deep z = sym (structure_accepts ∙ deeper_not Depth.structure d r u (structure_written s.fixed s.alignment (tests_of (65 - d.variant) ts) l) z)
 
-  module _ (z : r.refusal ≡ 0) (x : Extent) (hx : x ≡ extent_in tables s) (n : ℕ) (hn : n ≡ offsets_by tables s) (w : Rows) (g : TableOf (length l) n w) where
-    abbrev left : Bool
-    left = fields_written x.fixed x.alignment (depths_of r.depths) l w.body w.width (tests_of (65 - r.depths.variant) ts) 0 (length l)
-
-    structure_rows : (tree_test d.variant text s.at).accepts (depths_of d) l ≡ (w.stands && left)
-    structure_rows =
+  module _ (z : r.refusal ≡ 0) (x : Extent) (hx : x ≡ extent_in tables s) (n : ℕ) (hn : n ≡ offsets_by tables s) where
+    structure_in : (tree_test d.variant text s.at).accepts (depths_of d) l ≡ structure_written x.fixed x.alignment (tests_of (65 - r.depths.variant) ts) l (depths_of r.depths)
+    structure_in =
         let v : r.depths.variant ≡ d.variant = ap (λ (y : Depths). y.variant) (raised_to Depth.structure d r u z) in
         structure_accepts ∙ deeper_on Depth.structure d r u (structure_written s.fixed s.alignment (tests_of (65 - d.variant) ts) l) z
         ∙ ap (λ (y : Extent). structure_written y.fixed y.alignment (tests_of (65 - d.variant) ts) l (depths_of r.depths)) (sym hx)
         ∙ ap (λ (m : ℕ). structure_written x.fixed x.alignment (tests_of (65 - m) ts) l (depths_of r.depths)) (sym v)
-        ∙ g.is x.fixed x.alignment (tests_of (65 - r.depths.variant) ts) l (depths_of r.depths) refl (placed_offsets p e (65 - r.depths.variant) ∙ sym hn)
 
-    pub structure_not : w.stands ≡ false → false ≡ (tree_test d.variant text s.at).accepts (depths_of d) l
-    structure_not h = sym (structure_rows ∙ rw h)
+    pub structure_not : NoTable (length l) n → false ≡ (tree_test d.variant text s.at).accepts (depths_of d) l
+    structure_not g = sym (structure_in ∙ g.is x.fixed x.alignment (tests_of (65 - r.depths.variant) ts) l (depths_of r.depths) refl (placed_offsets p e (65 - r.depths.variant) ∙ sym hn))
 
-    pub structure_on : (b : Bool) → w.stands ≡ true → b ≡ left → b ≡ (tree_test d.variant text s.at).accepts (depths_of d) l
-    structure_on b h k = k ∙ sym (structure_rows ∙ rw h)
+    module _ (w : Rows) (g : TableIs (length l) n w) where
+      pub structure_on : (b : Bool) → b ≡ fields_written x.fixed x.alignment (depths_of r.depths) l w.body w.width (tests_of (65 - r.depths.variant) ts) 0 (length l) → b ≡ (tree_test d.variant text s.at).accepts (depths_of d) l
+      structure_on b k = k ∙ sym (structure_in ∙ g.is x.fixed x.alignment (tests_of (65 - r.depths.variant) ts) l (depths_of r.depths) refl (placed_offsets p e (65 - r.depths.variant) ∙ sym hn))
 
-    pub structure_room : w.stands ≡ true → (m : ℕ) → offset_count (test_shapes (tests_of m ts)) * w.width ≤ length l
-    structure_room h m = rw (placed_offsets p e m ∙ sym hn) (g.room h)
+      pub structure_room : (m : ℕ) → offset_count (test_shapes (tests_of m ts)) * w.width ≤ length l
+      structure_room m = rw (placed_offsets p e m ∙ sym hn) g.room

@@ -1,9 +1,7 @@
 -- A law for each way out of a value, a child and a maybe, and what callees ask. Assumes nothing.
-use types.Run.{OneOf, miss}
-use denote.Enum.Declared.{tag_of}
-use mathlib.Core.Path.{◌≡◌, refl, sym, ap, ◌∙◌, subst}
-use mathlib.Core.List.{List, [], ◌∷◌}
-use mathlib.Core.Bool.{Bool, true, false, ◌&&◌, false≢true}
+use mathlib.Core.Path.{◌≡◌, refl, sym, ap, ◌∙◌}
+use mathlib.Core.List.{List}
+use mathlib.Core.Bool.{Bool, true, false, false≢true}
 use Prim.Native.Nat.{ℕ, ◌+◌, ◌-◌}
 use native.Mathlib.Omega.{arith}
 use lib.ListN.{length, take, drop, get_or, length-take, length-drop}
@@ -16,29 +14,35 @@ use Rattle.meaning.specs.Written.{deeper}
 use Rattle.meaning_writing.specs.Shapes.{part}
 use Rattle.meaning_writing.specs.Strict.{Test, child_written, present_written, maybe_written, maybe_test, test_of}
 use Rattle.meaning_writing.proofs.StrictSteps.{test_basic, test_maybe}
-use Rattle.container_depths.specs.Opening.{depths_of, Raises}
+use Rattle.container_depths.specs.Opening.{depths_of, Raised, raised_in, Raises}
 use Rattle.container_depths.specs.declared.ContainerDepths.{ContainerDepths}
-use Rattle.container_depths.specs.declared.Raised.{Raised}
+use Rattle.std.specs.Prelude.{Result, Ok, Err, is_ok, eqb}
+use Rattle.meaning.specs.declared.refusals.Refusal.{Refusal}
+use Rattle.meaning.specs.Refused.{number_of}
+use Rattle.meaning.proofs.RefusalLaws.{number_not_0}
 use Rattle.signature.specs.Places.{basic_kind, letter_at}
 use Rattle.signature.specs.Shapes.{shape_in}
 use Rattle.signature.specs.Trees.{tree_at, behind_by, Typed}
 use Rattle.signature.specs.declared.Letter.{Letter}
 use Rattle.signature.specs.declared.Letter.TheVariants.{Variant, Maybe, Array, OpenStructure}
 use Rattle.signature.specs.declared.shapes.Shape.{Shape}
-use Rattle.signature.specs.contracts.Letter.{the_type}
 use Rattle.signature.proofs.Dispatch.{Shown, shown, is_variant}
 use Rattle.signature.proofs.TreeLaws.{described_as, described_fixed, maybe_tree, maybe_described}
 use Rattle.meaning.proofs.Lists.{within_default}
 use Rattle.container_depths.proofs.Levels.{raised_to, raised_shallow}
 use Rattle.strict_basic.specs.Basics.{letter_written, is_basic}
-use Rattle.strict_ends.specs.Ends.{StartAt}
+use Rattle.strict_ends.specs.Ends.{Begins, NoStart}
 use Rattle.strict_sizes.specs.Items.{Placed, tree_test, Known}
 use Rattle.strict_ends.specs.declared.Extent.{Extent}
-use Rattle.strict_ends.specs.declared.Start.{Start}
 use Rattle.strict_basic.proofs.BasicLaws.{letter_test_lem, letter_accepts}
 use Rattle.strict_cycle.specs.Walks.{Inside, variant_accepts}
 
 -- ---- one container deeper
+
+-- a raise that is done has no number
+pub raised_ok : (d : ContainerDepths) (r : Result ContainerDepths Refusal) → is_ok r ≡ eqb (raised_in d r).refusal 0
+raised_ok d (Ok a) = refl
+raised_ok d (Err e) = sym (ne_eqb (number_of e) 0 (number_not_0 e))
 
 module _ (x : Opened) (d : ContainerDepths) (r : Raised) (u : Raises (depths_of d) (opened x (depths_of d)) r) (f : Depths → Bool) where
   pub deeper_not : (r.refusal ≡ 0 → ⊥) → deeper (opened x (depths_of d)) f ≡ false
@@ -58,28 +62,21 @@ inside_cut i e l w = let q = w.in_frame in record { in_frame = simp (length-take
 
 -- ---- a value
 
--- the letters of no maybe, array, structure or variant
-abbrev unnested : List ℕ
-unnested = 0 ∷ 1 ∷ 2 ∷ 3 ∷ 4 ∷ 9 ∷ 10 ∷ 11 ∷ []
-
 basic_accepts : (b : Basic) (nested : ℕ) (k : Letter) (d : Depths) (l : List ℕ) → k ≡ basic_kind b → letter_written k l ≡ (test_of (65 - nested) (basic b)).accepts d l
 basic_accepts b nested k d l e =
     ap (λ (x : Letter). letter_written x l) e ∙ letter_accepts (basic_kind b) d l ∙ ap (λ (x : Test). x.accepts d l) (letter_test_lem b ∙ sym (test_basic (65 - nested) b))
 
-pub basic_by : (signature : List ℕ) (at : ℕ) (k : Letter) (nested : ℕ) (d : Depths) (l : List ℕ) (r : Bool) → Typed signature at → k ≡ letter_at signature at → OneOf unnested (tag_of the_type k)
-    → r ≡ letter_written k l → r ≡ (tree_test nested signature at).accepts d l
-basic_by signature at k nested d l r t e h g = g ∙ go (tree_at signature at) (shown signature at _ _ t.found)
+pub basic_by : (signature : List ℕ) (at : ℕ) (k : Letter) (nested : ℕ) (d : Depths) (l : List ℕ) (r : Bool) → Typed signature at → k ≡ letter_at signature at
+    → (k ≡ Maybe → ⊥) → (k ≡ Array → ⊥) → (k ≡ OpenStructure → ⊥) → (k ≡ Variant → ⊥) → r ≡ letter_written k l → r ≡ (tree_test nested signature at).accepts d l
+basic_by signature at k nested d l r t e no_maybe no_array no_open no_variant g = g ∙ go (tree_at signature at) (shown signature at _ _ t.found)
   where
-    tags : (x : Letter) → letter_at signature at ≡ x → OneOf unnested (tag_of the_type x)
-    tags x q = subst (λ (x : Letter). OneOf unnested (tag_of the_type x)) (e ∙ q) h
-
     go : (s : Tree) → Shown signature at s (behind_by (first_type (drop at signature))) → letter_written k l ≡ (test_of (65 - nested) s).accepts d l
     go (basic b) w = basic_accepts b nested k d l (e ∙ w.letter)
-    go variant w = absurd (miss unnested 5 tt (tags Variant w.letter))
-    go (maybe s) w = absurd (miss unnested 6 tt (tags Maybe w.letter))
-    go (array s) w = absurd (miss unnested 7 tt (tags Array w.letter))
-    go (dictionary b s) w = absurd (miss unnested 7 tt (tags Array w.letter))
-    go (structure ts) w = absurd (miss unnested 8 tt (tags OpenStructure w.letter))
+    go variant w = absurd (no_variant (e ∙ w.letter))
+    go (maybe s) w = absurd (no_maybe (e ∙ w.letter))
+    go (array s) w = absurd (no_array (e ∙ w.letter))
+    go (dictionary b s) w = absurd (no_array (e ∙ w.letter))
+    go (structure ts) w = absurd (no_open (e ∙ w.letter))
 
 -- a letter that the code found to be basic
 pub basic_is : (signature : List ℕ) (at : ℕ) (k : Letter) (nested : ℕ) (d : Depths) (l : List ℕ) (r : Bool) → Typed signature at → k ≡ letter_at signature at → is_basic k ≡ true
@@ -103,16 +100,13 @@ value_variant signature at d l r t e g = g ∙ ap (λ (s : Tree). (test_of (65 -
 
 -- ---- a child, whatever its test
 
-module _ (t : Test) (d : Depths) (l : List ℕ) (s k e a : ℕ) (h : t.shape.alignment ≡ a) (r : Start) (w : StartAt l s k e a r) where
-  child_by_lem : child_written t d l s k e ≡ (r.there && t.accepts d (part r.at e l))
-  child_by_lem = w.is t d h
+module _ (t : Test) (d : Depths) (l : List ℕ) (s k e a : ℕ) (h : t.shape.alignment ≡ a) where
+  pub child_not : NoStart l s k e a → child_written t d l s k e ≡ false
+  child_not w = w.is t d h
 
-  pub child_not : r.there ≡ false → false ≡ child_written t d l s k e
-  child_not q = sym (child_by_lem ∙ rw q)
-
-  pub child_on : (b : Bool) → r.there ≡ true → b ≡ t.accepts d (take (e - r.at) (drop r.at l)) → b ≡ child_written t d l s k e
+  pub child_on : (at : ℕ) → Begins l s k e a at → (b : Bool) → b ≡ t.accepts d (take (e - at) (drop at l)) → child_written t d l s k e ≡ b
   unfolding part
-  child_on b q g = g ∙ sym (child_by_lem ∙ rw q)
+  child_on at w b g = w.is t d h ∙ sym g
 
 pub known_as : {x y : Extent} {test : ℕ → Test} → x ≡ y → Known y test → Known x test
 known_as e g = rw e g

@@ -17,9 +17,8 @@ use Rattle.meaning.specs.Reading.{separator}
 use Rattle.meaning_writing.specs.Strict.{Test, typed_written, variant_written, variant_test, test_of}
 use Rattle.meaning_writing.proofs.StrictSteps.{test_basic, test_variant}
 use Rattle.meaning.proofs.Bounds.{total_most}
-use Rattle.container_depths.specs.Opening.{depths_of, Raises}
+use Rattle.container_depths.specs.Opening.{depths_of, Raised, Raises}
 use Rattle.container_depths.specs.declared.ContainerDepths.{ContainerDepths}
-use Rattle.container_depths.specs.declared.Raised.{Raised}
 use Rattle.signature.specs.Places.{is_type}
 use Rattle.signature.specs.Trees.{tree_at}
 use Rattle.signature.specs.declared.Letter.{Letter}

@@ -52,7 +52,8 @@ pub(crate) fn child(
 {
     let kind = shape.kind;
     if is_basic(kind) {
-        return letter_written(kind, part);
+        letter_written(kind, part)
+    } else {
+        value(text, tables, shape, part, d)
     }
-    value(text, tables, shape, part, d)
 }

@@ -5,11 +5,10 @@ ghost use Rattle.signature.specs.Places.{letter_at};
 ghost use Rattle.strict_sizes.specs.Items.{Placed, tree_test};
 ghost use Rattle.strict_cycle.specs.Walks.{Inside};
 
-use crate::value;
+use crate::{child, value};
 use container_depths::ContainerDepths;
 use signature::Letter;
 use signature::shapes::{Shape, shape_in};
-use strict_basic::basic::{is_basic, letter_written};
 
 #[cycle(testing)]
 pub(crate) fn maybe(
@@ -25,24 +24,13 @@ pub(crate) fn maybe(
     if part.len() == 0 {
         return true;
     }
-    let raised = d.inc_maybe();
-    let refusal = raised.refusal;
-    let deeper = raised.depths;
-    if refusal != 0 {
+    let Ok(deeper) = d.inc_maybe() else {
         return false;
-    }
+    };
     let held = shape_in(text, tables, shape.at + 1);
-    let fixed = held.fixed;
-    if fixed {
-        let kind = held.kind;
-        if is_basic(kind) {
-            return letter_written(kind, part);
-        }
-        return value(text, tables, held, part, deeper);
+    if held.fixed {
+        return child(text, tables, held, part, deeper);
     }
     let end = part.len() - 1;
-    if part[end] != 0 {
-        return false;
-    }
-    value(text, tables, held, &part[..end], deeper)
+    part[end] == 0 && value(text, tables, held, &part[..end], deeper)
 }

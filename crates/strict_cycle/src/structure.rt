@@ -30,22 +30,18 @@ pub(crate) fn structure(
     requires { Placed text.now tables.now shape × (letter_at text.now shape.at ≡ Letter.OpenStructure) × Inside (length part.now) d }
     ensures { result ≡ (tree_test d.variant text.now shape.at).accepts (depths_of d) part.now }
 {
-    let raised = d.inc_structure();
-    let refusal = raised.refusal;
-    let deeper = raised.depths;
-    if refusal != 0 {
+    let Ok(deeper) = d.inc_structure() else {
         return false;
-    }
+    };
     let whole = extent_in(tables, shape);
-    let rows = rows_behind(part.len(), offsets_in(tables, shape));
-    let stands = rows.stands;
-    if !stands {
+    let Some(rows) = rows_behind(part.len(), offsets_in(tables, shape)) else {
         return false;
-    }
+    };
     fields(text, tables, shape.at + 1, whole, part, rows, deeper)
 }
 
-// The fields of a structure. One that is neither fixed nor last takes its end from the back of the table.
+// The fields of a structure. One that is neither fixed nor last takes its end from the back of the table. Each field says where the next
+// stands, so a loop goes over them, and no range.
 #[cycle(testing)]
 pub(crate) fn fields(
     text: &[u8],
@@ -71,14 +67,10 @@ pub(crate) fn fields(
         }
         let extent = extent_in(tables, field);
         let stop = field_end(part, extent, width, end, place);
-        let start = start_of(part, body, place, stop, extent.alignment);
-        let from = start.at;
-        let there = start.there;
-        if !there {
+        let Some(from) = start_of(part, body, place, stop, extent.alignment) else {
             return false;
-        }
-        let good = child(text, tables, field, &part[from..stop], d);
-        if !good {
+        };
+        if !child(text, tables, field, &part[from..stop], d) {
             return false;
         }
         end = offsets_left(extent.fixed, width, end);
@@ -104,15 +96,9 @@ pub(crate) fn last_field(
 {
     let extent = extent_in(tables, shape);
     let stop = last_end(extent, body, place);
-    let start = start_of(part, body, place, stop, extent.alignment);
-    let from = start.at;
-    let there = start.there;
-    if !there {
+    let Some(from) = start_of(part, body, place, stop, extent.alignment) else {
         return false;
-    }
-    let good = child(text, tables, shape, &part[from..stop], d);
-    if !good {
-        return false;
-    }
-    finished(part, whole.fixed, whole.alignment, stop, body)
+    };
+    child(text, tables, shape, &part[from..stop], d)
+        && finished(part, whole.fixed, whole.alignment, stop, body)
 }

@@ -15,22 +15,15 @@ pub(crate) fn variant(part: &[u8], d: ContainerDepths) -> bool
     requires { Inside (length part.now) d }
     ensures { result ≡ variant_accepts d part.now }
 {
-    let s = separator(part);
-    if s == 0 {
+    let Some(s) = separator(part) else {
         return false;
-    }
-    let raised = d.inc_variant();
-    let refusal = raised.refusal;
-    let deeper = raised.depths;
-    if refusal != 0 {
+    };
+    let Ok(deeper) = d.inc_variant() else {
         return false;
-    }
+    };
     let end = s - 1;
     let signature = &part[s..];
-    let lone = lone_basic(signature);
-    let there = lone.there;
-    if there {
-        let kind = lone.kind;
+    if let Some(kind) = lone_basic(signature) {
         return letter_written(kind, &part[..end]);
     }
     if lone_variant(signature) {

@@ -1,10 +1,10 @@
 -- The walk meets its contracts: its functions call each other as containers nest. What falls: the containers that may still be opened,
 -- and then the functions in order. Assumes nothing.
 mod ArrayArray
+mod ArrayElement
 mod ArrayElements
 mod ArrayFirst
 mod Child
-mod DictionaryEntries
 mod DictionaryPair
 mod MaybeMaybe
 mod StructureFields
@@ -14,83 +14,44 @@ mod Value
 mod VariantVariant
 use Rattle.strict_cycle.proofs.+testing.Goals as goal
 
-pub array::array-repeated-item-requires : goal.array::array-repeated-item-requires
-array::array-repeated-item-requires = ArrayArray.repeated-item-requires
-
-pub array::array-returns-then-refusal-ne0 : goal.array::array-returns-then-refusal-ne0
-array::array-returns-then-refusal-ne0 = ArrayArray.returns-then-refusal-ne0
+pub array::array-returns-in_default : goal.array::array-returns-in_default
+array::array-returns-in_default = ArrayArray.returns-in_default
 
 pub array::array-first-requires : goal.array::array-first-requires
 array::array-first-requires = ArrayArray.first-requires
 
-pub array::array-returns-then-any : goal.array::array-returns-then-any
-array::array-returns-then-any = ArrayArray.returns-then-any
+pub array::array-returns-in-AnyBytes : goal.array::array-returns-in-AnyBytes
+array::array-returns-in-AnyBytes = ArrayArray.returns-in-AnyBytes
 
-pub array::array-rows_of-rows-requires : goal.array::array-rows_of-rows-requires
-array::array-rows_of-rows-requires = ArrayArray.rows_of-rows-requires
-
-pub array::array-returns-then-not-stands : goal.array::array-returns-then-not-stands
-array::array-returns-then-not-stands = ArrayArray.returns-then-not-stands
+pub array::array-returns-in_default-rows_of : goal.array::array-returns-in_default-rows_of
+array::array-returns-in_default-rows_of = ArrayArray.returns-in_default-rows_of
 
 pub array::array-texts_written-requires : goal.array::array-texts_written-requires
 array::array-texts_written-requires = ArrayArray.texts_written-requires
 
-pub array::array-returns-then-texts : goal.array::array-returns-then-texts
-array::array-returns-then-texts = ArrayArray.returns-then-texts
-
 pub array::array-readings_written-requires : goal.array::array-readings_written-requires
 array::array-readings_written-requires = ArrayArray.readings_written-requires
-
-pub array::array-returns-then-held-ne0 : goal.array::array-returns-then-held-ne0
-array::array-returns-then-held-ne0 = ArrayArray.returns-then-held-ne0
-
-pub array::array-entries-requires : goal.array::array-entries-requires
-array::array-entries-requires = ArrayArray.entries-requires
-
-pub array::array-returns-then-entry : goal.array::array-returns-then-entry
-array::array-returns-then-entry = ArrayArray.returns-then-entry
 
 pub array::array-elements-requires : goal.array::array-elements-requires
 array::array-elements-requires = ArrayArray.elements-requires
 
-pub array::array-returns : goal.array::array-returns
-array::array-returns = ArrayArray.returns
+pub array::array-returns-in-Texts : goal.array::array-returns-in-Texts
+array::array-returns-in-Texts = ArrayArray.returns-in-Texts
 
-pub array::elements-loop-i-init : goal.array::elements-loop-i-init
-array::elements-loop-i-init = ArrayElements.loop-i-init
+pub array::array-returns-in-Readings : goal.array::array-returns-in-Readings
+array::array-returns-in-Readings = ArrayArray.returns-in-Readings
 
-pub array::elements-element_end-stop-requires : goal.array::elements-element_end-stop-requires
-array::elements-element_end-stop-requires = ArrayElements.element_end-stop-requires
+pub array::array-returns-in_default-repeats-2 : goal.array::array-returns-in_default-repeats-2
+array::array-returns-in_default-repeats-2 = ArrayArray.returns-in_default-repeats-2
 
-pub array::elements-start_of-start-requires : goal.array::elements-start_of-start-requires
-array::elements-start_of-start-requires = ArrayElements.start_of-start-requires
+pub array::element-returns-in_default : goal.array::element-returns-in_default
+array::element-returns-in_default = ArrayElement.returns-in_default
 
-pub array::elements-returns-then-not-there : goal.array::elements-returns-then-not-there
-array::elements-returns-then-not-there = ArrayElements.returns-then-not-there
+pub array::elements-returns-in_default : goal.array::elements-returns-in_default
+array::elements-returns-in_default = ArrayElements.returns-in_default
 
-pub array::elements-slice_bounds-child-count : goal.array::elements-slice_bounds-child-count
-array::elements-slice_bounds-child-count = ArrayElements.slice_bounds-child-count
-
-pub array::elements-slice_bounds-child-start : goal.array::elements-slice_bounds-child-start
-array::elements-slice_bounds-child-start = ArrayElements.slice_bounds-child-start
-
-pub array::elements-slice_bounds-child-end : goal.array::elements-slice_bounds-child-end
-array::elements-slice_bounds-child-end = ArrayElements.slice_bounds-child-end
-
-pub array::elements-child-good-requires : goal.array::elements-child-good-requires
-array::elements-child-good-requires = ArrayElements.child-good-requires
-
-pub array::elements-returns-then-not-good : goal.array::elements-returns-then-not-good
-array::elements-returns-then-not-good = ArrayElements.returns-then-not-good
-
-pub array::elements-overflow_add-from : goal.array::elements-overflow_add-from
-array::elements-overflow_add-from = ArrayElements.overflow_add-from
-
-pub array::elements-overflow_add-i : goal.array::elements-overflow_add-i
-array::elements-overflow_add-i = ArrayElements.overflow_add-i
-
-pub array::elements-loop-i-smaller : goal.array::elements-loop-i-smaller
-array::elements-loop-i-smaller = ArrayElements.loop-i-smaller
+pub array::elements-returns-then-not-element : goal.array::elements-returns-then-not-element
+array::elements-returns-then-not-element = ArrayElements.returns-then-not-element
 
 pub array::elements-loop-i-preserved : goal.array::elements-loop-i-preserved
 array::elements-loop-i-preserved = ArrayElements.loop-i-preserved
@@ -98,92 +59,23 @@ array::elements-loop-i-preserved = ArrayElements.loop-i-preserved
 pub array::elements-returns : goal.array::elements-returns
 array::elements-returns = ArrayElements.returns
 
-pub array::first-overflow_mul-many : goal.array::first-overflow_mul-many
-array::first-overflow_mul-many = ArrayFirst.overflow_mul-many
-
 pub array::first-returns-then-many-size : goal.array::first-returns-then-many-size
 array::first-returns-then-many-size = ArrayFirst.returns-then-many-size
 
 pub array::first-returns-then-many-eq0 : goal.array::first-returns-then-many-eq0
 array::first-returns-then-many-eq0 = ArrayFirst.returns-then-many-eq0
 
-pub array::first-slice_bounds-child-end : goal.array::first-slice_bounds-child-end
-array::first-slice_bounds-child-end = ArrayFirst.slice_bounds-child-end
-
-pub array::first-child-requires : goal.array::first-child-requires
-array::first-child-requires = ArrayFirst.child-requires
-
-pub array::first-returns : goal.array::first-returns
-array::first-returns = ArrayFirst.returns
+pub array::first-returns-else-many-eq0 : goal.array::first-returns-else-many-eq0
+array::first-returns-else-many-eq0 = ArrayFirst.returns-else-many-eq0
 
 pub child-returns-then-is_basic : goal.child-returns-then-is_basic
 child-returns-then-is_basic = Child.returns-then-is_basic
 
-pub child-value-requires : goal.child-value-requires
-child-value-requires = Child.value-requires
+pub dictionary::pair-returns-in_default : goal.dictionary::pair-returns-in_default
+dictionary::pair-returns-in_default = DictionaryPair.returns-in_default
 
-pub child-returns : goal.child-returns
-child-returns = Child.returns
-
-pub dictionary::entries-loop-i-init : goal.dictionary::entries-loop-i-init
-dictionary::entries-loop-i-init = DictionaryEntries.loop-i-init
-
-pub dictionary::entries-element_end-stop-requires : goal.dictionary::entries-element_end-stop-requires
-dictionary::entries-element_end-stop-requires = DictionaryEntries.element_end-stop-requires
-
-pub dictionary::entries-start_of-start-requires : goal.dictionary::entries-start_of-start-requires
-dictionary::entries-start_of-start-requires = DictionaryEntries.start_of-start-requires
-
-pub dictionary::entries-returns-then-not-there : goal.dictionary::entries-returns-then-not-there
-dictionary::entries-returns-then-not-there = DictionaryEntries.returns-then-not-there
-
-pub dictionary::entries-slice_bounds-pair-count : goal.dictionary::entries-slice_bounds-pair-count
-dictionary::entries-slice_bounds-pair-count = DictionaryEntries.slice_bounds-pair-count
-
-pub dictionary::entries-slice_bounds-pair-start : goal.dictionary::entries-slice_bounds-pair-start
-dictionary::entries-slice_bounds-pair-start = DictionaryEntries.slice_bounds-pair-start
-
-pub dictionary::entries-slice_bounds-pair-end : goal.dictionary::entries-slice_bounds-pair-end
-dictionary::entries-slice_bounds-pair-end = DictionaryEntries.slice_bounds-pair-end
-
-pub dictionary::entries-pair-good-requires : goal.dictionary::entries-pair-good-requires
-dictionary::entries-pair-good-requires = DictionaryEntries.pair-good-requires
-
-pub dictionary::entries-returns-then-not-good : goal.dictionary::entries-returns-then-not-good
-dictionary::entries-returns-then-not-good = DictionaryEntries.returns-then-not-good
-
-pub dictionary::entries-overflow_add-from : goal.dictionary::entries-overflow_add-from
-dictionary::entries-overflow_add-from = DictionaryEntries.overflow_add-from
-
-pub dictionary::entries-overflow_add-i : goal.dictionary::entries-overflow_add-i
-dictionary::entries-overflow_add-i = DictionaryEntries.overflow_add-i
-
-pub dictionary::entries-loop-i-smaller : goal.dictionary::entries-loop-i-smaller
-dictionary::entries-loop-i-smaller = DictionaryEntries.loop-i-smaller
-
-pub dictionary::entries-loop-i-preserved : goal.dictionary::entries-loop-i-preserved
-dictionary::entries-loop-i-preserved = DictionaryEntries.loop-i-preserved
-
-pub dictionary::entries-returns : goal.dictionary::entries-returns
-dictionary::entries-returns = DictionaryEntries.returns
-
-pub dictionary::pair-one_more-requires : goal.dictionary::pair-one_more-requires
-dictionary::pair-one_more-requires = DictionaryPair.one_more-requires
-
-pub dictionary::pair-rows_behind-rows-requires : goal.dictionary::pair-rows_behind-rows-requires
-dictionary::pair-rows_behind-rows-requires = DictionaryPair.rows_behind-rows-requires
-
-pub dictionary::pair-returns-then-not-stands : goal.dictionary::pair-returns-then-not-stands
-dictionary::pair-returns-then-not-stands = DictionaryPair.returns-then-not-stands
-
-pub dictionary::pair-field_end-stop-requires : goal.dictionary::pair-field_end-stop-requires
-dictionary::pair-field_end-stop-requires = DictionaryPair.field_end-stop-requires
-
-pub dictionary::pair-key_written-good-requires : goal.dictionary::pair-key_written-good-requires
-dictionary::pair-key_written-good-requires = DictionaryPair.key_written-good-requires
-
-pub dictionary::pair-returns-then-not-good : goal.dictionary::pair-returns-then-not-good
-dictionary::pair-returns-then-not-good = DictionaryPair.returns-then-not-good
+pub dictionary::pair-returns-then-not-key_written : goal.dictionary::pair-returns-then-not-key_written
+dictionary::pair-returns-then-not-key_written = DictionaryPair.returns-then-not-key_written
 
 pub dictionary::pair-extent_in-extent-requires : goal.dictionary::pair-extent_in-extent-requires
 dictionary::pair-extent_in-extent-requires = DictionaryPair.extent_in-extent-requires
@@ -191,71 +83,41 @@ dictionary::pair-extent_in-extent-requires = DictionaryPair.extent_in-extent-req
 pub dictionary::pair-last_end-end-requires : goal.dictionary::pair-last_end-end-requires
 dictionary::pair-last_end-end-requires = DictionaryPair.last_end-end-requires
 
-pub dictionary::pair-start_of-start-requires : goal.dictionary::pair-start_of-start-requires
-dictionary::pair-start_of-start-requires = DictionaryPair.start_of-start-requires
+pub dictionary::pair-start_of-requires : goal.dictionary::pair-start_of-requires
+dictionary::pair-start_of-requires = DictionaryPair.start_of-requires
 
-pub dictionary::pair-returns-then-not-there : goal.dictionary::pair-returns-then-not-there
-dictionary::pair-returns-then-not-there = DictionaryPair.returns-then-not-there
+pub dictionary::pair-returns-in_default-start_of : goal.dictionary::pair-returns-in_default-start_of
+dictionary::pair-returns-in_default-start_of = DictionaryPair.returns-in_default-start_of
 
-pub dictionary::pair-slice_bounds-child-count : goal.dictionary::pair-slice_bounds-child-count
-dictionary::pair-slice_bounds-child-count = DictionaryPair.slice_bounds-child-count
+pub dictionary::pair-returns-then-child : goal.dictionary::pair-returns-then-child
+dictionary::pair-returns-then-child = DictionaryPair.returns-then-child
 
-pub dictionary::pair-slice_bounds-child-start : goal.dictionary::pair-slice_bounds-child-start
-dictionary::pair-slice_bounds-child-start = DictionaryPair.slice_bounds-child-start
-
-pub dictionary::pair-slice_bounds-child-end : goal.dictionary::pair-slice_bounds-child-end
-dictionary::pair-slice_bounds-child-end = DictionaryPair.slice_bounds-child-end
-
-pub dictionary::pair-child-held-requires : goal.dictionary::pair-child-held-requires
-dictionary::pair-child-held-requires = DictionaryPair.child-held-requires
-
-pub dictionary::pair-returns-then-not-held : goal.dictionary::pair-returns-then-not-held
-dictionary::pair-returns-then-not-held = DictionaryPair.returns-then-not-held
-
-pub dictionary::pair-finished-requires : goal.dictionary::pair-finished-requires
-dictionary::pair-finished-requires = DictionaryPair.finished-requires
-
-pub dictionary::pair-returns : goal.dictionary::pair-returns
-dictionary::pair-returns = DictionaryPair.returns
+pub dictionary::pair-returns-else-child : goal.dictionary::pair-returns-else-child
+dictionary::pair-returns-else-child = DictionaryPair.returns-else-child
 
 pub maybe::maybe-returns-then-part-eq0 : goal.maybe::maybe-returns-then-part-eq0
 maybe::maybe-returns-then-part-eq0 = MaybeMaybe.returns-then-part-eq0
 
-pub maybe::maybe-returns-then-refusal-ne0 : goal.maybe::maybe-returns-then-refusal-ne0
-maybe::maybe-returns-then-refusal-ne0 = MaybeMaybe.returns-then-refusal-ne0
+pub maybe::maybe-returns-in_default : goal.maybe::maybe-returns-in_default
+maybe::maybe-returns-in_default = MaybeMaybe.returns-in_default
 
 pub maybe::maybe-overflow_add-shape : goal.maybe::maybe-overflow_add-shape
 maybe::maybe-overflow_add-shape = MaybeMaybe.overflow_add-shape
 
-pub maybe::maybe-returns-then-is_basic : goal.maybe::maybe-returns-then-is_basic
-maybe::maybe-returns-then-is_basic = MaybeMaybe.returns-then-is_basic
+pub maybe::maybe-child-requires : goal.maybe::maybe-child-requires
+maybe::maybe-child-requires = MaybeMaybe.child-requires
+
+pub maybe::maybe-returns-then-held : goal.maybe::maybe-returns-then-held
+maybe::maybe-returns-then-held = MaybeMaybe.returns-then-held
 
 pub maybe::maybe-value-requires : goal.maybe::maybe-value-requires
 maybe::maybe-value-requires = MaybeMaybe.value-requires
 
-pub maybe::maybe-returns-then-fixed : goal.maybe::maybe-returns-then-fixed
-maybe::maybe-returns-then-fixed = MaybeMaybe.returns-then-fixed
+pub maybe::maybe-returns-then-part-end-eq0 : goal.maybe::maybe-returns-then-part-end-eq0
+maybe::maybe-returns-then-part-end-eq0 = MaybeMaybe.returns-then-part-end-eq0
 
-pub maybe::maybe-overflow_sub-end : goal.maybe::maybe-overflow_sub-end
-maybe::maybe-overflow_sub-end = MaybeMaybe.overflow_sub-end
-
-pub maybe::maybe-bounds-part-end : goal.maybe::maybe-bounds-part-end
-maybe::maybe-bounds-part-end = MaybeMaybe.bounds-part-end
-
-pub maybe::maybe-returns-then-part-end-ne0 : goal.maybe::maybe-returns-then-part-end-ne0
-maybe::maybe-returns-then-part-end-ne0 = MaybeMaybe.returns-then-part-end-ne0
-
-pub maybe::maybe-slice_bounds-value-end : goal.maybe::maybe-slice_bounds-value-end
-maybe::maybe-slice_bounds-value-end = MaybeMaybe.slice_bounds-value-end
-
-pub maybe::maybe-value-requires-2 : goal.maybe::maybe-value-requires-2
-maybe::maybe-value-requires-2 = MaybeMaybe.value-requires-2
-
-pub maybe::maybe-returns : goal.maybe::maybe-returns
-maybe::maybe-returns = MaybeMaybe.returns
-
-pub structure::fields-loop-whole-init : goal.structure::fields-loop-whole-init
-structure::fields-loop-whole-init = StructureFields.loop-whole-init
+pub maybe::maybe-returns-else-part-end-eq0 : goal.maybe::maybe-returns-else-part-end-eq0
+maybe::maybe-returns-else-part-end-eq0 = MaybeMaybe.returns-else-part-end-eq0
 
 pub structure::fields-last_field-requires : goal.structure::fields-last_field-requires
 structure::fields-last_field-requires = StructureFields.last_field-requires
@@ -269,26 +131,17 @@ structure::fields-extent_in-extent-requires = StructureFields.extent_in-extent-r
 pub structure::fields-field_end-stop-requires : goal.structure::fields-field_end-stop-requires
 structure::fields-field_end-stop-requires = StructureFields.field_end-stop-requires
 
-pub structure::fields-start_of-start-requires : goal.structure::fields-start_of-start-requires
-structure::fields-start_of-start-requires = StructureFields.start_of-start-requires
+pub structure::fields-start_of-requires : goal.structure::fields-start_of-requires
+structure::fields-start_of-requires = StructureFields.start_of-requires
 
-pub structure::fields-returns-then-not-there : goal.structure::fields-returns-then-not-there
-structure::fields-returns-then-not-there = StructureFields.returns-then-not-there
+pub structure::fields-returns-in_default : goal.structure::fields-returns-in_default
+structure::fields-returns-in_default = StructureFields.returns-in_default
 
-pub structure::fields-slice_bounds-child-count : goal.structure::fields-slice_bounds-child-count
-structure::fields-slice_bounds-child-count = StructureFields.slice_bounds-child-count
+pub structure::fields-child-requires : goal.structure::fields-child-requires
+structure::fields-child-requires = StructureFields.child-requires
 
-pub structure::fields-slice_bounds-child-start : goal.structure::fields-slice_bounds-child-start
-structure::fields-slice_bounds-child-start = StructureFields.slice_bounds-child-start
-
-pub structure::fields-slice_bounds-child-end : goal.structure::fields-slice_bounds-child-end
-structure::fields-slice_bounds-child-end = StructureFields.slice_bounds-child-end
-
-pub structure::fields-child-good-requires : goal.structure::fields-child-good-requires
-structure::fields-child-good-requires = StructureFields.child-good-requires
-
-pub structure::fields-returns-then-not-good : goal.structure::fields-returns-then-not-good
-structure::fields-returns-then-not-good = StructureFields.returns-then-not-good
+pub structure::fields-returns-then-not-child : goal.structure::fields-returns-then-not-child
+structure::fields-returns-then-not-child = StructureFields.returns-then-not-child
 
 pub structure::fields-offsets_left-end-requires : goal.structure::fields-offsets_left-end-requires
 structure::fields-offsets_left-end-requires = StructureFields.offsets_left-end-requires
@@ -305,35 +158,20 @@ structure::last_field-extent_in-extent-requires = StructureLastField.extent_in-e
 pub structure::last_field-last_end-stop-requires : goal.structure::last_field-last_end-stop-requires
 structure::last_field-last_end-stop-requires = StructureLastField.last_end-stop-requires
 
-pub structure::last_field-start_of-start-requires : goal.structure::last_field-start_of-start-requires
-structure::last_field-start_of-start-requires = StructureLastField.start_of-start-requires
+pub structure::last_field-start_of-requires : goal.structure::last_field-start_of-requires
+structure::last_field-start_of-requires = StructureLastField.start_of-requires
 
-pub structure::last_field-returns-then-not-there : goal.structure::last_field-returns-then-not-there
-structure::last_field-returns-then-not-there = StructureLastField.returns-then-not-there
+pub structure::last_field-returns-in_default : goal.structure::last_field-returns-in_default
+structure::last_field-returns-in_default = StructureLastField.returns-in_default
 
-pub structure::last_field-slice_bounds-child-count : goal.structure::last_field-slice_bounds-child-count
-structure::last_field-slice_bounds-child-count = StructureLastField.slice_bounds-child-count
+pub structure::last_field-returns-then-child : goal.structure::last_field-returns-then-child
+structure::last_field-returns-then-child = StructureLastField.returns-then-child
 
-pub structure::last_field-slice_bounds-child-start : goal.structure::last_field-slice_bounds-child-start
-structure::last_field-slice_bounds-child-start = StructureLastField.slice_bounds-child-start
+pub structure::last_field-returns-else-child : goal.structure::last_field-returns-else-child
+structure::last_field-returns-else-child = StructureLastField.returns-else-child
 
-pub structure::last_field-slice_bounds-child-end : goal.structure::last_field-slice_bounds-child-end
-structure::last_field-slice_bounds-child-end = StructureLastField.slice_bounds-child-end
-
-pub structure::last_field-child-good-requires : goal.structure::last_field-child-good-requires
-structure::last_field-child-good-requires = StructureLastField.child-good-requires
-
-pub structure::last_field-returns-then-not-good : goal.structure::last_field-returns-then-not-good
-structure::last_field-returns-then-not-good = StructureLastField.returns-then-not-good
-
-pub structure::last_field-finished-requires : goal.structure::last_field-finished-requires
-structure::last_field-finished-requires = StructureLastField.finished-requires
-
-pub structure::last_field-returns : goal.structure::last_field-returns
-structure::last_field-returns = StructureLastField.returns
-
-pub structure::structure-returns-then-refusal-ne0 : goal.structure::structure-returns-then-refusal-ne0
-structure::structure-returns-then-refusal-ne0 = StructureStructure.returns-then-refusal-ne0
+pub structure::structure-returns-in_default : goal.structure::structure-returns-in_default
+structure::structure-returns-in_default = StructureStructure.returns-in_default
 
 pub structure::structure-extent_in-whole-requires : goal.structure::structure-extent_in-whole-requires
 structure::structure-extent_in-whole-requires = StructureStructure.extent_in-whole-requires
@@ -341,11 +179,11 @@ structure::structure-extent_in-whole-requires = StructureStructure.extent_in-who
 pub structure::structure-offsets_in-requires : goal.structure::structure-offsets_in-requires
 structure::structure-offsets_in-requires = StructureStructure.offsets_in-requires
 
-pub structure::structure-rows_behind-rows-requires : goal.structure::structure-rows_behind-rows-requires
-structure::structure-rows_behind-rows-requires = StructureStructure.rows_behind-rows-requires
+pub structure::structure-rows_behind-requires : goal.structure::structure-rows_behind-requires
+structure::structure-rows_behind-requires = StructureStructure.rows_behind-requires
 
-pub structure::structure-returns-then-not-stands : goal.structure::structure-returns-then-not-stands
-structure::structure-returns-then-not-stands = StructureStructure.returns-then-not-stands
+pub structure::structure-returns-in_default-rows_behind : goal.structure::structure-returns-in_default-rows_behind
+structure::structure-returns-in_default-rows_behind = StructureStructure.returns-in_default-rows_behind
 
 pub structure::structure-overflow_add-shape : goal.structure::structure-overflow_add-shape
 structure::structure-overflow_add-shape = StructureStructure.overflow_add-shape
@@ -365,50 +203,20 @@ value-array-requires = Value.array-requires
 pub value-structure-requires : goal.value-structure-requires
 value-structure-requires = Value.structure-requires
 
-pub value-variant-requires : goal.value-variant-requires
-value-variant-requires = Value.variant-requires
-
-pub value-returns-in-Maybe : goal.value-returns-in-Maybe
-value-returns-in-Maybe = Value.returns-in-Maybe
-
-pub value-returns-in-Array : goal.value-returns-in-Array
-value-returns-in-Array = Value.returns-in-Array
-
-pub value-returns-in-OpenStructure : goal.value-returns-in-OpenStructure
-value-returns-in-OpenStructure = Value.returns-in-OpenStructure
-
 pub value-returns-in-Variant : goal.value-returns-in-Variant
 value-returns-in-Variant = Value.returns-in-Variant
 
 pub value-returns-in_default : goal.value-returns-in_default
 value-returns-in_default = Value.returns-in_default
 
-pub variant::variant-returns-then-s-eq0 : goal.variant::variant-returns-then-s-eq0
-variant::variant-returns-then-s-eq0 = VariantVariant.returns-then-s-eq0
+pub variant::variant-returns-in_default : goal.variant::variant-returns-in_default
+variant::variant-returns-in_default = VariantVariant.returns-in_default
 
-pub variant::variant-returns-then-refusal-ne0 : goal.variant::variant-returns-then-refusal-ne0
-variant::variant-returns-then-refusal-ne0 = VariantVariant.returns-then-refusal-ne0
+pub variant::variant-returns-in_default-inc_variant : goal.variant::variant-returns-in_default-inc_variant
+variant::variant-returns-in_default-inc_variant = VariantVariant.returns-in_default-inc_variant
 
-pub variant::variant-overflow_sub-end : goal.variant::variant-overflow_sub-end
-variant::variant-overflow_sub-end = VariantVariant.overflow_sub-end
-
-pub variant::variant-slice_bounds-signature-count : goal.variant::variant-slice_bounds-signature-count
-variant::variant-slice_bounds-signature-count = VariantVariant.slice_bounds-signature-count
-
-pub variant::variant-slice_bounds-signature-start : goal.variant::variant-slice_bounds-signature-start
-variant::variant-slice_bounds-signature-start = VariantVariant.slice_bounds-signature-start
-
-pub variant::variant-slice_bounds-signature-end : goal.variant::variant-slice_bounds-signature-end
-variant::variant-slice_bounds-signature-end = VariantVariant.slice_bounds-signature-end
-
-pub variant::variant-slice_bounds-letter_written-end : goal.variant::variant-slice_bounds-letter_written-end
-variant::variant-slice_bounds-letter_written-end = VariantVariant.slice_bounds-letter_written-end
-
-pub variant::variant-returns-then-there : goal.variant::variant-returns-then-there
-variant::variant-returns-then-there = VariantVariant.returns-then-there
-
-pub variant::variant-slice_bounds-variant-end : goal.variant::variant-slice_bounds-variant-end
-variant::variant-slice_bounds-variant-end = VariantVariant.slice_bounds-variant-end
+pub variant::variant-returns-in-Some-lone_basic : goal.variant::variant-returns-in-Some-lone_basic
+variant::variant-returns-in-Some-lone_basic = VariantVariant.returns-in-Some-lone_basic
 
 pub variant::variant-variant-requires : goal.variant::variant-variant-requires
 variant::variant-variant-requires = VariantVariant.variant-requires
@@ -418,9 +226,6 @@ variant::variant-returns-then-lone_variant = VariantVariant.returns-then-lone_va
 
 pub variant::variant-returns-then-not-tables_of : goal.variant::variant-returns-then-not-tables_of
 variant::variant-returns-then-not-tables_of = VariantVariant.returns-then-not-tables_of
-
-pub variant::variant-slice_bounds-value-end-2 : goal.variant::variant-slice_bounds-value-end-2
-variant::variant-slice_bounds-value-end-2 = VariantVariant.slice_bounds-value-end-2
 
 pub variant::variant-value-requires : goal.variant::variant-value-requires
 variant::variant-value-requires = VariantVariant.value-requires

@@ -1,31 +1,17 @@
 -- The walk meets its contracts: its functions call each other as containers nest. What falls: the containers that may still be opened,
 -- and then the functions in order. Assumes nothing.
-use Prim.Native.Nat.{◌-◌}
 use Rattle.container_depths.specs.Opening.{depths_of}
 use Rattle.strict_basic.proofs.ElementLaws.{ElementsLeft}
 use Rattle.strict_sizes.specs.Items.{item_test}
 use lib.ListN.{length}
-use Prim.Native.Nat.{◌*◌, ◌+◌}
+use Prim.Native.Nat.{◌-◌, ◌*◌, ◌+◌}
 use Rattle.container_depths.specs.Opening.{level}
 use Rattle.strict_cycle.proofs.Structures.{FieldsLeft}
-use lib.ListN.{length}
 use Rattle.strict_cycle.proofs.+testing.Given as goal
 
 abbrev pub invariant-array::elements-loop-i : goal.invariant-array::elements-loop-i
 invariant-array::elements-loop-i l =
-    ElementsLeft l.item.extent.fixed (item_test l.d.variant l.text l.item) (depths_of l.d) l.part l.width l.limit l.many l.initial.from l.i l.from l.place
-
-abbrev pub decreases-array::elements-loop-i : goal.decreases-array::elements-loop-i
-decreases-array::elements-loop-i l =
-    l.many - l.i
-
-abbrev pub invariant-dictionary::entries-loop-i : goal.invariant-dictionary::entries-loop-i
-invariant-dictionary::entries-loop-i l =
-    ElementsLeft l.item.extent.fixed (item_test l.d.variant l.text l.item) (depths_of l.d) l.part l.width l.limit l.many l.initial.from l.i l.from l.place
-
-abbrev pub decreases-dictionary::entries-loop-i : goal.decreases-dictionary::entries-loop-i
-decreases-dictionary::entries-loop-i l =
-    l.many - l.i
+    ElementsLeft l.item.extent.fixed (item_test l.d.variant l.text l.item) (depths_of l.d) l.part l.rows.width l.rows.body l.rows.count l.rows.from l.i l.place
 
 abbrev pub decreases-array::array : goal.decreases-array::array
 decreases-array::array l =
@@ -43,9 +29,9 @@ abbrev pub decreases-child : goal.decreases-child
 decreases-child l =
     level l.d * 16 + 4
 
-abbrev pub decreases-dictionary::entries : goal.decreases-dictionary::entries
-decreases-dictionary::entries l =
-    level l.d * 16 + 8
+abbrev pub decreases-array::element : goal.decreases-array::element
+decreases-array::element l =
+    level l.d * 16 + 7
 
 abbrev pub decreases-dictionary::pair : goal.decreases-dictionary::pair
 decreases-dictionary::pair l =

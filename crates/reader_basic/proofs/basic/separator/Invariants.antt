@@ -1,12 +1,9 @@
 -- `reader_basic::basic::separator` meets its contract. The loop's invariant: what is left to look at has the same last nul as the whole. Assumes nothing.
 use mathlib.Core.Path.{◌≡◌}
-use Prim.Native.Nat.{◌≤◌, ◌-◌}
+use Prim.Native.Nat.{◌-◌}
 use lib.ListN.{length}
 use Rattle.meaning.specs.Reading.{last_nul}
 use Rattle.reader_basic.proofs.basic.separator.Given as goal
 
 abbrev pub invariant-loop-i : goal.invariant-loop-i
-invariant-loop-i l = (l.i ≤ length l.part - 1) × (last_nul (length l.part - 1) l.part ≡ last_nul l.i l.part)
-
-abbrev pub decreases-loop-i : goal.decreases-loop-i
-decreases-loop-i l = l.i
+invariant-loop-i l = last_nul (length l.part - 1) l.part ≡ last_nul (l.i - 1) l.part

@@ -1,112 +1,67 @@
 -- The needs of `array::array`, and what answers each.
 use Rattle.container_depths.proofs.Levels.{level_falls}
-use borrow.Author.Tests.{not-true, not-false}
-use Rattle.strict_cycle.proofs.Arrays.{array_any, array_deep, array_not, array_on, array_readings, array_texts, array_wide, reads_aligned, reads_wide}
+use Rattle.meaning.proofs.RefusalLaws.{number_not_0}
+use Rattle.strict_cycle.proofs.Arrays.{array_any, array_deep, array_not, array_on, array_readings, array_texts, reads_aligned, reads_stand, texts_stand}
 use Rattle.strict_cycle.proofs.Values.{inside_deeper}
+use mathlib.Core.Path.{refl, ◌∙◌}
 use native.Mathlib.Omega.{arith}
 use Rattle.meaning.specs.Depths as Depth
 use Rattle.strict_cycle.proofs.+testing.Goals as goal
 
-pub repeated-item-requires : goal.array::array-repeated-item-requires
-repeated-item-requires t c =
-    (c.requires.0, c.requires.1)
-
-pub returns-then-refusal-ne0 : goal.array::array-returns-then-refusal-ne0
-returns-then-refusal-ne0 t c =
-    array_deep c.repeated-item.result c.repeated-item.ensures c.args.d c.args.part.now c.inc_array-raised.result c.inc_array-raised.ensures c.if-refusal-ne0.true
+pub returns-in_default : goal.array::array-returns-in_default
+returns-in_default t c =
+    array_deep c.repeated-item.result c.repeated-item.ensures c.args.d c.args.part.now _ c.in_default.ensures (number_not_0 c.in_default.field-0)
 
 pub first-requires : goal.array::array-first-requires
 first-requires t c = (
-  omega (arith, level_falls Depth.array c.args.d c.inc_array-raised.result c.inc_array-raised.ensures c.if-refusal-ne0.false, c.decreases),
+  omega (arith, level_falls Depth.array c.args.d _ c.in-Ok.ensures refl, c.decreases),
   (
     c.repeated-item.ensures.repeated,
-    c.if-any.true,
-    c.repeated-item.ensures.repeated.single c.if-any.true,
-    inside_deeper Depth.array c.args.d
-        c.inc_array-raised.result c.requires.2 c.inc_array-raised.ensures c.if-refusal-ne0.false,
+    c.in-AnyBytes.is,
+    inside_deeper Depth.array c.args.d _ c.requires.2
+        c.in-Ok.ensures refl,
   ),
 )
 
-pub returns-then-any : goal.array::array-returns-then-any
-returns-then-any t c =
-    array_any c.repeated-item.result c.repeated-item.ensures c.args.d c.args.part.now c.inc_array-raised.result c.inc_array-raised.ensures
-    c.if-refusal-ne0.false _ c.first.ensures
+pub returns-in-AnyBytes : goal.array::array-returns-in-AnyBytes
+returns-in-AnyBytes t c =
+    array_any c.repeated-item.result c.repeated-item.ensures c.args.d c.args.part.now _ c.in-Ok.ensures refl _ c.first.ensures
 
-pub rows_of-rows-requires : goal.array::array-rows_of-rows-requires
-rows_of-rows-requires t c =
-    (c.requires.2.in_frame, c.repeated-item.ensures.repeated.known.positive)
-
-pub returns-then-not-stands : goal.array::array-returns-then-not-stands
-returns-then-not-stands t c =
-    array_not c.repeated-item.result c.repeated-item.ensures c.args.d c.args.part.now c.inc_array-raised.result c.inc_array-raised.ensures
-    c.if-refusal-ne0.false _ c.rows_of-rows.ensures (not-true _ c.if-not-stands.true-raw)
+pub returns-in_default-rows_of : goal.array::array-returns-in_default-rows_of
+returns-in_default-rows_of t c =
+    array_not c.repeated-item.result c.repeated-item.ensures c.args.d c.args.part.now _ c.in-Ok.ensures refl c.in_default-rows_of.ensures
 
 pub texts_written-requires : goal.array::array-texts_written-requires
-texts_written-requires t c = (
-  c.requires.2.in_frame,
-  c.rows_of-rows.ensures.within (not-false _ c.if-not-stands.false-raw),
-  c.rows_of-rows.ensures.room (not-false _ c.if-not-stands.false-raw),
-  array_wide
-      c.repeated-item.result c.repeated-item.ensures c.args.d c.args.part.now c.inc_array-raised.result c.inc_array-raised.ensures c.if-refusal-ne0.false _
-      c.rows_of-rows.ensures c.if-texts.true,
-)
-
-pub returns-then-texts : goal.array::array-returns-then-texts
-returns-then-texts t c =
-    array_texts c.repeated-item.result c.repeated-item.ensures c.args.d c.args.part.now c.inc_array-raised.result c.inc_array-raised.ensures
-    c.if-refusal-ne0.false _ c.rows_of-rows.ensures _ (not-false _ c.if-not-stands.false-raw) c.if-texts.true c.texts_written.ensures
+texts_written-requires t c =
+    (c.requires.2.in_frame, texts_stand c.repeated-item.result c.repeated-item.ensures c.args.d c.args.part.now _ c.in-Ok.ensures refl _ c.in-Some.ensures c.in-Texts.is)
 
 pub readings_written-requires : goal.array::array-readings_written-requires
 readings_written-requires t c = (
   c.requires.2.in_frame,
-  c.rows_of-rows.ensures.within (not-false _ c.if-not-stands.false-raw),
-  c.rows_of-rows.ensures.room (not-false _ c.if-not-stands.false-raw),
-  reads_wide
-      c.repeated-item.result c.repeated-item.ensures c.args.d c.args.part.now c.inc_array-raised.result c.inc_array-raised.ensures c.if-refusal-ne0.false _
-      c.rows_of-rows.ensures c.if-held-ne0.true,
-  reads_aligned c.repeated-item.result c.repeated-item.ensures c.args.d c.args.part.now
-      c.inc_array-raised.result c.inc_array-raised.ensures c.if-refusal-ne0.false _ c.rows_of-rows.ensures c.if-held-ne0.true,
+  reads_stand c.repeated-item.result c.repeated-item.ensures c.args.d c.args.part.now _ c.in-Ok.ensures refl _ c.in-Some.ensures _ c.in-Readings.is,
+  reads_aligned
+      c.repeated-item.result c.repeated-item.ensures c.args.d c.args.part.now _ c.in-Ok.ensures refl _ c.in-Some.ensures _ c.in-Readings.is,
 )
-
-pub returns-then-held-ne0 : goal.array::array-returns-then-held-ne0
-returns-then-held-ne0 t c =
-    array_readings c.repeated-item.result c.repeated-item.ensures c.args.d c.args.part.now c.inc_array-raised.result c.inc_array-raised.ensures
-    c.if-refusal-ne0.false _ c.rows_of-rows.ensures c.if-held-ne0.true _ (not-false _ c.if-not-stands.false-raw) _ c.inc_maybe-room.ensures c.readings_written.ensures
-
-pub entries-requires : goal.array::array-entries-requires
-entries-requires t c = (
-  omega (arith, level_falls Depth.array c.args.d c.inc_array-raised.result c.inc_array-raised.ensures c.if-refusal-ne0.false, c.decreases),
-  (
-    c.repeated-item.ensures.repeated,
-    c.if-entry.true,
-    inside_deeper Depth.array c.args.d c.inc_array-raised.result c.requires.2 c.inc_array-raised.ensures
-        c.if-refusal-ne0.false,
-    c.rows_of-rows.ensures.within (not-false _ c.if-not-stands.false-raw),
-    c.rows_of-rows.ensures.room (not-false _ c.if-not-stands.false-raw),
-    c.rows_of-rows.ensures.wide,
-  ),
-)
-
-pub returns-then-entry : goal.array::array-returns-then-entry
-returns-then-entry t c =
-    array_on c.repeated-item.result c.repeated-item.ensures c.args.d c.args.part.now c.inc_array-raised.result c.inc_array-raised.ensures
-    c.if-refusal-ne0.false _ c.rows_of-rows.ensures _ (not-false _ c.if-not-stands.false-raw) c.entries.ensures
 
 pub elements-requires : goal.array::array-elements-requires
 elements-requires t c = (
-  omega (arith, level_falls Depth.array c.args.d c.inc_array-raised.result c.inc_array-raised.ensures c.if-refusal-ne0.false, c.decreases),
+  omega (arith, level_falls Depth.array c.args.d _ c.in-Ok.ensures refl, c.decreases),
   (
     c.repeated-item.ensures.repeated,
-    c.if-entry.false,
-    inside_deeper Depth.array c.args.d c.inc_array-raised.result c.requires.2 c.inc_array-raised.ensures
-        c.if-refusal-ne0.false,
-    c.rows_of-rows.ensures.within (not-false _ c.if-not-stands.false-raw),
-    c.rows_of-rows.ensures.room (not-false _ c.if-not-stands.false-raw),
-    c.rows_of-rows.ensures.wide,
+    inside_deeper Depth.array c.args.d _ c.requires.2 c.in-Ok.ensures refl,
+    c.in-Some.ensures.standing,
   ),
 )
 
-pub returns : goal.array::array-returns
-returns t c =
-    array_on c.repeated-item.result c.repeated-item.ensures c.args.d c.args.part.now c.inc_array-raised.result c.inc_array-raised.ensures
-    c.if-refusal-ne0.false _ c.rows_of-rows.ensures _ (not-false _ c.if-not-stands.false-raw) c.elements.ensures
+pub returns-in-Texts : goal.array::array-returns-in-Texts
+returns-in-Texts t c =
+    array_texts c.repeated-item.result c.repeated-item.ensures c.args.d c.args.part.now _ c.in-Ok.ensures refl _ c.in-Some.ensures c.in-Texts.is _ c.texts_written.ensures
+
+pub returns-in-Readings : goal.array::array-returns-in-Readings
+returns-in-Readings t c =
+    array_readings c.repeated-item.result c.repeated-item.ensures c.args.d c.args.part.now _ c.in-Ok.ensures refl _ c.in-Some.ensures _ c.in-Readings.is _ _ c.inc_maybe.ensures (λ e q.
+    c.readings_written.ensures e (c.is_ok-room.ensures.value ∙ q))
+
+pub returns-in_default-repeats-2 : goal.array::array-returns-in_default-repeats-2
+returns-in_default-repeats-2 t c =
+    array_on c.repeated-item.result c.repeated-item.ensures c.args.d c.args.part.now _ c.in-Ok.ensures refl _ c.in-Some.ensures _ c.elements.ensures

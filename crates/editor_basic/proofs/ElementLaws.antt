@@ -19,13 +19,13 @@ use Rattle.meaning.proofs.LayoutLaws.{length_layout, layout_none}
 use Rattle.meaning_writing.specs.Shapes.{part}
 use Rattle.meaning_writing.specs.Edited.{found_piece, elements_from}
 use Rattle.meaning_writing.proofs.Parts.{length_part}
+use Rattle.std.specs.Prelude.{Option, Some, None}
+use Rattle.std.specs.Option.{unwrap_or}
 use Rattle.utils.specs.Checks.{padding_for}
 use Rattle.utils.specs.Checks.{Checked}
 use Rattle.framing_offset_size.specs.Widths.{width_of, fitting_width}
 use Rattle.framing_offset_size.specs.declared.FramingOffsetSize.{FramingOffsetSize}
 use Rattle.framing_offset_size.specs.declared.FramingOffsetSize.TheVariants.{U8, U16, U32, U64}
-use Rattle.framing_offset_size.specs.declared.Fitting.{Fitting}
-use Rattle.framing_offset_size.specs.declared.Fitting.TheVariants.{Size, Nothing}
 use Rattle.framing_offset_size.proofs.WidthLaws.{width_positive}
 use Rattle.editor_basic.specs.declared.elements.Elements.{Elements}
 use Rattle.editor_basic.specs.declared.elements.Child.{Child}
@@ -52,14 +52,18 @@ written_bare n m = go (leb (n + m * 1) (largest 1)) (leb (n + m * 2) (largest 2)
     go false false false true = refl
     go false false false false = refl
 
-pub written_size : (n m : ℕ) (s : FramingOffsetSize) {f : Fitting} → Size s ≡ f → fitting_width f ≡ bare_width n m → width_of s ≡ written_width n m
+written_size : (n m : ℕ) (s : FramingOffsetSize) {f : Option FramingOffsetSize} → Some s ≡ f → fitting_width f ≡ bare_width n m → width_of s ≡ written_width n m
 written_size n m s e h =
     let w : width_of s ≡ bare_width n m = ap fitting_width e ∙ h in
     let p : 0 < bare_width n m = omega (arith, width_positive s, w) in
     w ∙ sym (written_bare n m ∙ rw (ne_eqb (bare_width n m) 0 (λ z. omega arith)))
 
-pub written_none : (n m : ℕ) {f : Fitting} → Nothing ≡ f → fitting_width f ≡ bare_width n m → 8 ≡ written_width n m
+written_none : (n m : ℕ) {f : Option FramingOffsetSize} → None ≡ f → fitting_width f ≡ bare_width n m → 8 ≡ written_width n m
 written_none n m e h = sym (written_bare n m ∙ rw (eq-eqb (bare_width n m) 0 (sym (ap fitting_width e ∙ h))))
+
+pub written_fitting : (n m : ℕ) (f : Option FramingOffsetSize) → fitting_width f ≡ bare_width n m → width_of (unwrap_or f U64) ≡ written_width n m
+written_fitting n m (Some s) h = written_size n m s refl h
+written_fitting n m None h = written_none n m refl h
 
 -- ---- the first of some elements
 

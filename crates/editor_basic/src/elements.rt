@@ -5,7 +5,7 @@ ghost use Rattle.meaning.specs.Padding.{Aligns, padding};
 ghost use Rattle.framing_offset_size.specs.Widths.{width_of};
 ghost use Rattle.editor_basic.specs.Elements.{behind_of, Standing, FirstOf};
 
-use framing_offset_size::{Fitting, FramingOffsetSize};
+use framing_offset_size::FramingOffsetSize;
 use strict_ends::offset_at;
 use utils::padding_for_n_bytes;
 
@@ -32,18 +32,14 @@ pub(crate) fn due(place: usize, alignment: usize) -> usize
     requires { Aligns alignment }
     ensures { (result ≡ padding place alignment) × (result < 8) }
 {
-    let found = padding_for_n_bytes(place, alignment);
-    found.value
+    padding_for_n_bytes(place, alignment).unwrap_or(0)
 }
 
 // The width of the offsets of a body.
 pub(crate) fn width_for(body: usize, count: usize) -> FramingOffsetSize
     ensures { width_of result ≡ written_width body count }
 {
-    match FramingOffsetSize::for_bare_container(body, count) {
-        Fitting::Size(size) => size,
-        Fitting::Nothing => FramingOffsetSize::U64,
-    }
+    FramingOffsetSize::for_bare_container(body, count).unwrap_or(FramingOffsetSize::U64)
 }
 
 // The first of some elements.
@@ -53,9 +49,7 @@ pub fn first_element(part: &[u8], elements: Elements) -> Child
 {
     let place = elements.place;
     let start = place + due(place, elements.alignment);
-    let size = elements.size;
-    let width = size.width();
-    let end = offset_at(part, elements.from, width);
+    let end = offset_at(part, elements.from, elements.size.width());
     Child { start, end }
 }
 
@@ -64,12 +58,10 @@ pub fn behind(elements: Elements, end: usize) -> Elements
     requires { (0 < elements.count) × (elements.from + width_of elements.size < 1000000) }
     ensures { result ≡ behind_of elements end }
 {
-    let size = elements.size;
     Elements {
-        alignment: elements.alignment,
-        size,
         count: elements.count - 1,
-        from: elements.from + size.width(),
+        from: elements.from + elements.size.width(),
         place: end,
+        ..elements
     }
 }

@@ -115,6 +115,7 @@ pub(crate) fn move_fields(
     let mut rest = row;
     let mut next = at;
     let mut place = to;
+    // No index is counted here: the last field ends the walk, and an iterator over fields would carry the same row and be no plainer.
     loop {
         let field = first_field(text, tables, old, rest);
         let start = field.start;
@@ -166,6 +167,7 @@ pub(crate) fn rewrite_field_ends(
     let mut rest = row;
     let mut first = below;
     let mut place = to;
+    // No index is counted, as above.
     loop {
         let field = first_field(text, tables, old, rest);
         let last = field.last;

@@ -59,6 +59,7 @@ fn fields(
 {
     let mut row = all;
     let mut left = number;
+    // No index is counted here: the last field ends the walk, and an iterator over fields would carry the same row and be no plainer.
     loop {
         let field = first_field(text, tables, part, row);
         let inner = shape_in(text, tables, row.at);

@@ -48,8 +48,7 @@ pub fn elements_of(part: &[u8], alignment: usize) -> Elements
 {
     let len = part.len();
     let size = FramingOffsetSize::for_encoded_container(len);
-    let last = last_in(part, size);
-    let from = last.value;
+    let from = last_in(part, size).unwrap_or(0);
     let count = size.count_in(len - from);
     elements_as(alignment, size, count, from)
 }

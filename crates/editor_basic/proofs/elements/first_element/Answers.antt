@@ -10,11 +10,11 @@ use Rattle.editor_basic.proofs.elements.first_element.Goals as goal
 pub offset_at-end-requires : goal.offset_at-end-requires
 offset_at-end-requires c =
     let e = c.args.elements in
-    rw c.width-width.ensures (offset_inside e _ c.requires.0 c.requires.1, width_aligns e.size)
+    rw c.width.ensures (offset_inside e _ c.requires.0 c.requires.1, width_aligns e.size)
 
 pub returns : goal.returns
 returns c =
     let e = c.args.elements in
     let begins = ap (λ (n : ℕ). e.place + n) c.due.ensures.0 in
-    let ends = c.offset_at-end.ensures ∙ ap (λ (w : ℕ). value (part e.from (e.from + w) c.args.part.now)) c.width-width.ensures in
+    let ends = c.offset_at-end.ensures ∙ ap (λ (w : ℕ). value (part e.from (e.from + w) c.args.part.now)) c.width.ensures in
     first_of e _ _ c.requires.0 c.requires.1 begins ends

@@ -5,12 +5,12 @@
 ghost use Rattle.std.specs.Prelude.{◌≡◌, ◌+◌, ◌≤◌, length};
 ghost use Rattle.meaning.specs.Calls.{counts};
 ghost use Rattle.numerals.specs.Storing.{Puts};
-ghost use Rattle.reader.specs.Answers.{counts_of};
+ghost use Rattle.reader.specs.Answers.{answer_of as counts_of};
 ghost use Rattle.listing.specs.Listing.{printed, next_number};
 ghost use Rattle.listing.specs.States.{machine, fresh_state, step as step_of, answer_of, line_text, output, Lists, Finishes};
 
 use lines::{front, keep};
-use meaning::refusals::{NOT_HEXADECIMAL, OVER_LIMIT, TYPE_REFUSED};
+use meaning::refusals::Refusal;
 use numerals::{begun, digit, put_decimal};
 use reader::{Answer, size};
 use signature_table::judge;
@@ -158,38 +158,45 @@ fn put_line(s: State, text: &[u8; 256], frame: &[u8; 16384], out: &mut [u8], at:
     put_answer(s.line, a, out, at)
 }
 
-fn answer(s: State, text: &[u8; 256], frame: &[u8; 16384]) -> Answer
+fn answer(s: State, text: &[u8; 256], frame: &[u8; 16384]) -> Result<Answer, Refusal>
     ensures { counts_of result ≡ answer_of (machine s text.now frame.now) }
 {
     let signature = front(text, s.letters);
     if !judge(signature) {
-        return refused(TYPE_REFUSED);
+        return Err(Refusal::TypeRefused);
     }
     if s.spoilt || s.half.is_some() {
-        return refused(NOT_HEXADECIMAL);
+        return Err(Refusal::NotHexadecimal);
     }
     if 16384 < s.kept {
-        return refused(OVER_LIMIT);
+        return Err(Refusal::OverLimit);
     }
     size(signature, false, 0, front(frame, s.kept))
 }
 
-fn refused(refusal: u8) -> Answer
-    ensures { counts_of result ≡ counts refusal 0 0 }
+fn put_answer(line: u64, answer: Result<Answer, Refusal>, out: &mut [u8], at: usize) -> usize
+    requires { at + 84 ≤ length out.old }
+    ensures { Puts out.old out.new at (printed line (counts_of answer)) result }
 {
-    Answer {
-        refusal,
-        used: 0,
-        count: 0,
+    match answer {
+        Ok(read) => put_numbers(line, 0, read.used, read.count, out, at),
+        Err(refusal) => put_numbers(line, refusal.number(), 0, 0, out, at),
     }
 }
 
-fn put_answer(line: u64, a: Answer, out: &mut [u8], at: usize) -> usize
+fn put_numbers(
+    line: u64,
+    refusal: u8,
+    used: usize,
+    count: usize,
+    out: &mut [u8],
+    at: usize,
+) -> usize
     requires { at + 84 ≤ length out.old }
-    ensures { Puts out.old out.new at (printed line (counts_of a)) result }
+    ensures { Puts out.old out.new at (printed line (counts refusal used count)) result }
 {
     let second = put_decimal(line, b' ', out, at);
-    let third = put_decimal(a.refusal as u64, b' ', out, second);
-    let fourth = put_decimal(a.used as u64, b' ', out, third);
-    put_decimal(a.count as u64, b'\n', out, fourth)
+    let third = put_decimal(u64::from(refusal), b' ', out, second);
+    let fourth = put_decimal(used as u64, b' ', out, third);
+    put_decimal(count as u64, b'\n', out, fourth)
 }

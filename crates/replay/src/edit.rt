@@ -1,6 +1,7 @@
 // Questions of editing, behind their name: `TYPE l|b BUFFER USED READING NEW`. The buffer is in hexadecimal, `-` for none, of at most 66,000
 // bytes; its used length and the reading's number are decimal, and so are the bits of what the reading becomes, or `nothing`. The answer is
 // a line `REFUSAL LENGTH BUFFER`: all of the buffer afterwards, in hexadecimal, `-` for none.
+use crate::length;
 use crate::stop::Stop;
 use replay_text::print::Answers;
 use replay_text::words;
@@ -41,8 +42,8 @@ fn edit<P: Print>(
     change: Change,
 ) -> io::Result<()> {
     let new = editor::new_of(change.bits.is_some(), change.bits.unwrap_or(0));
-    let edited = editor::edit(signature, big, buffer, change.used, change.reading, new);
-    answers.refusal_and_length(edited.refusal, edited.length)?;
+    let length = editor::edit(signature, big, buffer, change.used, change.reading, new);
+    length::put(answers, length)?;
     answers.bytes(buffer)
 }
 

@@ -1,6 +1,7 @@
 // Frames. A question is `TYPE l|b POSITION HEX`, `-` for no bytes. Its answer is a line `REFUSAL USED NEVENTS kind:place:payload ..`,
 // without the events where there are more than 73,728 of them.
 use crate::stop::Stop;
+use meaning::refusals::Refusal;
 use numerals::decimal;
 use replay_text::print::{Answers, behind};
 use replay_text::words;
@@ -27,6 +28,20 @@ fn understand(line: &[u8]) -> Option<Question<'_>> {
     })
 }
 
+// The answer to a frame without its events.
+fn size<P: Print>(
+    answers: &mut Answers<P>,
+    signature: &[u8],
+    big: bool,
+    position: usize,
+    frame: &[u8],
+) -> io::Result<()> {
+    match reader::size(signature, big, position, frame) {
+        Ok(read) => answers.counts(0, read.used, read.count, b'\n'),
+        Err(refusal) => answers.counts(refusal.number(), 0, 0, b'\n'),
+    }
+}
+
 // The answer to a frame.
 fn read<P: Print>(
     answers: &mut Answers<P>,
@@ -36,13 +51,14 @@ fn read<P: Print>(
     frame: &[u8],
     room: &mut [u64; 221184],
 ) -> io::Result<()> {
-    let r = reader::read(signature, big, position, frame, room);
-    if r.refusal == 13 {
-        let s = reader::size(signature, big, position, frame);
-        return answers.counts(s.refusal, s.used, s.count, b'\n');
+    match reader::read(signature, big, position, frame, room) {
+        Ok(read) => {
+            answers.counts(0, read.used, read.count, behind(0, read.count))?;
+            answers.events(room, read.count)
+        }
+        Err(Refusal::RoomTooSmall) => size(answers, signature, big, position, frame),
+        Err(refusal) => answers.counts(refusal.number(), 0, 0, b'\n'),
     }
-    answers.counts(r.refusal, r.used, r.count, behind(0, r.count))?;
-    answers.events(room, r.count)
 }
 
 pub fn answer<P: Print>(

@@ -5,6 +5,7 @@
 
 mod edit;
 mod frame;
+mod length;
 mod stop;
 mod write;
 

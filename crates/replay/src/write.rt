@@ -1,6 +1,7 @@
 // Questions of writing, behind their name: `TYPE l|b TEXTS ROOM NUMBER ..`. The texts are in hexadecimal, `-` for none; the room is the length
 // of the output, at most 66,000, every byte of which is A5 before; the numbers are those of the events, at most 221,183. The answer is a line
 // `REFUSAL LENGTH OUT`: all of the output afterwards, in hexadecimal, `-` for none.
+use crate::length;
 use crate::stop::Stop;
 use replay_text::print::Answers;
 use replay_text::words;
@@ -15,8 +16,8 @@ fn write<P: Print>(
     texts: &[u8],
     output: &mut [u8],
 ) -> io::Result<()> {
-    let written = writer::write(signature, big, events, texts, output);
-    answers.refusal_and_length(written.refusal, written.length)?;
+    let length = writer::write(signature, big, events, texts, output);
+    length::put(answers, length)?;
     answers.bytes(output)
 }
 

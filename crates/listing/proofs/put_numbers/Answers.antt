@@ -1,6 +1,6 @@
--- `listing::put_answer` meets its contract: four numbers, one behind another. Assumes nothing.
+-- `listing::put_numbers` meets its contract: four numbers, one behind another. Assumes nothing.
 use Rattle.listing.proofs.Texts.{puts_printed}
-use Rattle.listing.proofs.put_answer.Goals as goal
+use Rattle.listing.proofs.put_numbers.Goals as goal
 
 pub returns : goal.returns
 returns c =

@@ -231,21 +231,6 @@ aligns_small h = by_alignment (λ w. w ≤ 8) (omega arith) (omega arith) (omega
 pub key_as : (k k' : Letter) → k ≡ k' → IsKey k → IsKey k'
 key_as k k' e h = rw e at h
 
--- a letter that is neither a number's nor a text's is a bool's
-key_else : (key : Letter) → OneOf (0 ∷ 1 ∷ 2 ∷ 5 ∷ 6 ∷ 7 ∷ 8 ∷ 9 ∷ 10 ∷ 11 ∷ []) (tag_of the_type key) → key_basic key ≡ bool
-key_else End w = refl
-key_else Bad w = refl
-key_else Boolean w = refl
-key_else (Number c n) w = absurd (miss (0 ∷ 1 ∷ 2 ∷ 5 ∷ 6 ∷ 7 ∷ 8 ∷ 9 ∷ 10 ∷ 11 ∷ []) 3 tt w)
-key_else (Text c) w = absurd (miss (0 ∷ 1 ∷ 2 ∷ 5 ∷ 6 ∷ 7 ∷ 8 ∷ 9 ∷ 10 ∷ 11 ∷ []) 4 tt w)
-key_else Variant w = refl
-key_else Maybe w = refl
-key_else Array w = refl
-key_else OpenStructure w = refl
-key_else CloseStructure w = refl
-key_else OpenEntry w = refl
-key_else CloseEntry w = refl
-
 module _ (key : Letter) (texts : List ℕ) (big : Bool) (d : Depths) (ns : List ℕ) (i start top : ℕ) (l l' s : List ℕ) (r : Answer) where
   pub basic_number : (c w : ℕ) → key ≡ Number c w → IsKey key
       → ((n : NumberType) (texts : List ℕ) (d : Depths) (top : ℕ) (s : List ℕ) → c ≡ number_letter n → w ≡ number_width n → Done (emit_basic texts big (number n) d (drop i ns)) ns i start top l l' s s r)
@@ -256,8 +241,3 @@ module _ (key : Letter) (texts : List ℕ) (big : Bool) (d : Depths) (ns : List 
       → ((n : TextType) (big : Bool) (d : Depths) (top : ℕ) (s : List ℕ) → c ≡ text_letter n → Done (emit_basic texts big (text n) d (drop i ns)) ns i start top l l' s s r)
       → Done (emit_basic texts big (key_basic key) d (drop i ns)) ns i start top l l' s s r
   basic_text c e k f = rw e (key_text c (key_as key (Text c) e k) (λ b. Done (emit_basic texts big b d (drop i ns)) ns i start top l l' s s r) (λ n x. f n big d top s x))
-
-  pub basic_bool : OneOf (0 ∷ 1 ∷ 2 ∷ 5 ∷ 6 ∷ 7 ∷ 8 ∷ 9 ∷ 10 ∷ 11 ∷ []) (tag_of the_type key)
-      → ((texts : List ℕ) (big : Bool) (d : Depths) (top : ℕ) (s : List ℕ) → Done (emit_basic texts big bool d (drop i ns)) ns i start top l l' s s r)
-      → Done (emit_basic texts big (key_basic key) d (drop i ns)) ns i start top l l' s s r
-  basic_bool w f = rw (key_else key w) (f texts big d top s)

@@ -142,15 +142,6 @@ pub record NumbersLeft (c w : ℕ) (big : Bool) (ns : List ℕ) (i base : ℕ) (
   pub same : length l ≡ length l₀
 
 module _ (c w : ℕ) (key : IsKey (Number c w)) (big : Bool) (ns : List ℕ) (i base : ℕ) (l₀ : List ℕ) where
-  pub numbers_begin : i ≤ length ns → NumbersLeft c w big ns i base l₀ i 0 l₀
-  numbers_begin h = record {
-    even = by_alignment (λ w. 0 % w ≡ 0) refl refl refl refl (key_aligned c w key);
-    left = λ texts d top s. left_all true _ ns i base top l₀ s h;
-    within = h;
-    small = omega arith;
-    same = refl;
-  }
-
   module _ (e k : ℕ) (l : List ℕ) (v : NumbersLeft c w big ns i base l₀ e k l) (h : e + 3 ≤ length ns) (z : get_or ns e 0 ≡ 41 → ⊥) (start : ℕ) (l₂ : List ℕ) (r : Answer)
       (f : NumberSays c w big ns e start l l₂ r) where
     pub numbers_stop : (texts : List ℕ) (d : Depths) (top : ℕ) (s : List ℕ) → (r.refusal ≡ 0 → ⊥)

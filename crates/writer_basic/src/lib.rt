@@ -1,4 +1,5 @@
 // The small writers: what stands below the writers that call each other. Here: their answers, and what rides along.
+// Events and their texts, and the output and its ends, share no struct: every contract would have to name what stands in it at entry and exit.
 #![tactic(auto)]
 
 pub mod basic;

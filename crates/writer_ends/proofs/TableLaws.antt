@@ -14,7 +14,7 @@ use Rattle.meaning.specs.Offsets.{table, back_table}
 use Rattle.meaning.proofs.NumberLaws.{length_bytes}
 use Rattle.meaning.proofs.LayoutLaws.{length_table, length_back_table, back_table_cons, table_append, back_table_reverse}
 use Rattle.writer_store.specs.Stores.{puts}
-use Rattle.writer_ends.specs.Ends.{tail, end_at, Stored, EndAt, PutEnd, Swapped, Turned, TableRoom, TableFrom}
+use Rattle.writer_ends.specs.Ends.{tail, end_at, Stored, EndAt, Swapped, Turned, TableRoom, TableFrom}
 use Rattle.writer_store.proofs.Puts.{length_puts}
 use Rattle.writer_ends.proofs.EndLaws.{end_near, end_far, end_as, puts_stored}
 
@@ -34,27 +34,6 @@ pub record TurnLeft (top count : ℕ) (l₀ s₀ : List ℕ) (i : ℕ) (l s : Li
   pub middle : Standing top count l₀ s₀ → (k : ℕ) → i ≤ k → i + k < count → end_at l s (top + k) ≡ end_at l₀ s₀ (top + k)
   pub below : Standing top count l₀ s₀ → (k : ℕ) → k < top → end_at l s k ≡ end_at l₀ s₀ k
   pub front : Standing top count l₀ s₀ → (place : ℕ) → place + 2 * (top + count - 128) ≤ length l₀ → take place l ≡ take place l₀
-
-pub turn_begin : (top count : ℕ) (l s : List ℕ) → TurnLeft top count l s 0 l s
-turn_begin top count l s = record {
-  order = omega arith;
-  same = refl;
-  sames = refl;
-  left = λ f k h. absurd (omega arith);
-  right = λ f k h g. absurd (omega arith);
-  middle = λ f k h g. refl;
-  below = λ f k h. refl;
-  front = λ f place h. refl;
-}
-
--- each is stored where the other stood
-pub swapped : {i j x y : ℕ} {l l₁ l₂ s s₁ s₂ : List ℕ} → i < j → EndAt i l s x → EndAt j l s y → PutEnd i y l l₁ s s₁ → PutEnd j x l₁ l₂ s₁ s₂ → length l₁ ≡ length l → length s₁ ≡ length s → Swapped i j l l₂ s s₂
-swapped {i} {j} {x} {y} {l} {l₁} {l₂} {s} {s₁} {s₂} h a b p q n m = record {
-  first = λ t r. q.others (omega arith) i (λ e. omega arith) (omega arith) ∙ p.is (omega arith) r b.small ∙ b.is t r;
-  last = λ t r. q.is (omega arith) (omega arith) a.small ∙ a.is (omega arith) r;
-  others = λ t k u v w. q.others (omega arith) k v (omega arith) ∙ p.others (omega arith) k u w;
-  front = λ t place g. q.front (omega arith) place (omega arith) ∙ p.front (omega arith) place (omega arith);
-}
 
 -- both in the tail, where their bytes are exchanged
 module _ (i j at to : ℕ) (l s : List ℕ) (h : 128 ≤ i) (g : i < j) (t : tail j ≤ length l) (ha : at ≡ length l - tail i) (ht : to ≡ length l - tail j) where
@@ -77,59 +56,6 @@ module _ (i j at to : ℕ) (l s : List ℕ) (h : 128 ≤ i) (g : i < j) (t : tai
               ap (take place) (q.3 0) ∙ take-set-le place (set l₁ (at + 1) (get_or l₁ (to + 1) 0)) (to + 1) (get_or l₁ (at + 1) 0) (omega arith) ∙ take-set-le place l₁ (at + 1) (get_or l₁ (to + 1) 0) (omega arith)
               ∙ ap (take place) (p.3 0) ∙ take-set-le place (set l at (get_or l to 0)) to (get_or l at 0) (omega arith) ∙ take-set-le place l at (get_or l to 0) (omega arith);
         }
-
-module _ {top count : ℕ} {l₀ s₀ : List ℕ} {i : ℕ} {l s : List ℕ} (t : TurnLeft top count l₀ s₀ i l s) where
-  module _ (l₂ s₂ : List ℕ) (h : i + i + 1 < count) (w : Swapped (top + i) (top + (count - 1 - i)) l l₂ s s₂) (n : length l₂ ≡ length l) (m : length s₂ ≡ length s) where
-    module _ (f : Standing top count l₀ s₀) where
-      inside : (k : ℕ) → k < top + count → tail k ≤ length l
-      inside k g = omega (arith, f.inside, t.same)
-
-      ready : 128 ≤ length s
-      ready = omega (arith, f.ready, t.sames)
-
-      last_inside : tail (top + (count - 1 - i)) ≤ length l
-      last_inside = inside (top + (count - 1 - i)) (omega arith)
-
-      untouched : (k : ℕ) → k < top + count → (k ≡ top + i → ⊥) → (k ≡ top + (count - 1 - i) → ⊥) → end_at l₂ s₂ k ≡ end_at l s k
-      untouched k g u v = w.others last_inside k u v (inside k g)
-
-      left_on : (k : ℕ) → k < i + 1 → end_at l₂ s₂ (top + k) ≡ end_at l₀ s₀ (top + (count - 1 - k))
-      left_on k g = go (dec_lt k i)
-        where
-          go : Dec (k < i) → end_at l₂ s₂ (top + k) ≡ end_at l₀ s₀ (top + (count - 1 - k))
-          go (yes z) = untouched (top + k) (omega arith) (λ e. omega arith) (λ e. omega arith) ∙ t.left f k z
-          go (no z) = let e : k ≡ i = omega arith in rw e (w.first last_inside ready ∙ t.middle f (count - 1 - i) (omega arith) (omega arith))
-
-      right_on : (k : ℕ) → count ≤ i + 1 + k → k < count → end_at l₂ s₂ (top + k) ≡ end_at l₀ s₀ (top + (count - 1 - k))
-      right_on k g y = go (dec_lt (count - 1 - i) k)
-        where
-          go : Dec (count - 1 - i < k) → end_at l₂ s₂ (top + k) ≡ end_at l₀ s₀ (top + (count - 1 - k))
-          go (yes z) = untouched (top + k) (omega arith) (λ e. omega arith) (λ e. omega arith) ∙ t.right f k (omega arith) y
-          go (no z) = let e : k ≡ count - 1 - i = omega arith in let d : count - 1 - (count - 1 - i) ≡ i = omega arith in rw (e, d) (w.last last_inside ready ∙ t.middle f i (omega arith) (omega arith))
-
-    pub turn_next : TurnLeft top count l₀ s₀ (i + 1) l₂ s₂
-    turn_next = record {
-      order = omega arith;
-      same = n ∙ t.same;
-      sames = m ∙ t.sames;
-      left = λ f k g. left_on f k g;
-      right = λ f k g y. right_on f k g y;
-      middle = λ f k g y. untouched f (top + k) (omega arith) (λ e. omega arith) (λ e. omega arith) ∙ t.middle f k (omega arith) (omega arith);
-      below = λ f k g. untouched f k (omega arith) (λ e. omega arith) (λ e. omega arith) ∙ t.below f k g;
-      front = λ f place g. w.front (last_inside f) place (omega (arith, t.same)) ∙ t.front f place g;
-    }
-
-  pub turn_done : count ≤ i + i + 1 → Turned top count l₀ l s₀ s
-  turn_done h = record {
-    each = λ g w k z. one (record { inside = g; ready = w }) k z (dec_lt k i) (dec_lt (i + k) count);
-    below = λ g w. t.below (record { inside = g; ready = w });
-    front = λ g w. t.front (record { inside = g; ready = w });
-  }
-    where
-      one : Standing top count l₀ s₀ → (k : ℕ) → k < count → Dec (k < i) → Dec (i + k < count) → end_at l s (top + k) ≡ end_at l₀ s₀ (top + (count - 1 - k))
-      one f k z (yes a) b = t.left f k a
-      one f k z (no a) (no b) = t.right f k (omega arith) z
-      one f k z (no a) (yes b) = let e : count - 1 - k ≡ k = omega arith in rw e (t.middle f k (omega arith) b)
 
 -- ---- a table is stored from the back: j ends are still to be stored
 
@@ -211,9 +137,6 @@ module _ {w at top count : ℕ} {l₀ s : List ℕ} {j place : ℕ} {l : List �
           has = λ i g. absurd (omega arith);
         };
   }
-
-pub table_past : (T : List ℕ → List ℕ) (at w top count : ℕ) (l s : List ℕ) → length l < at → TableFrom T at w top count l l s s
-table_past T at w top count l s h = record { stored = λ es q. absurd (omega (arith, q.before)) }
 
 -- ---- in order, where all stand in their slice: j ends are stored
 

@@ -3,7 +3,7 @@
 // is the promise of an offset there, so that the frame's front never reaches them.
 #![tactic(auto)]
 
-ghost use Rattle.std.specs.Prelude.{◌≡◌, ◌+◌, ◌≤◌, ◌<◌, ◌^◌, ◌%◌, length};
+ghost use Rattle.std.specs.Prelude.{◌≡◌, ◌+◌, ◌≤◌, ◌<◌, ◌^◌, length};
 ghost use Rattle.meaning.specs.Offsets.{written_width, table as table_of, back_table};
 ghost use Rattle.writer_store.specs.Stores.{cap};
 ghost use Rattle.writer_ends.specs.Ends.{EndAt, PutEnd, Kept, Swapped, Turned, TableFrom};

@@ -37,7 +37,7 @@ fn clear(out: &mut [u8], at: usize, count: usize)
     }
 }
 
-// Bytes from a place to the next that an alignment divides.
+// Bytes from a place to the next that an alignment divides; by each alignment, since dividing by one that is not known takes much longer.
 fn gap(place: usize, alignment: usize) -> usize
     requires { Aligns alignment }
     ensures { (result ≡ padding place alignment) × (result < 8) }

@@ -49,7 +49,8 @@ shape_of-ends-in_err-r t c =
 
 pub returns-in_err-r : goal.array::items-returns-in_err-r
 returns-in_err-r t c =
-    stopped_on _ _ c.from_residual.ensures (left_stop _ _ _ _ _ _ _ _ _ _ _ _ _ c.loop-row.invariant (omega (arith, c.loop-row.invariant.within, c.loop-row-test.true)) c.if-events-row-eq-CONTAINER_END.false _ _ _ _ _ _ (item_as c.child_spot-here.ensures _ _ _ _ _ _ c.in_err-r.ensures) (number_not_0 _))
+    stopped_on _ _ c.from_residual.ensures
+    (left_stop _ _ _ _ _ _ _ _ _ _ _ _ _ c.loop-row.invariant (omega (arith, c.loop-row.invariant.within, c.loop-row-test.true)) c.if-events-row-eq-CONTAINER_END.false _ _ _ _ _ _ (item_as c.child_spot-here.ensures _ _ _ _ _ _ c.in_err-r.ensures) (number_not_0 _))
 
 pub overflow_add-row-in-loop-row : goal.array::items-overflow_add-row-in-loop-row
 overflow_add-row-in-loop-row t c =

@@ -25,7 +25,9 @@ pub(crate) fn variant(
     requires { Ready (variant_test d) d place part.now }
     ensures { Walks (variant_editor aim.big d) (depths_of d) place part.now number (new_of aim.new) (most d) out.old out.new (walked_as result) }
 {
-    let s = separator(part);
+    let Some(s) = separator(part) else {
+        return Ok(Walk::Counted(0));
+    };
     let deeper = d.inc_variant()?;
     let end = s - 1;
     let signature = &part[s..];

@@ -169,8 +169,8 @@ value-returns-in_default = Value.returns-in_default
 pub variant::variant-returns-in_err-deeper : goal.variant::variant-returns-in_err-deeper
 variant::variant-returns-in_err-deeper = VariantVariant.returns-in_err-deeper
 
-pub variant::variant-overflow_sub-end : goal.variant::variant-overflow_sub-end
-variant::variant-overflow_sub-end = VariantVariant.overflow_sub-end
+pub variant::variant-returns-in_default : goal.variant::variant-returns-in_default
+variant::variant-returns-in_default = VariantVariant.returns-in_default
 
 pub variant::variant-returns-then-not-tables_of : goal.variant::variant-returns-then-not-tables_of
 variant::variant-returns-then-not-tables_of = VariantVariant.returns-then-not-tables_of

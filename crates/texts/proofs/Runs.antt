@@ -1,19 +1,15 @@
 -- Runs of letters of one byte, and a text judged letter by letter. Assumes nothing.
 use mathlib.Core.Path.{◌≡◌, refl, sym, ◌∙◌}
 use mathlib.Core.List.{List, [], ◌∷◌}
-use mathlib.Core.Bool.{true, false}
 use Prim.Native.Nat.{ℕ, zero, suc, ◌+◌, ◌-◌, ◌≤◌, ◌<◌}
 use native.Mathlib.Omega.{arith}
 use lib.ListN.{length, drop, get_or}
 use Rattle.meaning.specs.Texts.{no_nul, Wanted, wanted, letter, following, after_byte, utf8_from, utf8, text_refusal}
 use Rattle.meaning.proofs.TextSteps.{nul_next, utf8_next, following_ascii, following_two, following_three, after_letter, after_inside, text_whole}
-use Rattle.texts.specs.Letters.{Plain, PlainIf, PlainByte, Two, Three}
+use Rattle.texts.specs.Letters.{Plain, PlainByte, Two, Three}
 use Rattle.std.specs.List.{All, AllWithin}
 use Rattle.std.proofs.Common.{get_or-drop, get_or-take, length-take, length-drop, take}
 use Rattle.std.proofs.lemmas.List.Elements.{All-get_or}
-
-pub false_is : false ≡ true → ⊥
-false_is t = let z : ◌≡◌ {A = ℕ} 0 1 = cc in omega arith
 
 pub plain_begin : (l : List ℕ) (i : ℕ) → i ≤ length l → Plain l i i
 plain_begin l i h = record { from = omega arith; to = h; nul = refl; letters = refl }
@@ -34,9 +30,6 @@ plain_on l i j k p q =
     let f = p.from in
     let g = q.from in
     record { from = omega arith; to = q.to; nul = p.nul ∙ q.nul; letters = p.letters ∙ q.letters }
-
-pub plain_false : (l : List ℕ) (i j : ℕ) → PlainIf false l i j
-plain_false l i j t = absurd (false_is t)
 
 -- bytes of what is left from i on are bytes of the whole
 pub bytes_rest : (l : List ℕ) (i n : ℕ) → AllWithin PlainByte (drop i l) 0 n → AllWithin PlainByte l i (i + n)
@@ -68,12 +61,6 @@ bytes_last l i w hw hi he a =
 pub bytes_ends : (l : List ℕ) (w : ℕ) → w ≤ length l → length l ≤ w + w → AllWithin PlainByte l 0 (0 + w) → AllWithin PlainByte l (length l - w) (length l - w + w) → Plain l 0 (length l)
 bytes_ends l w hw he p q =
     plain_on l 0 (0 + w) (length l) (bytes_run l 0 w (omega arith) p) (bytes_last l (0 + w) w hw (omega arith) (omega arith) q)
-
--- two letters of three bytes
-pub plain_six : (l : List ℕ) (i j : ℕ) → Plain l i (j + 3) → Plain l (j + 3) (j + 3 + 3) → Plain l i (j + 6)
-plain_six l i j p q =
-    let e : j + 3 + 3 ≡ j + 6 = omega arith in
-    rw e at (plain_on l i (j + 3) (j + 3 + 3) p q)
 
 -- between two letters only the count counts
 pub letter_ends : (s : Wanted) (l : List ℕ) → s.count ≡ 0 → utf8_from s l ≡ utf8_from letter l

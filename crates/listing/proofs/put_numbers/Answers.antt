@@ -4,4 +4,4 @@ use Rattle.listing.proofs.put_numbers.Goals as goal
 
 pub returns : goal.returns
 returns c =
-    puts_printed _ _ c.requires c.put_decimal-second.ensures c.put_decimal-third.ensures c.put_decimal-fourth.ensures c.put_decimal.ensures
+    puts_printed _ _ c.requires c.put_decimal-second.ensures (rw c.from.ensures at c.put_decimal-third.ensures) c.put_decimal-fourth.ensures c.put_decimal.ensures

@@ -185,9 +185,7 @@ fn fill_block(text: &[u8], at: usize, stop: usize, shapes: &mut [u16])
     requires { (length text.now ≤ longest_type) × (length text.now ≤ length shapes.old) × (at ≤ stop) × (stop ≤ length text.now) × ShapedFrom stop text.now shapes.old }
     ensures { Filled at text.now shapes.old shapes.new }
 {
-    let mut i = stop;
-    while at < i {
-        i -= 1;
+    for i in (at..stop).rev() {
         put_at(text, i, shapes);
     }
 }

@@ -4,6 +4,9 @@
 // `fill_from` goes down the text and on its way back finds each type's shape from the shapes of its children, which stand behind its
 // letter. Each place is found once, and looked at once more by the structure whose field it is; so the whole costs the length of the
 // text, and a frame of the stack for each sixteen characters.
+//
+// A shape is here the number that the table holds, 0 where no type begins: it is read from the table and put there, and an Option around it would only be
+// made and opened again at both ends. So is a key's alignment, 0 for what is no key.
 #![tactic(auto)]
 
 ghost use Rattle.std.specs.Prelude.{◌≡◌, ℕ, ◌+◌, ◌-◌, ◌*◌, ◌%◌, ◌/◌, ◌≤◌, ◌<◌, max, length, set};
@@ -13,7 +16,7 @@ ghost use Rattle.signature.specs.Shapes.{packed, shape_at, CharacterAt, ShapedFr
 ghost use Rattle.signature.specs.Steps.{key_alignment};
 
 use meaning::limits::LONGEST_TYPE;
-use signature::shapes::{alignment_of, both, fixed_of, next_of};
+use signature::shapes::{alignment_of, fixed_of, next_of};
 use signature::{Letter, letter_at, letter_of};
 
 // Is a text one complete type?
@@ -26,39 +29,28 @@ pub fn judge(text: &[u8]) -> bool
 
 // Is a text one complete type? Its shapes are in the table then. A table shorter than the text is refused too. Most variants hold a
 // type of one letter, which has a way of its own.
+#[tactic(auto, using(signature::proofs::ShapeLaws::answered_long, signature::proofs::ShapeLaws::answered_small))]
 pub fn shapes_of(text: &[u8], shapes: &mut [u16]) -> bool
     ensures { Answered text.now shapes.old shapes.new result }
 {
-    if LONGEST_TYPE < text.len() {
-        return false;
-    }
-    if shapes.len() < text.len() {
+    if LONGEST_TYPE < text.len() || shapes.len() < text.len() {
         return false;
     }
     if text.len() == 1 {
         let lone = lone_shape(text);
         shapes[0] = lone;
-        if lone == 0 {
-            return false;
-        }
-        return true;
+        return lone != 0;
     }
     fill(text, shapes);
     let whole = seen(text, shapes, 0);
-    if whole == 0 {
-        return false;
-    }
-    next_of(whole) == text.len()
+    whole != 0 && next_of(whole) == text.len()
 }
 
 fn pack(next: usize, alignment: usize, fixed: bool) -> u16
     requires { (next ≤ longest_type) × (alignment ≤ 8) }
     ensures { result ≡ packed next alignment fixed }
 {
-    if fixed {
-        return (32 * next + (alignment + 16)) as u16;
-    }
-    (32 * next + alignment) as u16
+    (32 * next + alignment + if fixed { 16 } else { 0 }) as u16
 }
 
 // The same place and alignment, and not fixed.
@@ -68,37 +60,19 @@ fn loosened(s: u16) -> u16
     s - s % 32 / 16 * 16
 }
 
-fn larger(a: usize, b: usize) -> usize
-    ensures { result ≡ max a b }
-{
-    if a < b {
-        return b;
-    }
-    a
-}
-
 // The shape at a place that the table has already.
 fn seen(text: &[u8], shapes: &[u16], at: usize) -> u16
     requires { (length text.now ≤ longest_type) × (length text.now ≤ length shapes.now) }
     ensures { (from : ℕ) → from ≤ at → ShapedFrom from text.now shapes.now → result ≡ shape_at text.now at }
 {
-    if text.len() <= at {
-        return 0;
-    }
-    shapes[at]
+    if at < text.len() { shapes[at] } else { 0 }
 }
 
 // Whether a character stands at a place.
 fn stands(text: &[u8], at: usize, code: u8) -> bool
     ensures { CharacterAt text.now at code result }
 {
-    if text.len() <= at {
-        return false;
-    }
-    if text[at] == code {
-        return true;
-    }
-    false
+    at < text.len() && text[at] == code
 }
 
 // The alignment of a key, 0 for what is none.
@@ -106,9 +80,8 @@ fn key_alignment(key: Letter) -> usize
     ensures { result ≡ key_alignment key }
 {
     match key {
-        Letter::Boolean => 1,
-        Letter::Number { code: _, width } => width,
-        Letter::Text { code: _ } => 1,
+        Letter::Boolean | Letter::Text { .. } => 1,
+        Letter::Number { width, .. } => width,
         _ => 0,
     }
 }
@@ -128,11 +101,12 @@ fn dictionary_shape(text: &[u8], at: usize, shapes: &[u16]) -> u16
         return 0;
     }
     let next = next_of(value);
-    let alignment = larger(first, alignment_of(value));
+    let alignment = first.max(alignment_of(value));
     if stands(text, next, b'}') {
-        return pack(next + 1, alignment, false);
+        pack(next + 1, alignment, false)
+    } else {
+        0
     }
-    0
 }
 
 // An array takes its element's alignment and is never fixed.
@@ -160,8 +134,8 @@ fn structure_shape(text: &[u8], at: usize, shapes: &[u16]) -> u16
         if field == 0 {
             return 0;
         }
-        alignment = larger(alignment, alignment_of(field));
-        fixed = both(fixed, fixed_of(field));
+        alignment = alignment.max(alignment_of(field));
+        fixed &= fixed_of(field);
         place = next_of(field);
         if stands(text, place, b')') {
             return pack(place + 1, alignment, fixed);
@@ -211,9 +185,7 @@ fn fill_block(text: &[u8], at: usize, stop: usize, shapes: &mut [u16])
     requires { (length text.now ≤ longest_type) × (length text.now ≤ length shapes.old) × (at ≤ stop) × (stop ≤ length text.now) × ShapedFrom stop text.now shapes.old }
     ensures { Filled at text.now shapes.old shapes.new }
 {
-    let mut i = stop;
-    while at < i {
-        i = i - 1;
+    for i in (at..stop).rev() {
         put_at(text, i, shapes);
     }
 }
@@ -223,10 +195,7 @@ fn block_end(text: &[u8], at: usize) -> usize
     requires { at < length text.now }
     ensures { (at < result) × (result ≤ length text.now) }
 {
-    if text.len() - at <= 16 {
-        return text.len();
-    }
-    at + 16
+    text.len().min(at + 16)
 }
 
 // Puts the shapes from a place on into the table: those behind it first, since its children are among them. It goes down a block of
@@ -250,9 +219,9 @@ fn fill(text: &[u8], shapes: &mut [u16])
 {
     if text.len() <= 16 {
         fill_block(text, 0, text.len(), shapes);
-        return;
+    } else {
+        fill_from(text, 0, shapes);
     }
-    fill_from(text, 0, shapes);
 }
 
 // The shape of a text that is one letter.

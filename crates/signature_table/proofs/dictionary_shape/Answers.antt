@@ -47,21 +47,21 @@ pack-requires c =
       fits c.args.text.now c.next_of-next.result CloseEntry 125 c.requires.0.few
           (closes_entry _ _ (c.stands.ensures.here c.if-stands.true)) refl,
       omega
-          (arith, c.larger-alignment.ensures, c.alignment_of.ensures, k.alignment, aligns_most k.stands.aligns),
+          (arith, c.max-alignment.ensures, c.alignment_of.ensures, k.alignment, aligns_most k.stands.aligns),
     )
 
 pub returns-then-stands : goal.returns-then-stands
 returns-then-stands c =
     let k = (known c.args.text.now (c.args.at + 3) c.seen-value.result
     (c.seen-value.ensures (c.args.at + 1) (omega arith) c.requires.0.table) c.if-value-eq0.false) in
-    c.pack.ensures ∙ rw (c.next_of-next.ensures, c.larger-alignment.ensures, c.alignment_of.ensures)
+    c.pack.ensures ∙ rw (c.next_of-next.ensures, c.max-alignment.ensures, c.alignment_of.ensures)
     (rw (c.key_alignment-first.ensures ∙ ap key_alignment c.letter_at-key.ensures)
     (shape_dictionary c.args.text.now c.args.at c.requires.0.few c.requires.1 c.requires.2 c.seen-value.result k
     (λ z. c.if-first-eq0.false ((c.key_alignment-first.ensures ∙ ap key_alignment c.letter_at-key.ensures) ∙ z))
     (sym (ap (λ (x : ℕ). letter_at c.args.text.now x) c.next_of-next.ensures) ∙ closes_entry _ _ (c.stands.ensures.here c.if-stands.true))))
 
-pub returns : goal.returns
-returns c =
+pub returns-else-stands : goal.returns-else-stands
+returns-else-stands c =
     let k = (known c.args.text.now (c.args.at + 3) c.seen-value.result
     (c.seen-value.ensures (c.args.at + 1) (omega arith) c.requires.0.table) c.if-value-eq0.false) in
     no_dictionary c.args.text.now c.args.at c.requires.0.few c.requires.1 c.requires.2

@@ -6,9 +6,6 @@ use Rattle.signature_table.proofs.fill_block.Goals as goal
 pub loop-i-init : goal.loop-i-init
 loop-i-init c = (c.requires.2, c.requires.3, filled_same _ _ _ c.requires.4)
 
-pub overflow_sub-i : goal.overflow_sub-i
-overflow_sub-i c = omega arith
-
 pub put_at-requires : goal.put_at-requires
 put_at-requires c =
     record {
@@ -18,15 +15,9 @@ put_at-requires c =
       table = λ k p q. c.loop-i.invariant.2.each k (omega arith) q;
     }
 
-pub loop-i-smaller : goal.loop-i-smaller
-loop-i-smaller c = omega arith
-
 pub loop-i-preserved : goal.loop-i-preserved
 loop-i-preserved c =
     (omega arith, omega (arith, c.loop-i.invariant.1), filled_step _ _ c.loop-i.shapes _ _ (omega arith) c.loop-i.invariant.1 c.requires.1 c.loop-i.invariant.2 c.put_at.ensures)
-
-pub shape_of-shapes : goal.shape_of-shapes
-shape_of-shapes c = c.loop-i.invariant.2.kept
 
 pub returns : goal.returns
 returns c = filled_at _ _ _ _ _ (omega (arith, c.loop-i.invariant.0)) c.loop-i.invariant.2

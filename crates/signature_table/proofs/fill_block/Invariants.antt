@@ -6,6 +6,3 @@ use Rattle.signature_table.proofs.fill_block.Given as goal
 
 abbrev pub invariant-loop-i : goal.invariant-loop-i
 invariant-loop-i l = (l.at ≤ l.i) × (l.i ≤ length l.text) × Filled l.i l.text l.initial.shapes l.shapes
-
-abbrev pub decreases-loop-i : goal.decreases-loop-i
-decreases-loop-i l = l.i

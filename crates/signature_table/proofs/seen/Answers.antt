@@ -2,6 +2,5 @@
 use Rattle.signature.proofs.ShapeLaws.{shape_end}
 use Rattle.signature_table.proofs.seen.Goals as goal
 
-pub returns-then-text-at : goal.returns-then-text-at
-returns-then-text-at c =
-    λ from h w. shape_end c.args.text.now c.args.at c.requires.0 c.if-text-at.true
+pub returns-else-at-text : goal.returns-else-at-text
+returns-else-at-text c = λ from h w. shape_end c.args.text.now c.args.at c.requires.0 c.if-at-text.false

@@ -1,4 +1,6 @@
 -- `structure_shape` meets its contract. The loop keeps `Fielded`, that what is left answers the whole; the measure is what is left of the text. Assumes nothing.
+use Rattle.std.specs.Ordering.{ord_max}
+use Rattle.std.proofs.Common.{◌≡◌, nat_cmp, rules}
 use mathlib.Core.Path.{refl, ap, ◌∙◌}
 use Prim.Native.Nat.{ℕ, ◌+◌, max}
 use native.Mathlib.Omega.{arith}
@@ -7,6 +9,10 @@ use mathlib.Core.Bool.{Bool, ◌&&◌}
 use Rattle.signature.proofs.Letters.{not_cut, closes_structure}
 use Rattle.signature.proofs.ShapeLaws.{fielded_begin, fielded_missing, fielded_next, fielded_last, fielded_most, fielded_onward, known, fits}
 use Rattle.signature_table.proofs.structure_shape.Goals as goal
+
+-- what `max` gives is the larger
+most : (m a b : ℕ) → m ≡ ord_max nat_cmp a b → m ≡ max a b
+most m a b e = search rules
 
 pub overflow_add-place : goal.overflow_add-place
 overflow_add-place c =
@@ -42,9 +48,9 @@ pack-requires c = (
       c.loop-at.place c.loop-at.alignment c.loop-at.fixed c.requires.0.few c.loop-at.invariant c.seen-field.result
       (known c.args.text.now c.loop-at.place c.seen-field.result
       (c.seen-field.ensures (c.args.at + 1) (omega (arith, c.loop-at.invariant.fielding.onward)) c.requires.0.table) c.if-field-eq0.false)
-      c.next_of-place.result c.larger-alignment.result c.both-fixed.result c.next_of-place.ensures
-      (c.larger-alignment.ensures ∙ ap (λ (x : ℕ). max c.loop-at.alignment x) c.alignment_of.ensures)
-      (c.both-fixed.ensures ∙ ap (λ (x : Bool). c.loop-at.fixed && x) c.fixed_of.ensures),
+      c.next_of-place.result c.max-alignment.result _ c.next_of-place.ensures
+      (most _ _ _ c.max-alignment.ensures ∙ ap (λ (x : ℕ). max c.loop-at.alignment x) c.alignment_of.ensures)
+      (ap (λ (x : Bool). c.loop-at.fixed && x) c.fixed_of-fixed.ensures),
 )
 
 pub returns-then-stands : goal.returns-then-stands
@@ -53,9 +59,9 @@ returns-then-stands c =
     c.requires.0.few c.loop-at.invariant c.seen-field.result
     (known c.args.text.now c.loop-at.place c.seen-field.result
     (c.seen-field.ensures (c.args.at + 1) (omega (arith, c.loop-at.invariant.fielding.onward)) c.requires.0.table) c.if-field-eq0.false)
-    c.next_of-place.result c.larger-alignment.result c.both-fixed.result c.next_of-place.ensures
-    (c.larger-alignment.ensures ∙ ap (λ (x : ℕ). max c.loop-at.alignment x) c.alignment_of.ensures)
-    (c.both-fixed.ensures ∙ ap (λ (x : Bool). c.loop-at.fixed && x) c.fixed_of.ensures)
+    c.next_of-place.result c.max-alignment.result _ c.next_of-place.ensures
+    (most _ _ _ c.max-alignment.ensures ∙ ap (λ (x : ℕ). max c.loop-at.alignment x) c.alignment_of.ensures)
+    (ap (λ (x : Bool). c.loop-at.fixed && x) c.fixed_of-fixed.ensures)
     (closes_structure _ _ (c.stands.ensures.here c.if-stands.true))
 
 pub loop-at-smaller : goal.loop-at-smaller
@@ -66,9 +72,9 @@ loop-at-smaller c =
           c.requires.0.few c.loop-at.invariant c.seen-field.result
           (known c.args.text.now c.loop-at.place c.seen-field.result
           (c.seen-field.ensures (c.args.at + 1) (omega (arith, c.loop-at.invariant.fielding.onward)) c.requires.0.table) c.if-field-eq0.false)
-          c.next_of-place.result c.larger-alignment.result c.both-fixed.result c.next_of-place.ensures
-          (c.larger-alignment.ensures ∙ ap (λ (x : ℕ). max c.loop-at.alignment x) c.alignment_of.ensures)
-          (c.both-fixed.ensures ∙ ap (λ (x : Bool). c.loop-at.fixed && x) c.fixed_of.ensures),
+          c.next_of-place.result c.max-alignment.result _ c.next_of-place.ensures
+          (most _ _ _ c.max-alignment.ensures ∙ ap (λ (x : ℕ). max c.loop-at.alignment x) c.alignment_of.ensures)
+          (ap (λ (x : Bool). c.loop-at.fixed && x) c.fixed_of-fixed.ensures),
     )
 
 pub loop-at-preserved : goal.loop-at-preserved
@@ -76,7 +82,7 @@ loop-at-preserved c =
     fielded_next c.args.text.now c.args.at c.loop-at.place c.loop-at.alignment c.loop-at.fixed c.requires.0.few
     c.loop-at.invariant c.seen-field.result (known c.args.text.now c.loop-at.place c.seen-field.result
     (c.seen-field.ensures (c.args.at + 1) (omega (arith, c.loop-at.invariant.fielding.onward)) c.requires.0.table) c.if-field-eq0.false)
-    c.next_of-place.result c.larger-alignment.result c.both-fixed.result c.next_of-place.ensures
-    (c.larger-alignment.ensures ∙ ap (λ (x : ℕ). max c.loop-at.alignment x) c.alignment_of.ensures)
-    (c.both-fixed.ensures ∙ ap (λ (x : Bool). c.loop-at.fixed && x) c.fixed_of.ensures)
+    c.next_of-place.result c.max-alignment.result _ c.next_of-place.ensures
+    (most _ _ _ c.max-alignment.ensures ∙ ap (λ (x : ℕ). max c.loop-at.alignment x) c.alignment_of.ensures)
+    (ap (λ (x : Bool). c.loop-at.fixed && x) c.fixed_of-fixed.ensures)
     (not_cut _ _ CloseStructure 41 refl (c.stands.ensures.not c.if-stands.false))

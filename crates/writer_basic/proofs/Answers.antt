@@ -5,7 +5,7 @@ use mathlib.Core.List.{List, [], ◌∷◌, ◌++◌}
 use mathlib.Core.Bool.{Bool, true, false}
 use native.Mathlib.Omega.{arith}
 use lib.Dec.{ltb, eqb}
-use lib.ListN.{length, take, drop, get_or, length-append}
+use lib.ListN.{length, drop, get_or, length-append}
 use borrow.Author.Tests.{eq-eqb, ne_eqb, le-leb, lt-leb}
 use Rattle.meaning.specs.Depths.{Depths}
 use Rattle.meaning.specs.Numbers.{bytes, ordered}
@@ -21,10 +21,7 @@ use Rattle.meaning_writing.proofs.WritingSteps.{at_end, at_event, on_text_at, on
 use Rattle.meaning.proofs.NumberLaws.{length_bytes}
 use Rattle.signature.specs.Places.{basic_kind}
 use Rattle.signature.specs.declared.Letter.{Letter}
-use Rattle.signature.specs.declared.Letter.TheVariants.{End, Bad, Boolean, Number, Text, Variant, Maybe, Array, OpenStructure, CloseStructure, OpenEntry, CloseEntry}
-use Rattle.signature.specs.contracts.Letter.{the_type}
-use types.Run.{OneOf, miss}
-use denote.Enum.Declared.{tag_of}
+use Rattle.signature.specs.declared.Letter.TheVariants.{Number, Text}
 use Rattle.writer_store.specs.Stores.{cap, sum, puts}
 use Rattle.writer_basic.specs.Wrote.{Carries, Absent, too_short, other_kind, Taken, Untaken, unseen, unsound, key_basic, IsKey, Made, Says, Done}
 use Rattle.std.specs.Prelude.{Result, Ok, Err, IsErr, IsErrAnd}

@@ -33,7 +33,7 @@ use Rattle.writer_basic.specs.Wrote.{Answer}
 use Rattle.writer_ends.proofs.EndLaws.{kept_not}
 use Rattle.writer_basic.proofs.Answers.{made_of, Bounds, bounds, length_ordered, key_number, key_text, key_aligned, aligns_small, basic_number, basic_text}
 use Rattle.writer_basic.proofs.Openings.{maybe_on}
-use Rattle.writer_basic.proofs.Rows.{run, many_at, Left, left_all, left_stop, left_next}
+use Rattle.writer_basic.proofs.Rows.{run, many_at, Left, left_stop, left_next}
 
 -- ---- basic pieces
 

@@ -9,8 +9,7 @@ use native.Mathlib.Omega.{arith}
 use native.Mathlib.Nat.{mul-le-mul_left}
 use native.Mathlib.Decide.{dec_lt}
 use lib.Dec.{leb}
-use lib.ListN.{length, take, drop, set, length-append, length-replicate, length-drop}
-use lib.Seq.{length-take-le}
+use lib.ListN.{length, drop, set, length-append, length-replicate}
 use borrow.Author.Tests.{leb-true, leb-false}
 use Rattle.meaning.specs.Choice.{pick}
 use Rattle.meaning.specs.Padding.{padding, zeros}

@@ -3,7 +3,6 @@ use Rattle.container_depths.proofs.Levels.{level_falls}
 use Rattle.writer_basic.proofs.Openings.{few_variants, raised_in}
 use Rattle.meaning.proofs.RefusalNumbers.{number_not_0}
 use Rattle.writer_basic.proofs.Answers.{refused_on}
-use Rattle.writer_basic.proofs.Rows.{row_bounds}
 use Rattle.writer_basic.proofs.Rounds.{array_stop, ended_stop}
 use mathlib.Core.Path.{refl}
 use Rattle.writer_cycle.proofs.EntryRows.{item_shorter}
@@ -14,10 +13,6 @@ use native.Mathlib.Omega.{arith}
 use Rattle.meaning.specs.Depths as Depth
 use Rattle.writer_cycle.proofs.+writing.Goals as goal
 
-pub plain_at-requires : goal.array::array-plain_at-requires
-plain_at-requires t c =
-    c.requires.3.within
-
 pub returns-then-not-plain_at : goal.array::array-returns-then-not-plain_at
 returns-then-not-plain_at t c =
     value_array_not _ _ _ _ (item_at _ _ _ c.requires.0 c.requires.1 _ c.item_of-item.ensures) _ _ _ (few_variants c.requires.2) _ _ _ _ _ _ _ c.item_kind.ensures (c.plain_at.ensures.not (not-true _ c.if-not-plain_at.true-raw))
@@ -27,10 +22,6 @@ returns-in_err-inc_array t c =
     refused_on _ _ c.from_residual.ensures
     (value_array_deep _ _ _ _ (item_at _ _ _ c.requires.0 c.requires.1 _ c.item_of-item.ensures) _ _ _ (few_variants c.requires.2) _ _ _ _ _ _ _ c.item_kind.ensures
     (c.plain_at.ensures.here (not-false _ c.if-not-plain_at.false-raw)) _ c.in_err-inc_array.ensures (number_not_0 _))
-
-pub overflow_add-inner : goal.array::array-overflow_add-inner
-overflow_add-inner t c =
-    omega (arith, (c.plain_at.ensures.here (not-false _ c.if-not-plain_at.false-raw)).whole, c)
 
 pub elements-requires : goal.array::array-elements-requires
 elements-requires t c = (
@@ -50,20 +41,12 @@ returns-in_err-row t c =
     (c.plain_at.ensures.here (not-false _ c.if-not-plain_at.false-raw)) _ c.in_ok-inc_array.ensures _ _ _ _ refl refl (item_shorter _ _ _ _ _ _)
     (array_stop _ _ _ _ _ _ _ _ _ _ _ _ _ (ended_stop _ _ _ _ _ _ _ _ _ _ _ _ _ c.in_err-row.ensures (number_not_0 _)) (number_not_0 _)))
 
-pub ended-requires : goal.array::array-ended-requires
-ended-requires t c =
-    (row_bounds refl c.in_ok-row.ensures).within
-
 pub returns-in_err-closed : goal.array::array-returns-in_err-closed
 returns-in_err-closed t c =
     refused_on _ _ c.from_residual-in_err-closed.ensures
     (value_array _ _ _ _ (item_at _ _ _ c.requires.0 c.requires.1 _ c.item_of-item.ensures) _ _ _ (few_variants c.requires.2) _ _ _ _ _ _ _ c.item_kind.ensures
     (c.plain_at.ensures.here (not-false _ c.if-not-plain_at.false-raw)) _ c.in_ok-inc_array.ensures _ _ _ _ refl refl (item_shorter _ _ _ _ _ _)
     (array_stop _ _ _ _ _ _ _ _ _ _ _ _ _ (c.in_err-closed.ensures _ _ _ _ _ _ _ _ _ _ _ c.in_ok-row.ensures) (number_not_0 _)))
-
-pub array_end-requires : goal.array::array-array_end-requires
-array_end-requires t c =
-    let q = row_bounds refl (c.in_ok-closed.ensures _ _ _ _ _ _ _ _ _ _ _ c.in_ok-row.ensures) in (c.requires.3.near, c.requires.3.few, q.small, q.few)
 
 pub returns : goal.array::array-returns
 returns t c =

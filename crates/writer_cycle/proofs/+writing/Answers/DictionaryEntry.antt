@@ -14,17 +14,9 @@ use mathlib.Core.Path.{◌∙◌, refl, sym}
 use native.Mathlib.Omega.{arith}
 use Rattle.writer_cycle.proofs.+writing.Goals as goal
 
-pub basic_value-requires : goal.dictionary::entry-basic_value-requires
-basic_value-requires t c =
-    (c.requires.3.within, c.requires.3.near, c.requires.0.key c.requires.1)
-
 pub returns-in_err-key : goal.dictionary::entry-returns-in_err-key
 returns-in_err-key t c =
     refused_on _ _ c.from_residual.ensures (item_key_stop _ _ _ _ _ _ _ _ _ _ _ _ _ _ _ c.requires.1 (c.in_err-key.ensures _ _ _) (number_not_0 _))
-
-pub keep-count-requires : goal.dictionary::entry-keep-count-requires
-keep-count-requires t c =
-    omega (arith, c.requires.3.few)
 
 pub overflow_add-start : goal.dictionary::entry-overflow_add-start
 overflow_add-start t c =
@@ -57,18 +49,6 @@ overflow_add-first-2 t c =
 pub add-requires : goal.dictionary::entry-add-requires
 add-requires t c =
     (omega (arith, (bounds refl (c.in_ok-key.ensures none_open 0 [])).small, c.pad-padding.ensures.count.1), let q = bounds refl c.in_ok-held.ensures in omega (arith, q.small))
-
-pub structure_end-requires : goal.dictionary::entry-structure_end-requires
-structure_end-requires t c =
-    (c.requires.3.near, c.requires.3.few, c.requires.0.aligned, omega (arith, c.add.ensures), kept_few _ _ _ _ _ _ _ _ c.keep-count.ensures)
-
-pub shape_of-out : goal.dictionary::entry-shape_of-out
-shape_of-out t c =
-    omega (arith, c.structure_end.auto.out, c.value.auto.out, c.value.auto.ends, c.pad-padding.auto.out, c.keep-count.auto.out, c.keep-count.auto.ends, c.basic_value.auto.out)
-
-pub shape_of-ends : goal.dictionary::entry-shape_of-ends
-shape_of-ends t c =
-    omega (arith, c.value.auto.out, c.value.auto.ends, c.keep-count.auto.out, c.keep-count.auto.ends)
 
 pub returns : goal.dictionary::entry-returns
 returns t c =

@@ -5,7 +5,7 @@ use Rattle.signature.proofs.TreeLaws.{described_as, described_fixed, maybe_descr
 use Rattle.signature.specs.declared.Letter.TheVariants.{Maybe}
 use Rattle.signature.specs.declared.shapes.Shape.{Shape}
 use Rattle.meaning.proofs.RefusalNumbers.{number_not_0}
-use Rattle.writer_basic.proofs.Answers.{bounds, refused_on}
+use Rattle.writer_basic.proofs.Answers.{refused_on}
 use Rattle.writer_basic.proofs.Rounds.{present_stop}
 use Rattle.writer_basic.proofs.Openings.{raised_in}
 use Rattle.writer_cycle.proofs.Values.{value_maybe_deep, value_neither, value_nothing, value_present}
@@ -15,17 +15,9 @@ use native.Mathlib.Omega.{arith}
 use Rattle.meaning.specs.Depths as Depth
 use Rattle.writer_cycle.proofs.+writing.Goals as goal
 
-pub plain_at-requires : goal.maybe::maybe-plain_at-requires
-plain_at-requires t c =
-    c.requires.3.within
-
 pub returns-then-plain_at : goal.maybe::maybe-returns-then-plain_at
 returns-then-plain_at t c =
     (value_nothing _ _ c.requires.0.typed c.requires.1 _ _ _ _ _ _ _ _ _ (c.plain_at.ensures.here c.if-plain_at.true))
-
-pub plain_at-requires-2 : goal.maybe::maybe-plain_at-requires-2
-plain_at-requires-2 t c =
-    c.requires.3.within
 
 pub returns-then-not-plain_at : goal.maybe::maybe-returns-then-not-plain_at
 returns-then-not-plain_at t c =
@@ -38,10 +30,6 @@ returns-in_err-inc_maybe t c =
 pub overflow_add-shape : goal.maybe::maybe-overflow_add-shape
 overflow_add-shape t c =
     omega (arith, (cut c.args.text.now c.args.shape.at Maybe 109 c.requires.1 refl).within, c.requires.0.typed.short)
-
-pub overflow_add-inner : goal.maybe::maybe-overflow_add-inner
-overflow_add-inner t c =
-    omega (arith, (c.plain_at-2.ensures.here (not-false _ c.if-not-plain_at.false-raw)).whole, c)
 
 pub value-requires : goal.maybe::maybe-value-requires
 value-requires t c = (
@@ -61,10 +49,6 @@ returns-in_err-child t c =
     _ _ refl refl (ap (λ (s : Shape). s.at) c.shape_in-held.ensures)
     (described_fixed (described_as c.shape_in-held.ensures (maybe_described _ _ c.requires.0.typed c.requires.1 _ c.requires.0.table)))
     (present_stop _ _ _ _ _ c.in_err-child.ensures (number_not_0 _)))
-
-pub present-requires : goal.maybe::maybe-present-requires
-present-requires t c =
-    (c.requires.3.near, (bounds refl c.in_ok-child.ensures).small)
 
 pub returns : goal.maybe::maybe-returns
 returns t c =

@@ -3,49 +3,24 @@ use Rattle.signature.proofs.Letters.{apart_from}
 use Rattle.signature.proofs.TreeLaws.{described_aligned, described_alignment, last_field_of, next_field_of}
 use Rattle.signature.specs.declared.Letter.TheVariants.{CloseStructure}
 use Rattle.meaning.proofs.RefusalNumbers.{number_not_0}
-use Rattle.writer_basic.proofs.Answers.{bounds}
 use Rattle.writer_basic.proofs.Rows.{stopped_on}
 use Rattle.writer_basic.proofs.Openings.{few_variants}
-use Rattle.writer_cycle.proofs.FieldRows.{field_here, fields_begin, fields_last, fields_next, fields_stop}
+use Rattle.writer_cycle.proofs.FieldRows.{field_here, fields_last, fields_next, fields_stop}
 use Rattle.writer_cycle.proofs.Spots.{placed_as, value_as}
 use mathlib.Core.Path.{refl}
 use native.Mathlib.Omega.{arith}
 use borrow.Enum.Refused.{opened}
 use Rattle.writer_cycle.proofs.+writing.Goals as goal
 
-pub loop-one-init : goal.structure::fields-loop-one-init
-loop-one-init t c =
-    fields_begin _ _ _ (few_variants c.requires.2) _ _ _ _ _ _ _ _ _ c.requires.0 c.requires.3.within
-
-pub overflow_add-spot : goal.structure::fields-overflow_add-spot
-overflow_add-spot t c =
-    omega (arith, c.loop-one.invariant.small, c.requires.3.near)
-
 pub pad-padding-requires : goal.structure::fields-pad-padding-requires
 pad-padding-requires t c =
     (omega (arith, c.loop-one.invariant.small, c.requires.3.near), described_aligned (field_here _ _ _ c.loop-one.invariant.rowed c.requires.1 _ c.shape_in-field.ensures _ c.letter_at-behind.ensures).shape)
-
-pub overflow_add-row : goal.structure::fields-overflow_add-row
-overflow_add-row t c =
-    omega (arith, c.loop-one.invariant.small, c.pad-padding.ensures.count.1)
-
-pub child_spot-here-requires : goal.structure::fields-child_spot-here-requires
-child_spot-here-requires t c =
-    (c.requires.3.near, c.requires.3.few, omega (arith, c.loop-one.invariant.small, c.pad-padding.ensures.count.1), c.loop-one.invariant.few)
 
 pub value-requires : goal.structure::fields-value-requires
 value-requires t c = (
   omega (arith, c.decreases),
   ((field_here _ _ _ c.loop-one.invariant.rowed c.requires.1 _ c.shape_in-field.ensures _ c.letter_at-behind.ensures).shape, c.requires.2, placed_as c.child_spot-here.ensures c.loop-one.invariant.within (omega arith) (omega arith)),
 )
-
-pub shape_of-out-in_err-one : goal.structure::fields-shape_of-out-in_err-one
-shape_of-out-in_err-one t c =
-    omega (arith, c.loop-one.invariant.same, c.value.auto.out, c.value.auto.ends, c.pad-padding.auto.out)
-
-pub shape_of-ends-in_err-one : goal.structure::fields-shape_of-ends-in_err-one
-shape_of-ends-in_err-one t c =
-    omega (arith, c.loop-one.invariant.sames, c.value.auto.out, c.value.auto.ends)
 
 pub returns-in_err-one : goal.structure::fields-returns-in_err-one
 returns-in_err-one t c =
@@ -54,32 +29,12 @@ returns-in_err-one t c =
     (last_field_of _ _ _ c.loop-one.invariant.rowed c.requires.1 _ c.shape_in-field.ensures _ c.letter_at-behind.ensures)
     (next_field_of _ _ _ c.loop-one.invariant.rowed c.requires.1 _ c.shape_in-field.ensures _ c.letter_at-behind.ensures) (number_not_0 _))
 
-pub overflow_add-row-in-loop-one : goal.structure::fields-overflow_add-row-in-loop-one
-overflow_add-row-in-loop-one t c =
-    omega (arith, c.loop-one.invariant.small, c.pad-padding.ensures.count.1)
-
-pub add-requires : goal.structure::fields-add-requires
-add-requires t c =
-    (omega (arith, c.loop-one.invariant.small, c.pad-padding.ensures.count.1), let q = bounds refl c.in_ok-one.ensures in omega (arith, q.small))
-
-pub shape_of-out-in-CloseStructure : goal.structure::fields-shape_of-out-in-CloseStructure
-shape_of-out-in-CloseStructure t c =
-    omega (arith, c.loop-one.invariant.same, c.value.auto.out, c.value.auto.ends, c.pad-padding.auto.out)
-
-pub shape_of-ends-in-CloseStructure : goal.structure::fields-shape_of-ends-in-CloseStructure
-shape_of-ends-in-CloseStructure t c =
-    omega (arith, c.loop-one.invariant.sames, c.value.auto.out, c.value.auto.ends)
-
 pub returns-in-CloseStructure : goal.structure::fields-returns-in-CloseStructure
 returns-in-CloseStructure t c =
     (fields_last _ _ _ (few_variants c.requires.2) _ _ _ _ _ _ _ _ _ _ _ _ _ _ _ _ c.loop-one.invariant _ _ _ _ _ _ _ (value_as c.child_spot-here.ensures _ _ _ _ _ c.in_ok-one.ensures) _ _
     refl (described_alignment (field_here _ _ _ c.loop-one.invariant.rowed c.requires.1 _ c.shape_in-field.ensures _ c.letter_at-behind.ensures).shape) c.pad-padding.ensures.count.0
     c.pad-padding.ensures.bytes refl refl c.add.ensures (omega (arith, c.loop-one.invariant.same, c.value.auto.out, c.value.auto.ends, c.pad-padding.auto.out)) (omega (arith, c.loop-one.invariant.sames, c.value.auto.out, c.value.auto.ends))
     (last_field_of _ _ _ c.loop-one.invariant.rowed c.requires.1 _ c.shape_in-field.ensures _ c.letter_at-behind.ensures c.in-CloseStructure.is))
-
-pub keep-requires : goal.structure::fields-keep-requires
-keep-requires t c =
-    omega (arith, c.loop-one.invariant.few, c.requires.3.few)
 
 pub loop-one-smaller : goal.structure::fields-loop-one-smaller
 loop-one-smaller t c =

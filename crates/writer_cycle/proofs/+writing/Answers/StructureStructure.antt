@@ -17,10 +17,6 @@ use native.Mathlib.Omega.{arith}
 use Rattle.meaning.specs.Depths as Depth
 use Rattle.writer_cycle.proofs.+writing.Goals as goal
 
-pub plain_at-requires : goal.structure::structure-plain_at-requires
-plain_at-requires t c =
-    c.requires.3.within
-
 pub returns-then-not-plain_at : goal.structure::structure-returns-then-not-plain_at
 returns-then-not-plain_at t c =
     (value_structure_not c.requires.0 c.requires.1 _ _ _ (few_variants c.requires.2) _ _ _ _ _ _ (c.plain_at.ensures.not (not-true _ c.if-not-plain_at.true-raw)))
@@ -28,10 +24,6 @@ returns-then-not-plain_at t c =
 pub returns-in_err-inc_structure : goal.structure::structure-returns-in_err-inc_structure
 returns-in_err-inc_structure t c =
     refused_on _ _ c.from_residual.ensures (value_structure_deep c.requires.0 c.requires.1 _ _ _ (few_variants c.requires.2) _ _ _ _ _ _ (c.plain_at.ensures.here (not-false _ c.if-not-plain_at.false-raw)) _ c.in_err-inc_structure.ensures (number_not_0 _))
-
-pub overflow_add-inner : goal.structure::structure-overflow_add-inner
-overflow_add-inner t c =
-    omega (arith, (c.plain_at.ensures.here (not-false _ c.if-not-plain_at.false-raw)).whole, c)
 
 pub overflow_add-at : goal.structure::structure-overflow_add-at
 overflow_add-at t c =
@@ -55,10 +47,6 @@ returns-in_err-row t c =
     (value_structure c.requires.0 c.requires.1 _ _ _ (few_variants c.requires.2) _ _ _ _ _ _ (c.plain_at.ensures.here (not-false _ c.if-not-plain_at.false-raw)) _ c.in_ok-inc_structure.ensures _
     _ _ _ refl refl
     (structure_stop _ _ _ c.args.shape.alignment _ _ _ _ _ _ _ _ _ (ended_stop _ _ _ _ _ _ _ _ _ _ _ _ _ c.in_err-row.ensures (number_not_0 _)) (number_not_0 _)))
-
-pub ended-requires : goal.structure::structure-ended-requires
-ended-requires t c =
-    (row_bounds refl c.in_ok-row.ensures).within
 
 pub returns-in_err-closed : goal.structure::structure-returns-in_err-closed
 returns-in_err-closed t c =

@@ -4,7 +4,7 @@ use Rattle.signature.proofs.ShapeLaws.{table_filled, table_refused, table_type}
 use Rattle.signature.proofs.TreeLaws.{described_as, front, front_described}
 use Rattle.signature.specs.declared.shapes.Shape.{Shape}
 use Rattle.meaning.proofs.RefusalNumbers.{number_not_0}
-use Rattle.writer_basic.proofs.Answers.{bounds, refused_on}
+use Rattle.writer_basic.proofs.Answers.{refused_on}
 use Rattle.writer_basic.proofs.Rounds.{value_stop}
 use Rattle.writer_basic.proofs.Openings.{few_variants, raised_in}
 use Rattle.writer_cycle.proofs.Values.{front_spells, value_variant_deep, value_variant_on, value_variant_type}
@@ -23,10 +23,6 @@ returns-in_err-inc_variant t c =
     refused_on _ _ c.from_residual.ensures
     (value_variant_deep _ _ _ (few_variants c.requires.2) _ _ _ _ _ _ c.requires.0 _ c.requires.1 (table_type _ _ _ _ refl c.shapes_of.ensures (not-false _ c.if-not-shapes_of.false-raw)) _ c.in_err-inc_variant.ensures (number_not_0 _))
 
-pub overflow_add-here : goal.variant::typed-overflow_add-here
-overflow_add-here t c =
-    omega (arith, c.requires.1.at.whole)
-
 pub value-requires : goal.variant::typed-value-requires
 value-requires t c = (
   omega (arith, level_falls Depth.variant c.args.context.depths _ c.in_ok-inc_variant.ensures refl, c.decreases),
@@ -44,10 +40,6 @@ returns-in_err-held t c =
     (value_variant_on _ _ _ (few_variants c.requires.2) _ _ _ _ _ _ c.requires.0 _ c.requires.1 (table_type _ _ _ _ refl c.shapes_of.ensures (not-false _ c.if-not-shapes_of.false-raw)) _
     c.in_ok-inc_variant.ensures _ _ _ _ _ refl (ap (λ (s : Shape). s.at) c.shape_in-shape.ensures) refl
     (value_stop _ _ _ _ _ _ _ _ _ _ _ c.in_err-held.ensures (number_not_0 _)))
-
-pub variant_end-requires : goal.variant::typed-variant_end-requires
-variant_end-requires t c =
-    let q = bounds refl c.in_ok-held.ensures in (c.requires.3.near, q.small, q.within, (table_filled _ _ _ _ refl c.shapes_of.ensures c.shapes_of.auto.shapes (not-false _ c.if-not-shapes_of.false-raw)).few)
 
 pub returns : goal.variant::typed-returns
 returns t c =

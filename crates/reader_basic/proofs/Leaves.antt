@@ -28,7 +28,7 @@ use Rattle.utils.specs.Checks as leaf
 use Rattle.utils.specs.Checks.{padding_for}
 use Rattle.de.proofs.PaddingAnswers.{padding_in}
 use Rattle.de.specs.Parts.{padding_at}
-use Rattle.byte_order.specs.Standing.{number_at}
+use Rattle.byte_order.specs.Standing.{number_at, number_of}
 use Rattle.de.specs.Parts.{bool_at}
 use Rattle.framing_offset_size.specs.Widths.{last_offset_in}
 use Rattle.container_depths.specs.declared.ContainerDepths.{ContainerDepths}
@@ -205,6 +205,11 @@ module _ (position : ℕ) (big : Bool) (kind w : ℕ) (d : Depths) (k n : ℕ) (
             let x : f.value ≡ value (ordered big (take w (drop r.value l))) = ap (λ x. x.value) e ∙ rw h in
             rw (p.there z) (rw h (single (r.value + w) (length l) (length l) n m out out' _ s s i (q ∙ ap (λ x. put out n (event kind (k + r.value) x)) x)))
         go false h = let x : f.refusal ≡ 3 = ap (λ x. x.refusal) e ∙ rw h in absurd (omega arith)
+
+-- a number of a width that there is
+pub number_given : {w : ℕ} → Aligns w → (big : Bool) (l : List ℕ) (place : ℕ) → number_of w big l place ≡ number_at w big l place
+unfolding number_of
+number_given al big l place = rw al.listed
 
 -- a byte has no padding
 pub byte_pads : (position k : ℕ) (l : List ℕ) → Pads (pad position 1 k l) (length l) (leaf.passed 0)

@@ -6,13 +6,12 @@ ghost use Rattle.meaning.specs.Reading.{read_bool, read_number, read_text, separ
 ghost use Rattle.meaning.specs.Padding.{Aligns};
 ghost use Rattle.meaning.specs.Limits.{largest_frame};
 ghost use Rattle.utils.specs.Checks.{checked};
-ghost use Rattle.byte_order.specs.Standing.{number_at};
 ghost use Rattle.framing_offset_size.specs.Widths.{width_of};
 ghost use Rattle.reader_basic.specs.Answers.{Done, Whole, counts_of};
 ghost use Rattle.reader_basic.specs.Parts.{Inside, number_by, offset_answer};
 
 use crate::{Context, Reading, done, or_stop, refused};
-use byte_order::number as number_of;
+use byte_order::{number as number_of, number_at};
 use de::{parse_padding, read_bool};
 use events::emit;
 use framing_offset_size::FramingOffsetSize;
@@ -37,18 +36,6 @@ pub fn boolean(part: &[u8], place: usize, out: &mut [u64], n: usize) -> Reading
     let found = or_stop(read_bool(part, 0), 0, n)?;
     let count = emit(out, n, BOOL_LETTER, place, u64::from(found));
     done(1, count)
-}
-
-// The number of a width at a place. byte_order has one that refuses every other width: with it an array of numbers takes a sixth more.
-pub fn number_at(part: &[u8], place: usize, width: usize, big: bool) -> Result<usize, Refusal>
-    ensures { Aligns width → checked result ≡ number_at width big part.now place }
-{
-    match width {
-        1 => number_of::<1>(part, place, big),
-        2 => number_of::<2>(part, place, big),
-        4 => number_of::<4>(part, place, big),
-        _ => number_of::<8>(part, place, big),
-    }
 }
 
 // A byte has no alignment and no order.

@@ -1,5 +1,7 @@
 // The readers that call each other as containers nest. Ports gvariant/de.rs, through deserialize_any. Here: a value, and what stands in a
 // container; each kind of container has a module. What is repeated in a container is read in a loop.
+// A type (text, shapes, at), a place (part, place, ride) and the events (out, n) are passed one by one: a struct of more than two words is kept in
+// memory, in the stack frame of each level of nesting, and the stack that a level takes is bounded.
 #![tactic(auto)]
 
 mod array;

@@ -11,13 +11,13 @@ ghost use Rattle.reader_basic.specs.Answers.{Whole, From, Between, counts_of};
 ghost use Rattle.reader_basic.specs.Parts.{Inside, number_by, reading_by, Tabled, elements_by};
 ghost use Rattle.reader_runs.specs.Runs.{counted_of, numbers_from};
 
-use byte_order::number as number_of;
+use byte_order::{number as number_of, number_at};
 use de::parse_padding;
 use events::emit;
 use framing_offsets::{OffsetTable, next};
 use meaning::letters::{MAYBE_LETTER, NOTHING_LETTER};
 use meaning::refusals::Refusal;
-use reader_basic::basic::{number, number_at};
+use reader_basic::basic::number;
 use reader_basic::{Answer, Context, Reading, behind, done, or_stop, refused};
 
 // Numbers of a width in so many bytes, from event n on: counted, and not read.
@@ -50,6 +50,7 @@ fn run<const WIDTH: usize>(
     let kind = u64::from(code);
     let mut at = j;
     let mut count = n;
+    // No range: each turn goes on by a width, as long as there is room too.
     while count < out.len() / 3 && WIDTH <= len - at {
         let found = number_of::<WIDTH>(part, at, big).unwrap_or(0);
         count = emit(out, count, kind, place + at, found as u64);

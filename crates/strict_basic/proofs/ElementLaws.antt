@@ -80,9 +80,6 @@ pub record EachLeft (answers : List ℕ → Bool → Type 0) (a : ℕ) (l : List
   pub left : (t : Test) (d : Depths) → Judges answers a t d → ElementsLeft false t d l w s m j i k
 
 module _ (answers : List ℕ → Bool → Type 0) (a : ℕ) (l : List ℕ) (w s m j : ℕ) where
-  pub each_begin : EachLeft answers a l w s m j 0 0
-  each_begin = record { within = omega arith; place = omega arith; left = λ t d g. elements_begin false t d l w s m j }
-
   module _ {i k : ℕ} (q : EachLeft answers a l w s m j i k) (h : i < m) (e : ℕ) (he : e ≡ value (part (j + i * w) (j + i * w + w) l)) where
     ends : e ≡ element_end false l w (j + i * w) (k + padding k a + 0)
     unfolding element_end

@@ -1,5 +1,5 @@
 // The values that hold no other, dictionaries' keys, arrays of texts and of readings, and types of one letter.
-ghost use Rattle.std.specs.Prelude.{◌≡◌, List, Bool, false, ℕ, ◌≤◌, length, IfSome};
+ghost use Rattle.std.specs.Prelude.{◌≡◌, false, ◌≤◌, length, IfSome};
 ghost use Rattle.std.specs.Fn.{FnReturnsAt};
 ghost use Rattle.meaning.specs.Depths.{Depths};
 ghost use Rattle.meaning.specs.Limits.{largest_frame};

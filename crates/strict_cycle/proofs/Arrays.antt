@@ -19,7 +19,7 @@ use Rattle.std.specs.Prelude.{Result, is_ok}
 use Rattle.meaning.specs.declared.refusals.Refusal.{Refusal}
 use Rattle.container_depths.proofs.Levels.{raised_to}
 use Rattle.strict_basic.specs.Basics.{letter_extent, letter_test, text_test, may_open, reading_test}
-use Rattle.strict_ends.specs.Ends.{Laid, end_of, Standing, RowsAre, NoRows, TableIs, NoTable}
+use Rattle.strict_ends.specs.Ends.{end_of, Standing, RowsAre, NoRows, TableIs, NoTable}
 use Rattle.strict_sizes.specs.Items.{tree_test, repeated_test, item_test, Known, Alike, Reads, Told, Repeated, ItemAt}
 use Rattle.strict_ends.specs.declared.Extent.{Extent}
 use Rattle.strict_ends.specs.declared.Rows.{Rows}
@@ -130,9 +130,6 @@ any_plain i h k q = cc
 
 pub alike : {text tables : List ℕ} {i : Item} → Repeated text tables i → i.repeats ≡ repeats.AnyBytes → Alike i.extent (λ n. item_test n text i)
 alike {text} {tables} {i} g h = told_as i.extent (λ n. item_test n text i) h g.told
-
-pub key_laid : {text tables : List ℕ} {i : Item} {k : Letter} → Repeated text tables i → i.repeats ≡ repeats.Entries k → Laid (letter_extent k)
-key_laid {text} {tables} {i} g h = told_as i.extent (λ n. item_test n text i) h g.told
 
 entry_is : (nested : ℕ) (text : List ℕ) (i : Item) (k : Letter) → i.repeats ≡ repeats.Entries k
     → item_test nested text i ≡ entry_test i.extent.alignment i.extent.fixed (letter_test k ∷ tree_test nested text i.child.at ∷ [])

@@ -69,8 +69,8 @@ pub(crate) fn first(
     many == 0 || child(text, tables, item.child, &part[..size], d)
 }
 
-// The elements of an array or the entries of a dictionary, each behind its padding. `strict_basic` has this loop over a test for what is
-// not fixed; here a test would be a closure in the cycle of calls.
+// The elements of an array or the entries of a dictionary, each behind its padding. The loop of `strict_basic` is over any test; the test
+// here is a call of this cycle, asks that its bytes lie in a frame, and takes children that are fixed too: one loop for both says more.
 #[cycle(testing)]
 pub(crate) fn elements(
     text: &[u8],

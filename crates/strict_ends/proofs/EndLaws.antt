@@ -104,10 +104,6 @@ encoded_aligns n = go (leb (n + 0 * 1) 255) (leb (n + 0 * 2) 65535) (leb (n + 0 
     go false false true = by4
     go false false false = by8
 
--- a container's width, by its body and its offsets
-pub table_own : (body count w len : ℕ) → w ≡ encoded_width len → body + count * w ≡ len → w ≡ encoded_width (body + count * w)
-table_own body count w len h e = h ∙ ap encoded_width (sym e)
-
 -- the width of a length in the limit
 module _ (body count w : ℕ) (h : body + count * w ≤ 65536) (e : w ≡ encoded_width (body + count * w)) where
   -- a width counts

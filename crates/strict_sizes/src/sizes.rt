@@ -55,7 +55,7 @@ fn fixed_measure(text: &[u8], tables: &[u16], at: usize, alignment: usize) -> us
     }
 }
 
-// How many offsets the fields from a place on have.
+// How many offsets the fields from a place on have. Each says where the next stands, so a loop goes over them, and no range.
 fn offsets_of(text: &[u8], tables: &[u16], at: usize) -> usize
     requires { Rowed text.now at × Behind text.now at tables.now }
     ensures { (result ≡ offsets_in (fields_at text.now at)) × (result ≤ longest_type) }

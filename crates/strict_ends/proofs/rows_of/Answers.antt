@@ -4,6 +4,3 @@ use Rattle.strict_ends.proofs.rows_of.Goals as goal
 
 pub returns-then-x : goal.returns-then-x
 returns-then-x c = rows_fixed _ _ _ c.if-x.true
-
-pub returns : goal.returns
-returns c = rows_other _ _ _ _ c.if-x.false c.table_of.ensures

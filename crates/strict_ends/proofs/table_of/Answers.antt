@@ -13,12 +13,6 @@ returns-then-len-body c =
     table_past _ _ _ (c.width-width.ensures ∙ c.for_encoded_container-size.ensures)
     (c.unwrap_or-body.ensures ∙ checked_value c.last_in.result ∙ last_offset_is _ _ _ c.for_encoded_container-size.ensures c.last_in.ensures) c.if-len-body.true
 
-pub overflow_mul-count : goal.overflow_mul-count
-overflow_mul-count c =
-    let h = count_small c.args.part.now _ _ (c.width-width.ensures ∙ c.for_encoded_container-size.ensures)
-    (c.unwrap_or-body.ensures ∙ checked_value c.last_in.result ∙ last_offset_is _ _ _ c.for_encoded_container-size.ensures c.last_in.ensures) _ (c.count_in-count.ensures
-    ∙ ap (λ (w : ℕ). (length c.args.part.now - c.unwrap_or-body.result) / w) (sym
-    c.width-width.ensures)) c.if-len-body.false in omega (arith, h.0, h.1, c.requires)
 
 pub returns-then-body-count : goal.returns-then-body-count
 returns-then-body-count c =

@@ -3,9 +3,6 @@ use native.Mathlib.Omega.{arith}
 use Rattle.strict_basic.proofs.BasicLaws.{laid_as, key_not, key_on}
 use Rattle.strict_basic.proofs.basic.key_written.Goals as goal
 
-pub start_of-requires : goal.start_of-requires
-start_of-requires c =
-    (omega arith, c.requires.0, c.requires.1, (laid_as c.extent_of-extent.ensures c.requires.2).aligned)
 
 pub returns-in_default : goal.returns-in_default
 returns-in_default c =

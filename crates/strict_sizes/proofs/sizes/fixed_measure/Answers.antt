@@ -5,13 +5,9 @@ use Rattle.signature.proofs.TreeLaws.{described_aligned}
 use Rattle.meaning.proofs.TypeLaws.{aligns_most}
 use Prim.Native.Nat.{◌+◌, ◌/◌}
 use Rattle.meaning.proofs.PaddingLaws.{padding_below}
-use Rattle.strict_sizes.proofs.TableLaws.{size_begin, size_last, size_next, field_small, field_described, field_place, aligned_by}
+use Rattle.strict_sizes.proofs.TableLaws.{size_last, size_next, field_small, field_described, field_place, aligned_by}
 use Rattle.signature.proofs.TreeLaws.{last_field_of, next_field_of}
 use Rattle.strict_sizes.proofs.sizes.fixed_measure.Goals as goal
-
-pub loop-field-init : goal.loop-field-init
-loop-field-init c =
-    size_begin _ _ c.requires.0 c.requires.2
 
 pub measure_at-measure-requires : goal.measure_at-measure-requires
 measure_at-measure-requires c =

@@ -13,10 +13,6 @@ pack-requires-in-Number c =
           (sym c.letter_at-kind.ensures ∙ c.in-Number.is),
     )
 
-pub structure_measure-requires : goal.structure_measure-requires
-structure_measure-requires c =
-    (c.requires.0, c.requires.1, sym c.letter_at-kind.ensures ∙ c.in-OpenStructure.is)
-
 pub returns-in-Boolean : goal.returns-in-Boolean
 returns-in-Boolean c =
     measure_bool _ _ _ (sym c.letter_at-kind.ensures ∙ c.in-Boolean.is) c.pack.ensures

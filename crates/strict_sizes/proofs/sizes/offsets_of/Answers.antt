@@ -1,13 +1,9 @@
 -- `offsets_of` meets its contract: the loop keeps what is left to count. Assumes nothing.
 use mathlib.Core.Path.{refl}
 use native.Mathlib.Omega.{arith}
-use Rattle.strict_sizes.proofs.TableLaws.{count_begin, count_last, count_next}
+use Rattle.strict_sizes.proofs.TableLaws.{count_last, count_next}
 use Rattle.signature.proofs.TreeLaws.{last_field_of, next_field_of}
 use Rattle.strict_sizes.proofs.sizes.offsets_of.Goals as goal
-
-pub loop-field-init : goal.loop-field-init
-loop-field-init c =
-    count_begin _ _ c.requires.0
 
 pub returns-then-closes_at : goal.returns-then-closes_at
 returns-then-closes_at c = (
@@ -19,10 +15,6 @@ returns-then-closes_at c = (
     c.loop-field.invariant.rowed.short,
   ),
 )
-
-pub one_more-count-requires : goal.one_more-count-requires
-one_more-count-requires c =
-    omega (arith, c.loop-field.invariant.most, c.loop-field.invariant.rowed.short)
 
 pub loop-field-smaller : goal.loop-field-smaller
 loop-field-smaller c =

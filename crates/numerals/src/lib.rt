@@ -1,9 +1,8 @@
 // Bytes in hexadecimal and numbers in decimal: with `lines`, what the programs that read and print text share.
 #![tactic(auto)]
 
-ghost use Rattle.std.specs.Prelude.{◌≡◌, true, ◌+◌, ◌*◌, ◌<◌, ◌≤◌, ltb, length, IfSome, MatchOption};
+ghost use Rattle.std.specs.Prelude.{◌≡◌, true, ◌*◌, ◌<◌, ◌≤◌, ltb, length, IfSome, MatchOption};
 ghost use Rattle.std.proofs.Math.Option.{some};
-ghost use Rattle.std.proofs.lemmas.List.Edits.{sets};
 ghost use Rattle.numerals.specs.Storing.{Stores};
 ghost use Rattle.numerals.specs.Hexadecimal.{digit as digit_of, digit_in, has_byte, bytes_of, all_digits, Spells};
 ghost use Rattle.numerals.specs.Decimals.{digits, numeral, number_of, understood};

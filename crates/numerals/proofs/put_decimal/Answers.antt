@@ -2,7 +2,6 @@
 use native.Mathlib.Omega.{arith}
 use Rattle.numerals.proofs.DecimalLaws.{decimal_none, decimal_stored}
 use Rattle.numerals.proofs.put_decimal.Goals as goal
-use Rattle.numerals.proofs.put_decimal.Goals.{then-out-at-via-then-out-at, then-out-at-via-else-out-at+then-out-at-2}
 
 pub returns-then-out-at : goal.returns-then-out-at
 returns-then-out-at c = decimal_none _ _ _ _ _ c.places-count.ensures.value (omega arith)

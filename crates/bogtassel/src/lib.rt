@@ -6,8 +6,48 @@ ghost use Rattle.meaning.specs.Calls.{counts, size as size_of, read as read_of, 
 ghost use Rattle.meaning_writing.specs.Writing.{write_answer, write as write_of, write_slice};
 ghost use Rattle.meaning_writing.specs.Editing.{edit_answer, edit as edit_of, edit_buffer};
 ghost use Rattle.meaning_writing.specs.IsWritten.{written_refusal};
+ghost use Rattle.meaning.specs.Refused.{refusal_in};
+ghost use Rattle.reader.specs.Answers.{answer_of};
 ghost use Rattle.editor_steps.specs.Walks.{new_of};
 ghost use Rattle.editor.specs.News.{new_by};
+
+use meaning::refusals::Refusal;
+use reader::Answer;
+
+// What was read, as C has it: through the lent numbers the bytes used and the number of events, zeros where it is refused; and the refusal.
+fn hand_counts(answer: Result<Answer, Refusal>, used: &mut usize, count: &mut usize) -> u8
+    ensures { counts result used.new count.new ≡ answer_of answer }
+{
+    match answer {
+        Ok(read) => {
+            *used = read.used;
+            *count = read.count;
+            0
+        }
+        Err(refusal) => {
+            *used = 0;
+            *count = 0;
+            refusal.number()
+        }
+    }
+}
+
+// A frame's length, as C has it: through the lent number, zero where it is refused; and the refusal.
+fn hand_length(answer: Result<usize, Refusal>, length: &mut usize) -> u8
+    ensures refusal { result ≡ refusal_in answer }
+    ensures length { length.new ≡ unwrap_or_zero answer }
+{
+    match answer {
+        Ok(bytes) => {
+            *length = bytes;
+            0
+        }
+        Err(refusal) => {
+            *length = 0;
+            refusal.number()
+        }
+    }
+}
 
 // Sizes a reading: the refusal, and through the lent numbers the bytes used and the number of events.
 #[unsafe(no_mangle)]
@@ -22,9 +62,7 @@ pub extern "C" fn bogtassel_size(
     ensures { counts result used.new count.new ≡ size_of signature.now big position frame.now }
 {
     let answer = reader::size(signature, big, position, frame);
-    *used = answer.used;
-    *count = answer.count;
-    answer.refusal
+    hand_counts(answer, used, count)
 }
 
 // Reads a frame into a lent slice, three numbers for each event.
@@ -42,9 +80,7 @@ pub extern "C" fn bogtassel_read(
     ensures slice { out.new ≡ read_slice signature.now big position frame.now out.old }
 {
     let answer = reader::read(signature, big, position, frame, out);
-    *used = answer.used;
-    *count = answer.count;
-    answer.refusal
+    hand_counts(answer, used, count)
 }
 
 // Writes the value that events spell into a lent slice: the refusal, and through the lent number the frame's length.
@@ -61,8 +97,7 @@ pub extern "C" fn bogtassel_write(
     ensures slice { out.new ≡ write_slice signature.now big events.now texts.now out.old }
 {
     let answer = writer::write(signature, big, events, texts, out);
-    *length = answer.length;
-    answer.refusal
+    hand_length(answer, length)
 }
 
 // Whether a frame is a written form: 0 if it is.
@@ -70,7 +105,10 @@ pub extern "C" fn bogtassel_write(
 pub extern "C" fn bogtassel_is_written(signature: &[u8], big: bool, frame: &[u8]) -> u8
     ensures { result ≡ written_refusal signature.now big frame.now }
 {
-    strict::is_written(signature, big, frame)
+    match strict::is_written(signature, big, frame) {
+        Ok(()) => 0,
+        Err(refusal) => refusal.number(),
+    }
 }
 
 // Edits a reading of the frame that is the used part of a lent buffer: it becomes the number whose bits are given, or nothing. The
@@ -91,6 +129,5 @@ pub extern "C" fn bogtassel_edit(
 {
     let new = editor::new_of(present, bits);
     let answer = editor::edit(signature, big, buffer, used, number, new);
-    *length = answer.length;
-    answer.refusal
+    hand_length(answer, length)
 }

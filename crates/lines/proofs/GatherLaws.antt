@@ -6,7 +6,7 @@ use Prim.Native.Nat.{ℕ, suc, ◌+◌, ◌-◌, ◌≤◌, ◌<◌}
 use native.Mathlib.Nat.{add-zero, zero-add}
 use native.Mathlib.Numerals.{add-one}
 use native.Mathlib.Omega.{arith}
-use lib.Dec.{ltb, leb, eqb}
+use lib.Dec.{leb, eqb}
 use lib.ListN.{length, take, drop, set, get_or, length-append, length-set, drop_of_length-le}
 use lib.Seq.{take-suc-set, drop-cons}
 use borrow.Author.Tests.{lt-ltb, le-ltb, leb-true, leb-false, eq-eqb, ne_eqb}
@@ -67,27 +67,13 @@ gathers_none line kept = refl
 
 -- `passed` bytes of the block are passed.
 pub record Going (line₀ line : List ℕ) (kept₀ kept : ℕ) (block : List ℕ) (passed : ℕ) : Type 0 where
-  pub within : passed ≤ length block
-  pub room : length line ≡ length line₀
   pub rest : gathers line₀ kept₀ block ≡ further passed (gathers line kept (drop passed block))
 
 pub going_begin : (line : List ℕ) (kept : ℕ) (block : List ℕ) → Going line line kept kept block 0
-going_begin line kept block = record {
-  within = omega arith;
-  room = refl;
-  rest = whole (gathers line kept block);
-}
+going_begin line kept block = record { rest = whole (gathers line kept block) }
   where
     whole : (g : Gathering) → g ≡ further 0 g
     whole g = ap (λ (n : ℕ). gathering g.memory g.kept n g.ended) (sym (zero-add g.passed))
-
-length_stored : (most : ℕ) (l : List ℕ) (n b : ℕ) → length (stored most l n b) ≡ length l
-unfolding stored
-length_stored most l n b = go (ltb n most)
-  where
-    go : (x : Bool) → length (pick x (set l n b) l) ≡ length l
-    go true = length-set l n b
-    go false = refl
 
 module _ {line₀ line : List ℕ} {kept₀ kept : ℕ} {block : List ℕ} {passed : ℕ} (g : Going line₀ line kept₀ kept block passed) where
   here : passed < length block → gathers line₀ kept₀ block ≡ further passed (gathers line kept (get_or block passed 0 ∷ drop (suc passed) block))
@@ -108,8 +94,6 @@ module _ {line₀ line : List ℕ} {kept₀ kept : ℕ} {block : List ℕ} {pass
 
   pub going_next : (line' : List ℕ) (kept' : ℕ) → passed < length block → (get_or block passed 0 ≡ 10 → ⊥) → kept' ≡ more (length line) kept → line' ≡ stored (length line) line kept (get_or block passed 0) → Going line₀ line' kept₀ kept' block (passed + 1)
   going_next line' kept' h e m s = record {
-    within = omega arith;
-    room = ap length s ∙ length_stored (length line) line kept (get_or block passed 0) ∙ g.room;
     rest = here h
         ∙ ap (further passed) (gathers_byte line kept (get_or block passed 0) (drop (suc passed) block) e)
         ∙ twice (gathers (stored (length line) line kept (get_or block passed 0)) (more (length line) kept) (drop (suc passed) block))
@@ -120,15 +104,16 @@ module _ {line₀ line : List ℕ} {kept₀ kept : ℕ} {block : List ℕ} {pass
       twice : (x : Gathering) → further passed (further 1 x) ≡ further (passed + 1) x
       twice x = ap (λ (n : ℕ). gathering x.memory x.kept n x.ended) (omega arith)
 
-  pub going_stop : length block ≤ passed → Gathers line₀ line kept₀ block (record { kept = kept; passed = passed; ended = false })
-  going_stop h =
+  pub going_stop : length block ≡ passed → Gathers line₀ line kept₀ block (record { kept = kept; passed = length block; ended = false })
+  going_stop e =
+      let h : length block ≤ passed = omega arith in
       answers
-      (gathering line kept passed false)
+      (gathering line kept (length block) false)
       (g.rest
       ∙ ap (λ (l : List ℕ). further passed (gathers line kept l)) (drop_of_length-le block h)
       ∙ ap (further passed) (gathers_none line kept)
-      ∙ ap (λ (n : ℕ). gathering line kept n false) (add-zero passed))
-      g.within
+      ∙ ap (λ (n : ℕ). gathering line kept n false) (add-zero passed ∙ sym e))
+      (omega arith)
 
 -- a block that has a byte is passed in part
 pub gathers_moves : (line line' : List ℕ) (n : ℕ) (block : List ℕ) (r : Gathered) → Gathers line line' n block r → 0 < length block → 0 < r.passed

@@ -19,22 +19,19 @@ pub fn gather(block: &[u8], line: &mut [u8], kept: usize) -> Gathered
     ensures { Gathers line.old line.new kept block.now result }
 {
     let mut count = kept;
-    let mut passed = 0;
-    while passed < block.len() {
-        let byte = block[passed];
-        passed += 1;
-        if byte == b'\n' {
+    for (i, byte) in block.iter().enumerate() {
+        if *byte == b'\n' {
             return Gathered {
                 kept: count,
-                passed,
+                passed: i + 1,
                 ended: true,
             };
         }
-        count = keep(line, count, byte);
+        count = keep(line, count, *byte);
     }
     Gathered {
         kept: count,
-        passed,
+        passed: block.len(),
         ended: false,
     }
 }
@@ -43,51 +40,31 @@ pub fn gather(block: &[u8], line: &mut [u8], kept: usize) -> Gathered
 pub fn keep(line: &mut [u8], kept: usize, byte: u8) -> usize
     ensures { (result ≡ more (length line.old) kept) × (line.new ≡ stored (length line.old) line.old kept byte) }
 {
-    if line.len() <= kept {
-        return line.len() + 1;
+    if kept < line.len() {
+        line[kept] = byte;
+        kept + 1
+    } else {
+        line.len() + 1
     }
-    line[kept] = byte;
-    kept + 1
 }
 
 // The first bytes of a slice, or all that it has.
 pub fn front(bytes: &[u8], n: usize) -> &[u8]
     ensures { result.now ≡ take n bytes.now }
 {
-    if n < bytes.len() {
-        return &bytes[..n];
-    }
-    bytes
+    &bytes[..n.min(bytes.len())]
 }
 
 // Where a byte first stands, or the end.
 pub fn find(text: &[u8], byte: u8) -> usize
     ensures { (result ≡ place byte text.now) × (result ≤ length text.now) }
 {
-    let mut i = 0;
-    while i < text.len() {
-        if text[i] == byte {
-            return i;
-        }
-        i += 1;
-    }
-    i
+    text.iter().position(|b| *b == byte).unwrap_or(text.len())
 }
 
 // A word by its number from 0, empty behind the last.
 pub fn word(line: &[u8], n: usize) -> &[u8]
     ensures { result.now ≡ word_at n line.now }
 {
-    let mut rest = line;
-    let mut left = n;
-    while 0 < left {
-        let blank = find(rest, b' ');
-        if rest.len() <= blank {
-            return &rest[blank..];
-        }
-        rest = &rest[blank + 1..];
-        left -= 1;
-    }
-    let end = find(rest, b' ');
-    &rest[..end]
+    line.split(|b| *b == b' ').nth(n).unwrap_or(&[])
 }

@@ -11,22 +11,20 @@ use std::io::Read;
 // Lists a block, and gives the state behind it, unless the output did not take all that was printed.
 fn list_block(
     out: &impl Print,
-    state: State,
+    mut state: State,
     text: &mut [u8; 256],
     frame: &mut [u8; 16384],
     block: &[u8],
 ) -> io::Result<State> {
     let mut lines = [0u8; 8192];
-    let mut s = state;
-    let mut from = 0;
-    while from < block.len() {
-        let progress = list(s, text, frame, &block[from..], &mut lines);
-        s = progress.state;
-        let written = progress.written;
-        out.write_all(&lines[..written])?;
-        from += progress.passed;
+    let mut rest = block;
+    while !rest.is_empty() {
+        let progress = list(state, text, frame, rest, &mut lines);
+        state = progress.state;
+        out.write_all(&lines[..progress.written])?;
+        rest = &rest[progress.passed..];
     }
-    Ok(s)
+    Ok(state)
 }
 
 fn list_end(

@@ -6,11 +6,10 @@ use native.Mathlib.Nat.{add-zero, zero-add}
 use native.Mathlib.Numerals.{add-one}
 use native.Mathlib.Omega.{arith}
 use lib.ListN.{length, drop, get_or, drop_of_length-le}
-use lib.Seq.{length-sets, sets-eq, drop-cons}
+use lib.Seq.{sets-eq, drop-cons}
 use borrow.Author.Tests.{lt-ltb, le-ltb}
-use Rattle.listing.specs.declared.State.{State}
 use Rattle.listing.specs.declared.Progress.{Progress}
-use Rattle.listing.specs.States.{Machine, machine, step, output, Ran, ran, further, run, Lists, final_text, Finishes}
+use Rattle.listing.specs.States.{Machine, step, output, Ran, ran, further, run, Lists, final_text, Finishes}
 use Rattle.numerals.specs.Storing.{over, Puts}
 use Rattle.numerals.proofs.StoringLaws.{puts_none, puts_then}
 use Rattle.listing.proofs.Texts.{output_most}
@@ -36,18 +35,14 @@ run_more room m b l h = rw (le-ltb room 84 h)
 pub record Going (m₀ m : Machine) (block out₀ out : List ℕ) (passed written : ℕ) : Type 0 where
   pub text : List ℕ
   pub puts : Puts out₀ out 0 text written
-  pub within : passed ≤ length block
   pub fits : written ≤ length out₀
-  pub kept : length out ≡ length out₀
   pub rest : run (length out₀) m₀ block ≡ ahead passed text (run (length out₀ - written) m (drop passed block))
 
 pub going_begin : (m : Machine) (block out : List ℕ) → Going m m block out out 0 0
 going_begin m block out = record {
   text = [];
   puts = puts_none out 0;
-  within = omega arith;
   fits = omega arith;
-  kept = refl;
   rest = begins (run (length out) m block) ∙ ap (λ (n : ℕ). ahead 0 [] (run n m block)) (omega arith);
 }
   where
@@ -59,22 +54,19 @@ ahead_further n t u r =
     let e : n + (r.passed + 1) ≡ n + 1 + r.passed = omega arith in
     ap₂ (λ (k : ℕ) (x : List ℕ). ran r.machine k x) e (sym (append_assoc t u r.text))
 
-module _ {m₀ m : Machine} {block out₀ out : List ℕ} {passed written : ℕ} (g : Going m₀ m block out₀ out passed written) where
+module _ {m₀ m : Machine} {block out₀ out : List ℕ} {passed written : ℕ} (g : Going m₀ m block out₀ out passed written) (q : length out ≡ length out₀) where
   pub going_next : (m' : Machine) (b : ℕ) (out' : List ℕ) (written' : ℕ) → passed < length block → 84 ≤ length out - written → b ≡ get_or block passed 0 → Puts out out' written (output m b) written' → m' ≡ step m b → Going m₀ m' block out₀ out' (passed + 1) written'
   going_next m' b out' written' h room e p s =
       let o = output_most m b in
       let n = p.next in
       let f = g.fits in
-      let q = g.kept in
       let k : 84 ≤ length out₀ - written = omega arith in
       let less : length out₀ - written - length (output m b) ≡ length out₀ - written' = omega arith in
       let behind : drop passed block ≡ b ∷ drop (passed + 1) block = drop-cons block passed 0 h ∙ ap₂ (λ (x i : ℕ). x ∷ drop i block) (sym e) (sym (add-one passed)) in
       record {
         text = g.text ++ output m b;
         puts = puts_then g.puts p;
-        within = omega arith;
         fits = omega arith;
-        kept = ap length p.slice ∙ length-sets out written (output m b) ∙ g.kept;
         rest = g.rest
             ∙ ap (λ (l : List ℕ). ahead passed g.text (run (length out₀ - written) m l)) behind
             ∙ ap (λ (r : Ran). ahead passed g.text r) (run_more (length out₀ - written) m b (drop (passed + 1) block) k)
@@ -83,15 +75,15 @@ module _ {m₀ m : Machine} {block out₀ out : List ℕ} {passed written : ℕ}
       }
 
   -- where the call stops
-  stops : (s : State) (t f : List ℕ) → m ≡ machine s t f → run (length out₀ - written) m (drop passed block) ≡ ran m 0 [] → Lists m₀ (machine s t f) block out₀ out (record { state = s; passed = passed; written = written })
-  stops s t f e h =
+  stops : passed ≤ length block → run (length out₀ - written) m (drop passed block) ≡ ran m 0 [] → Lists m₀ m block out₀ out (record { state = m.state; passed = passed; written = written })
+  stops i h =
       let all : run (length out₀) m₀ block ≡ ran m passed g.text = g.rest ∙ ap (λ (r : Ran). ahead passed g.text r) h ∙ ap₂ (λ (n : ℕ) (x : List ℕ). ran m n x) (add-zero passed) (append-nil g.text) in
       let n : written ≡ length g.text = g.puts.next ∙ zero-add (length g.text) in
       let w = g.fits in
       record {
-        machine = sym e ∙ ap (λ (r : Ran). r.machine) (sym all);
+        machine = ap (λ (r : Ran). r.machine) (sym all);
         passed = ap (λ (r : Ran). r.passed) (sym all);
-        within = g.within;
+        within = i;
         written = n ∙ ap (λ (r : Ran). length r.text) (sym all);
         fits = g.fits;
         slice = g.puts.slice
@@ -100,12 +92,12 @@ module _ {m₀ m : Machine} {block out₀ out : List ℕ} {passed written : ℕ}
             ∙ ap (λ (r : Ran). over r.text out₀) (sym all);
       }
 
-  pub going_short : (s : State) (t f : List ℕ) → m ≡ machine s t f → length out - written < 84 → Lists m₀ (machine s t f) block out₀ out (record { state = s; passed = passed; written = written })
-  going_short s t f e h = let q = g.kept in stops s t f e (run_short _ m _ (omega arith))
+  pub going_short : passed < length block → length out - written < 84 → Lists m₀ m block out₀ out (record { state = m.state; passed = passed; written = written })
+  going_short i h = stops (omega arith) (run_short _ m _ (omega arith))
 
-  pub going_end : (s : State) (t f : List ℕ) → m ≡ machine s t f → length block ≤ passed → Lists m₀ (machine s t f) block out₀ out (record { state = s; passed = passed; written = written })
-  going_end s t f e h =
-      stops s t f e (ap (λ (l : List ℕ). run (length out₀ - written) m l) (drop_of_length-le block h) ∙ run_none _ m)
+  pub going_end : length block ≡ passed → Lists m₀ m block out₀ out (record { state = m.state; passed = length block; written = written })
+  going_end e =
+      rw e (stops (omega arith) (ap (λ (l : List ℕ). run (length out₀ - written) m l) (drop_of_length-le block (omega arith)) ∙ run_none _ m))
 
 -- a text from the front of a slice is all that `finish` prints
 pub finishes : (m : Machine) (out out' : List ℕ) (t : List ℕ) (r : ℕ) → t ≡ final_text (length out) m → length t ≤ length out → Puts out out' 0 t r → Finishes m out out' r

@@ -1,13 +1,19 @@
 -- A law for each way out of the functions that go from byte to byte and answer a line. Assumes nothing.
-use mathlib.Core.Path.{◌≡◌, sym, ap, ap₂, ◌∙◌}
+use mathlib.Core.Path.{◌≡◌, refl, sym, ap, ap₂, ◌∙◌}
 use mathlib.Core.List.{List, []}
 use mathlib.Core.Bool.{Bool, true, false}
-use Prim.Native.Nat.{ℕ, ◌+◌, ◌*◌, ◌≤◌, ◌<◌}
+use Prim.Native.Nat.{ℕ, ◌+◌, ◌*◌, ◌%◌, ◌≤◌, ◌<◌, min}
+use native.Mathlib.Omega.{arith}
+use lib.Dec.{ltb}
 use lib.ListN.{length, take}
-use borrow.Author.Tests.{lt-ltb, le-ltb, le-leb, lt-leb, eq-eqb, ne_eqb}
+use borrow.Author.Tests.{lt-ltb, le-ltb, ltb-true, ltb-false, le-leb, lt-leb, eq-eqb, ne_eqb}
+use Rattle.std.specs.Prelude.{Some, None}
+use Rattle.std.specs.Option.{is_some}
+use Rattle.meaning.specs.Choice.{pick}
 use Rattle.meaning.specs.Calls.{Counts, counts, size}
 use Rattle.signature.specs.Places.{is_type}
 use Rattle.numerals.specs.Hexadecimal.{digit}
+use Rattle.numerals.proofs.DigitLaws.{waits}
 use Rattle.lines.specs.Lines.{more, stored}
 use Rattle.listing.specs.Listing.{printed, next_number}
 use Rattle.listing.specs.States.{Machine, machine, state_of, ended, lettered, paired, halved, spoiled, valued, step, frame_by, frame_of, answer_of, line_text, output, begun, ending, final_text}
@@ -25,7 +31,7 @@ module _ (m : Machine) (b : ℕ) where
   unfolding step
   step_valued h z = rw (ne_eqb b 10 h, ne_eqb m.state.line 0 z)
 
-  pub step_end : (n : ℕ) → b ≡ 10 → n ≡ next_number m.state.line → machine (state_of n m.state.letters 0 16 false) m.text m.frame ≡ step m b
+  pub step_end : (n : ℕ) → b ≡ 10 → n ≡ next_number m.state.line → machine (state_of n m.state.letters 0 None false) m.text m.frame ≡ step m b
   unfolding ended
   step_end n h e = rw e (sym (step_ended h))
 
@@ -37,23 +43,32 @@ module _ (m : Machine) (b : ℕ) where
   step_digit : (b ≡ 10 → ⊥) → (m.state.line ≡ 0 → ⊥) → (v : ℕ) → v ≡ digit b → valued m v ≡ step m b
   step_digit h z v e = ap (λ (x : ℕ). valued m x) e ∙ sym (step_valued h z)
 
-  pub step_spoilt : (v : ℕ) → (b ≡ 10 → ⊥) → (m.state.line ≡ 0 → ⊥) → v ≡ digit b → 16 ≤ v → spoiled m ≡ step m b
+  pub step_spoilt : (b ≡ 10 → ⊥) → (m.state.line ≡ 0 → ⊥) → 16 ≡ digit b → spoiled m ≡ step m b
   unfolding valued
-  step_spoilt v h z e k =
-      let spoils : valued m v ≡ spoiled m = rw (le-ltb v 16 k) in sym spoils ∙ step_digit h z v e
+  step_spoilt h z e = step_digit h z 16 e
 
-  pub step_first : (v : ℕ) → (b ≡ 10 → ⊥) → (m.state.line ≡ 0 → ⊥) → v ≡ digit b → v < 16 → 16 ≤ m.state.half → halved m v ≡ step m b
+  pub step_first : (v : ℕ) → (b ≡ 10 → ⊥) → (m.state.line ≡ 0 → ⊥) → v ≡ digit b → v < 16 → m.state.half ≡ None → halved m v ≡ step m b
   unfolding valued
   step_first v h z e k l =
-      let halves : valued m v ≡ halved m v = rw (lt-ltb v 16 k, le-ltb m.state.half 16 l) in sym halves ∙ step_digit h z v e
+      let halves : valued m v ≡ halved m v = rw (lt-ltb v 16 k, l) in sym halves ∙ step_digit h z v e
 
-  pub step_second : (v k : ℕ) (f : List ℕ) → (b ≡ 10 → ⊥) → (m.state.line ≡ 0 → ⊥) → v ≡ digit b → v < 16 → m.state.half < 16 → length m.frame ≡ 16384 → k ≡ more (length m.frame) m.state.kept → f ≡ stored (length m.frame) m.frame m.state.kept (16 * m.state.half + v) → machine (state_of m.state.line m.state.letters k 16 m.state.spoilt) m.text f ≡ step m b
+  pub step_second : (v d k : ℕ) (f : List ℕ) → (b ≡ 10 → ⊥) → (m.state.line ≡ 0 → ⊥) → v ≡ digit b → v < 16 → m.state.half ≡ Some d → length m.frame ≡ 16384 → k ≡ more (length m.frame) m.state.kept → f ≡ stored (length m.frame) m.frame m.state.kept (16 * (d % 16) + v) → machine (state_of m.state.line m.state.letters k None m.state.spoilt) m.text f ≡ step m b
   unfolding valued paired
-  step_second v k f h z e l w n c s =
-      let pairs : valued m v ≡ paired m (16 * m.state.half + v) = rw (lt-ltb v 16 l, lt-ltb m.state.half 16 w) in
+  step_second v d k f h z e l w n c s =
+      let first : d % 16 < 16 = omega arith in
+      let pairs : valued m v ≡ paired m (16 * (d % 16) + v) = rw (lt-ltb v 16 l, w, lt-ltb (d % 16) 16 first) in
       let count = c ∙ ap (λ (i : ℕ). more i m.state.kept) n in
-      let memory = s ∙ ap (λ (i : ℕ). stored i m.frame m.state.kept (16 * m.state.half + v)) n in
+      let memory = s ∙ ap (λ (i : ℕ). stored i m.frame m.state.kept (16 * (d % 16) + v)) n in
       rw (count, memory) (sym pairs ∙ step_digit h z v e)
+
+-- numbers stay at the largest
+pub next_by : (n : ℕ) → n < 18446744073709551616 → min (n + 1) 18446744073709551615 ≡ next_number n
+unfolding next_number
+next_by n h = go (ltb n 18446744073709551615) refl
+  where
+    go : (x : Bool) → ltb n 18446744073709551615 ≡ x → min (n + 1) 18446744073709551615 ≡ pick x (n + 1) n
+    go true e = let k = ltb-true n 18446744073709551615 e in omega arith
+    go false e = let k = ltb-false n 18446744073709551615 e in omega arith
 
 -- which answer the tests of a line give
 by_spoilt : (x y z : Bool) (c : Counts) → x ≡ true → counts 18 0 0 ≡ frame_by x y z c
@@ -86,19 +101,19 @@ module _ (m : Machine) (t : List ℕ) (is : t ≡ take m.state.letters m.text) w
   unfolding frame_of
   answer_spoilt h k = by_spoilt _ _ _ _ k ∙ answer_frame h
 
-  pub answer_odd : is_type t ≡ true → m.state.spoilt ≡ false → m.state.half < 16 → counts 18 0 0 ≡ answer_of m
+  pub answer_odd : is_type t ≡ true → m.state.spoilt ≡ false → is_some m.state.half ≡ true → counts 18 0 0 ≡ answer_of m
   unfolding frame_of
-  answer_odd h k l = by_odd _ _ _ _ k (lt-ltb m.state.half 16 l) ∙ answer_frame h
+  answer_odd h k l = by_odd _ _ _ _ k (waits m.state.half ∙ l) ∙ answer_frame h
 
-  pub answer_long : is_type t ≡ true → m.state.spoilt ≡ false → 16 ≤ m.state.half → 16384 < m.state.kept → counts 2 0 0 ≡ answer_of m
+  pub answer_long : is_type t ≡ true → m.state.spoilt ≡ false → is_some m.state.half ≡ false → 16384 < m.state.kept → counts 2 0 0 ≡ answer_of m
   unfolding frame_of
   answer_long h k l w =
-      by_long _ _ _ _ k (le-ltb m.state.half 16 l) (lt-leb m.state.kept 16384 w) ∙ answer_frame h
+      by_long _ _ _ _ k (waits m.state.half ∙ l) (lt-leb m.state.kept 16384 w) ∙ answer_frame h
 
-  pub answer_size : (f : List ℕ) → f ≡ take m.state.kept m.frame → is_type t ≡ true → m.state.spoilt ≡ false → 16 ≤ m.state.half → m.state.kept ≤ 16384 → size t false 0 f ≡ answer_of m
+  pub answer_size : (f : List ℕ) → f ≡ take m.state.kept m.frame → is_type t ≡ true → m.state.spoilt ≡ false → is_some m.state.half ≡ false → m.state.kept ≤ 16384 → size t false 0 f ≡ answer_of m
   unfolding frame_of
   answer_size f e h k l w =
-      ap₂ (λ (x y : List ℕ). size x false 0 y) is e ∙ by_size _ _ _ _ k (le-ltb m.state.half 16 l) (le-leb m.state.kept 16384 w) ∙ answer_frame h
+      ap₂ (λ (x y : List ℕ). size x false 0 y) is e ∙ by_size _ _ _ _ k (waits m.state.half ∙ l) (le-leb m.state.kept 16384 w) ∙ answer_frame h
 
 -- what a line end, a byte and the end of the input print
 pub line_type : (m : Machine) → m.state.line ≡ 0 → [] ≡ line_text m

@@ -1,19 +1,19 @@
 -- THE LISTING: whatever the blocks and the room of the calls, what they print from a fresh state on is the listing of the input.
 -- Assumes nothing.
-use mathlib.Core.Path.{◌≡◌, refl, sym, ap, ap₂, ◌∙◌}
+use mathlib.Core.Path.{◌≡◌, refl, sym, subst, ap, ap₂, ◌∙◌}
 use mathlib.Core.List.{List, [], ◌∷◌, ◌++◌, append_assoc, append-nil}
 use mathlib.Core.Bool.{Bool, true, false}
-use Prim.Native.Nat.{ℕ, ◌+◌, ◌-◌, ◌*◌, ◌≤◌}
+use Prim.Native.Nat.{ℕ, ◌+◌, ◌-◌, ◌*◌, ◌%◌, ◌≤◌}
 use native.Mathlib.Numerals.{add-one}
 use native.Mathlib.Omega.{arith}
 use lib.Dec.{ltb, eqb}
 use lib.ListN.{length, take, drop}
-use borrow.Author.Tests.{le-ltb, eqb-true, eqb-false, ne_eqb}
+use borrow.Author.Tests.{le-ltb, ltb-true, eqb-true, eqb-false, ne_eqb}
 use Rattle.meaning.specs.Choice.{pick}
 use Rattle.meaning.specs.TypeText.{type_of}
 use Rattle.meaning.specs.Calls.{counts}
 use Rattle.signature.specs.Places.{there_is}
-use Rattle.numerals.specs.Hexadecimal.{digit}
+use Rattle.numerals.specs.Hexadecimal.{digit, digit_in}
 use Rattle.lines.specs.Lines.{lines_from, last_line, lines, Keeps}
 use Rattle.lines.proofs.GatherLaws.{keeps_none, keeps_more}
 use Rattle.listing.specs.Listing.{answer, printed, next_number, listed_from, listed_lines, listing}
@@ -57,7 +57,7 @@ pub record InFrame (type : List ℕ) (n : ℕ) (p : List ℕ) (m : Machine) : Ty
   pub typed : type_of (take m.state.letters m.text) ≡ type_of type
   pub numbered : m.state.line ≡ n
   pub positive : n ≡ 0 → ⊥
-  pub spells : Spells p m.state.kept m.state.half m.state.spoilt m.frame
+  pub spells : Spells p m.state.kept (digit_in m.state.half) m.state.spoilt m.frame
 
 positive_next : (n : ℕ) → next_number n ≡ 0 → n ≡ 0
 unfolding next_number
@@ -95,13 +95,18 @@ module _ (type : List ℕ) (n : ℕ) (p : List ℕ) (m : Machine) (f : InFrame t
     spells = spells_none m.frame f.spells.keeps.room;
   }
 
+  -- a digit that waits keeps its value
+  digit_kept : {q : List ℕ} {kept : ℕ} {spoilt : Bool} {frame : List ℕ} (d : ℕ) → ltb d 16 ≡ true → Spells q kept d spoilt frame → Spells q kept (d % 16) spoilt frame
+  digit_kept {q} {kept} {spoilt} {frame} d h s =
+      let k = ltb-true d 16 h in subst (λ (x : ℕ). Spells q kept x spoilt frame) (omega arith) s
+
   frame_valued : (b : ℕ) → InFrame type n (p ++ (b ∷ [])) (valued m (digit b))
   unfolding valued paired halved spoiled
-  frame_valued b = go (ltb (digit b) 16) (ltb m.state.half 16) refl refl
+  frame_valued b = go (ltb (digit b) 16) (ltb (digit_in m.state.half) 16) refl refl
     where
-      go : (x y : Bool) → ltb (digit b) 16 ≡ x → ltb m.state.half 16 ≡ y → InFrame type n (p ++ (b ∷ [])) (pick x (pick y (paired m (16 * m.state.half + digit b)) (halved m (digit b))) (spoiled m))
+      go : (x y : Bool) → ltb (digit b) 16 ≡ x → ltb (digit_in m.state.half) 16 ≡ y → InFrame type n (p ++ (b ∷ [])) (pick x (pick y (paired m (16 * digit_in m.state.half + digit b)) (halved m (digit b))) (spoiled m))
       go false y h k = record { typed = f.typed; numbered = f.numbered; positive = f.positive; spells = spells_other f.spells b h }
-      go true false h k = record { typed = f.typed; numbered = f.numbered; positive = f.positive; spells = spells_first f.spells b h k }
+      go true false h k = record { typed = f.typed; numbered = f.numbered; positive = f.positive; spells = digit_kept (digit b) h (spells_first f.spells b h k) }
       go true true h k = record { typed = f.typed; numbered = f.numbered; positive = f.positive; spells = spells_second f.spells b h k }
 
 pub frames_listed : (type : List ℕ) (n : ℕ) (p : List ℕ) (m : Machine) → InFrame type n p m → (l : List ℕ) → listed m l ≡ listed_from type n (lines_from p l)

@@ -1,11 +1,11 @@
 -- The listing byte by byte, as the code goes: from a state and its two memories, what each byte prints and leaves. The law that
 -- this is the listing stands in proofs/Whole. Assumes nothing: these are definitions.
-use Rattle.std.specs.Prelude.{◌≡◌, List, [], ◌∷◌, ◌++◌, Bool, true, false, ℕ, ◌+◌, ◌-◌, ◌*◌, ◌≤◌, leb, ltb, eqb, length, take, drop}
+use Rattle.std.specs.Prelude.{◌≡◌, List, [], ◌∷◌, ◌++◌, Bool, true, false, ℕ, ◌+◌, ◌-◌, ◌*◌, ◌≤◌, leb, ltb, eqb, length, take, drop, Some, None, Option as Answer}
 use Rattle.meaning.specs.Choice.{pick}
 use Rattle.meaning.specs.Refusals.{type_refused, over_limit, not_hexadecimal}
 use Rattle.meaning.specs.Calls.{Counts, counts, size}
 use Rattle.numerals.specs.Storing.{over}
-use Rattle.numerals.specs.Hexadecimal.{digit, has_byte}
+use Rattle.numerals.specs.Hexadecimal.{digit, digit_in, has_byte}
 use Rattle.lines.specs.Lines.{more, stored}
 use Rattle.signature.specs.Places.{is_type}
 use Rattle.lines.specs.Frames.{most_bytes}
@@ -22,13 +22,13 @@ pub record Machine : Type 0 where
 abbrev pub machine : State → List ℕ → List ℕ → Machine
 machine s t f = record { state = s; text = t; frame = f }
 
-abbrev pub state_of : ℕ → ℕ → ℕ → ℕ → Bool → State
+abbrev pub state_of : ℕ → ℕ → ℕ → Answer ℕ → Bool → State
 state_of line letters kept half spoilt =
     record { line = line; letters = letters; kept = kept; half = half; spoilt = spoilt }
 
 -- no byte read: in line 0, which is the type, with no letter
 unfoldable pub fresh_state : State
-fresh_state = state_of 0 0 0 16 false
+fresh_state = state_of 0 0 0 None false
 
 -- 256 bytes of the type are kept: a text of so many is no type, whatever stands in it
 abbrev pub most_letters : ℕ
@@ -36,7 +36,7 @@ most_letters = 256
 
 -- behind a line end
 unfoldable pub ended : Machine → Machine
-ended m = machine (state_of (next_number m.state.line) m.state.letters 0 16 false) m.text m.frame
+ended m = machine (state_of (next_number m.state.line) m.state.letters 0 None false) m.text m.frame
 
 unfoldable pub lettered : Machine → ℕ → Machine
 lettered m b =
@@ -48,13 +48,13 @@ lettered m b =
 unfoldable pub paired : Machine → ℕ → Machine
 paired m b =
     machine
-    (state_of m.state.line m.state.letters (more most_bytes m.state.kept) 16 m.state.spoilt)
+    (state_of m.state.line m.state.letters (more most_bytes m.state.kept) None m.state.spoilt)
     m.text
     (stored most_bytes m.frame m.state.kept b)
 
 unfoldable pub halved : Machine → ℕ → Machine
 halved m v =
-    machine (state_of m.state.line m.state.letters m.state.kept v m.state.spoilt) m.text m.frame
+    machine (state_of m.state.line m.state.letters m.state.kept (Some v) m.state.spoilt) m.text m.frame
 
 unfoldable pub spoiled : Machine → Machine
 spoiled m =
@@ -63,7 +63,7 @@ spoiled m =
 -- a digit's value: the second of a pair, or the first, or no digit
 unfoldable pub valued : Machine → ℕ → Machine
 valued m v =
-    pick (ltb v 16) (pick (ltb m.state.half 16) (paired m (16 * m.state.half + v)) (halved m v)) (spoiled m)
+    pick (ltb v 16) (pick (ltb (digit_in m.state.half) 16) (paired m (16 * digit_in m.state.half + v)) (halved m v)) (spoiled m)
 
 -- what a byte leaves
 unfoldable pub step : Machine → ℕ → Machine
@@ -75,7 +75,7 @@ frame_by spoilt odd fits sized = pick spoilt (counts not_hexadecimal 0 0) (pick 
 
 unfoldable pub frame_of : Machine → Counts
 frame_of m =
-    frame_by m.state.spoilt (ltb m.state.half 16) (leb m.state.kept most_bytes)
+    frame_by m.state.spoilt (ltb (digit_in m.state.half) 16) (leb m.state.kept most_bytes)
     (size (take m.state.letters m.text) false 0 (take m.state.kept m.frame))
 
 unfoldable pub answer_of : Machine → Counts
@@ -91,7 +91,7 @@ output m b = pick (eqb b 10) (line_text m) []
 
 -- whether the present frame's line has a byte
 abbrev pub begun : State → Bool
-begun s = has_byte s.spoilt s.half s.kept
+begun s = has_byte s.spoilt (digit_in s.half) s.kept
 
 -- what the end of the input prints: a last line without a line end is a line if it has a byte
 unfoldable pub ending : Machine → List ℕ

@@ -7,11 +7,12 @@ use Prim.Native.Nat.{ℕ, suc, ◌+◌, ◌*◌, ◌/◌, ◌≤◌, ◌<◌}
 use native.Mathlib.Numerals.{add-one}
 use native.Mathlib.Omega.{arith}
 use lib.Dec.{ltb, leb}
-use lib.ListN.{length, take, drop, set, get_or, length-append, length-set, drop_of_length-le, take-append-drop}
-use lib.Seq.{drop-cons, drop-drop, take-suc-set, drop-set-lt, length-take-le}
+use lib.ListN.{length, take, drop, set, get_or, length-append, drop_of_length-le}
+use lib.Seq.{drop-cons, take-suc-set, take_all}
 use borrow.Author.Tests.{lt-ltb, le-ltb, ltb-true, lt-leb, le-leb}
 use Rattle.meaning.specs.Choice.{pick}
-use Rattle.numerals.specs.declared.Spelt.{Spelt}
+use Rattle.std.specs.List.{list_all}
+use Rattle.std.specs.Prelude.{Some, None, unwrap_or, Option as Answer}
 use Rattle.numerals.specs.Storing.{over}
 use Rattle.numerals.specs.Hexadecimal.{digit, before, bytes_of, bytes_behind, within, spelt, stored_bytes, Spells, all_digits}
 
@@ -107,75 +108,40 @@ unfolding within
 none_within text room e = ap (within room) e
 
 -- the ways out of `bytes`
-pub answers_none : (text out : List ℕ) (r : Spelt) → within (length out) (bytes_of text) ≡ none → r ≡ spelt none → Spells text out out r
-unfolding stored_bytes
-answers_none text out r e h = record {
-  answer = h ∙ ap spelt (sym e);
+pub answers_none : (text out : List ℕ) → within (length out) (bytes_of text) ≡ none → Spells text out out None
+unfolding spelt stored_bytes
+answers_none text out e = record {
+  answer = ap spelt (sym e);
   slice = ap (λ (x : Option (List ℕ)). over (stored_bytes x) out) (sym e);
 }
 
-pub answers_some : (text out out' : List ℕ) (count : ℕ) → bytes_of text ≡ some (take count out') → drop count out' ≡ drop count out → count ≤ length out → length out' ≡ length out → Spells text out out' (record { understood = true; count = count })
+pub answers_some : (text out front : List ℕ) (count : ℕ) → bytes_of text ≡ some front → length front ≡ count → count ≤ length out → Spells text out (front ++ drop count out) (Some count)
 unfolding spelt stored_bytes within
-answers_some text out out' count e d h k =
-    let n : length (take count out') ≡ count = length-take-le count out' (omega arith) in
-    let fits : within (length out) (bytes_of text) ≡ some (take count out') = ap (within (length out)) e ∙ ap (λ (x : Bool). pick x (some (take count out')) none) (le-leb (length (take count out')) (length out) (omega arith)) in
+answers_some text out front count e k h =
+    let fits : within (length out) (bytes_of text) ≡ some front = ap (within (length out)) e ∙ ap (λ (x : Bool). pick x (some front) none) (le-leb (length front) (length out) (omega arith)) in
     record {
-      answer = ap (λ (j : ℕ). record { understood = true; count = j }) (sym n) ∙ ap spelt (sym fits);
-      slice = sym (take-append-drop count out')
-          ∙ ap (λ (l : List ℕ). take count out' ++ l) (d ∙ ap (λ (j : ℕ). drop j out) (sym n))
-          ∙ ap (λ (x : Option (List ℕ)). over (stored_bytes x) out) (sym fits);
+      answer = ap (λ (n : ℕ). Some n) (sym k) ∙ ap spelt (sym fits);
+      slice = ap (λ (n : ℕ). front ++ drop n out) (sym k) ∙ ap (λ (x : Option (List ℕ)). over (stored_bytes x) out) (sym fits);
     }
 
--- The digits from i on are left to judge.
-pub record Judging (text : List ℕ) (i : ℕ) : Type 0 where
-  pub within : i ≤ length text
-  pub rest : all_digits text ≡ all_digits (drop i text)
-
-pub judging_begin : (text : List ℕ) → Judging text 0
-judging_begin text = record { within = omega arith; rest = refl }
-
-module _ {text : List ℕ} {i : ℕ} (j : Judging text i) where
-  pub judging_other : (d : ℕ) → i < length text → d ≡ digit (get_or text i 0) → 16 ≤ d → false ≡ all_digits text
-  judging_other d h e k =
-      sym (j.rest ∙ ap all_digits (drop-cons text i 0 h) ∙ digits_other (get_or text i 0) (drop (suc i) text) (omega arith))
-
-  pub judging_next : (d : ℕ) → i < length text → d ≡ digit (get_or text i 0) → d < 16 → Judging text (i + 1)
-  judging_next d h e k = record {
-    within = omega arith;
-    rest = j.rest
-        ∙ ap all_digits (drop-cons text i 0 h)
-        ∙ digits_tail (get_or text i 0) (drop (suc i) text) (omega arith)
-        ∙ ap (λ (n : ℕ). all_digits (drop n text)) (sym (add-one i));
-  }
-
-  pub judging_end : length text ≤ i → true ≡ all_digits text
-  unfolding all_digits
-  judging_end h = sym (j.rest ∙ ap all_digits (drop_of_length-le text h))
+-- digits alone, by std's word
+pub digits_by_all : (text : List ℕ) → list_all (λ b. ltb (digit b) 16) text ≡ all_digits text
+unfolding all_digits
+digits_by_all [] = refl
+digits_by_all (b ∷ l) = ap (λ (x : Bool). ltb (digit b) 16 && x) (digits_by_all l)
 
 -- The pairs from n on are left, behind the bytes at the front of the slice.
-pub record Pairing (text : List ℕ) (count : ℕ) (out₀ out : List ℕ) (n : ℕ) : Type 0 where
-  pub within : n ≤ count
-  pub even : length text ≡ 2 * count
-  pub kept : length out ≡ length out₀
+pub record Pairing (text out : List ℕ) (n : ℕ) : Type 0 where
   pub digits : all_digits (drop (2 * n) text) ≡ true
   pub rest : bytes_of text ≡ before (take n out) (bytes_of (drop (2 * n) text))
-  pub behind : drop n out ≡ drop n out₀
 
-pub pairing_begin : (text : List ℕ) (count : ℕ) (out : List ℕ) → length text ≡ 2 * count → all_digits text ≡ true → Pairing text count out out 0
-pairing_begin text count out e d = record {
-  within = omega arith;
-  even = e;
-  kept = refl;
-  digits = d;
-  rest = before_none (bytes_of text);
-  behind = refl;
-}
+pub pairing_begin : (text out : List ℕ) → all_digits text ≡ true → Pairing text out 0
+pairing_begin text out d = record { digits = d; rest = before_none (bytes_of text) }
 
-module _ {text : List ℕ} {count : ℕ} {out₀ out : List ℕ} {n : ℕ} (p : Pairing text count out₀ out n) where
-  module _ (h : n < count) where
+module _ {text out : List ℕ} {n : ℕ} (p : Pairing text out n) (even : length text ≡ 2 * length out) where
+  module _ (h : n < length out) where
     two : drop (2 * n) text ≡ get_or text (2 * n) 0 ∷ get_or text (2 * n + 1) 0 ∷ drop (2 * (n + 1)) text
     two =
-        let e = p.even in
         let i : 2 * n < length text = omega arith in
         let j : 2 * n + 1 < length text = omega arith in
         let k : suc (2 * n) ≡ 2 * n + 1 = omega arith in
@@ -195,16 +161,11 @@ module _ {text : List ℕ} {count : ℕ} {out₀ out : List ℕ} {n : ℕ} (p : 
     pub second_digit : digit (get_or text (2 * n + 1) 0) < 16
     second_digit = digits_head _ _ behind_first
 
-    pub pairing_next : (c d : ℕ) → count ≤ length out₀ → c ≡ digit (get_or text (2 * n) 0) → d ≡ digit (get_or text (2 * n + 1) 0) → Pairing text count out₀ (set out n (16 * c + d)) (n + 1)
-    pairing_next c d room e f =
-        let k = p.kept in
-        let i : n < length out = omega arith in
+    pub pairing_next : (c d : ℕ) → c ≡ digit (get_or text (2 * n) 0) → d ≡ digit (get_or text (2 * n + 1) 0) → Pairing text (set out n (16 * c + d)) (n + 1)
+    pairing_next c d e f =
         let byte : 16 * digit (get_or text (2 * n) 0) + digit (get_or text (2 * n + 1) 0) ≡ 16 * c + d = ap₂ (λ (x y : ℕ). 16 * x + y) (sym e) (sym f) in
-        let longer : take n out ++ ((16 * c + d) ∷ []) ≡ take (n + 1) (set out n (16 * c + d)) = sym (ap (λ (m : ℕ). take m (set out n (16 * c + d))) (add-one n) ∙ take-suc-set out n (16 * c + d) i) in
+        let longer : take n out ++ ((16 * c + d) ∷ []) ≡ take (n + 1) (set out n (16 * c + d)) = sym (ap (λ (m : ℕ). take m (set out n (16 * c + d))) (add-one n) ∙ take-suc-set out n (16 * c + d) h) in
         record {
-          within = omega arith;
-          even = p.even;
-          kept = length-set out n (16 * c + d) ∙ p.kept;
           digits = sym (digits_tail _ _ second_digit) ∙ behind_first;
           rest = p.rest
               ∙ ap (λ (t : List ℕ). before (take n out) (bytes_of t)) two
@@ -212,42 +173,29 @@ module _ {text : List ℕ} {count : ℕ} {out₀ out : List ℕ} {n : ℕ} (p : 
               ∙ before_before (take n out) _ (bytes_of (drop (2 * (n + 1)) text))
               ∙ ap (λ (x : ℕ). before (take n out ++ (x ∷ [])) (bytes_of (drop (2 * (n + 1)) text))) byte
               ∙ ap (λ (t : List ℕ). before t (bytes_of (drop (2 * (n + 1)) text))) longer;
-          behind = drop-set-lt (n + 1) out n (16 * c + d) (omega arith)
-              ∙ sym (drop-drop 1 n out)
-              ∙ ap (drop 1) p.behind
-              ∙ drop-drop 1 n out₀;
         }
 
-  pub pairing_end : count ≤ n → bytes_of text ≡ some (take count out)
+  pub pairing_end : length out ≤ n → bytes_of text ≡ some out
   unfolding bytes_of before
   pairing_end h =
-      let w = p.within in
-      let e = p.even in
-      let m : n ≡ count = omega arith in
       let far : length text ≤ 2 * n = omega arith in
       p.rest
       ∙ ap (λ (t : List ℕ). before (take n out) (bytes_of t)) (drop_of_length-le text far)
-      ∙ ap (λ (l : List ℕ). some l) (append-nil (take n out) ∙ ap (λ (k : ℕ). take k out) m)
-
-  pub pairing_behind : count ≤ n → drop count out ≡ drop count out₀
-  pairing_behind h =
-      let w = p.within in
-      let m : n ≡ count = omega arith in
-      ap (λ (k : ℕ). drop k out) (sym m) ∙ p.behind ∙ ap (λ (k : ℕ). drop k out₀) m
+      ∙ ap (λ (l : List ℕ). some l) (append-nil (take n out) ∙ take_all n out h)
 
 -- the bytes that are spelt are in the slice
-count_fits : (x : Option (List ℕ)) (out : List ℕ) → (spelt (within (length out) x)).count ≤ length (over (stored_bytes (within (length out) x)) out)
+count_fits : (x : Option (List ℕ)) (out : List ℕ) → unwrap_or (spelt (within (length out) x)) 0 ≤ length (over (stored_bytes (within (length out) x)) out)
 unfolding spelt stored_bytes within
 count_fits none out = omega arith
 count_fits (some l) out = go (leb (length l) (length out))
   where
-    go : (x : Bool) → (spelt (pick x (some l) none)).count ≤ length (over (stored_bytes (pick x (some l) none)) out)
+    go : (x : Bool) → unwrap_or (spelt (pick x (some l) none)) 0 ≤ length (over (stored_bytes (pick x (some l) none)) out)
     go true = simp length-append (omega arith)
     go false = omega arith
 
-pub spells_fits : {text out out' : List ℕ} {r : Spelt} → Spells text out out' r → r.count ≤ length out'
+pub spells_fits : {text out out' : List ℕ} {r : Answer ℕ} → Spells text out out' r → unwrap_or r 0 ≤ length out'
 spells_fits {text} {out} {out'} {r} s =
-    let e = ap (λ (x : Spelt). x.count) s.answer in
+    let e = ap (λ (x : Answer ℕ). unwrap_or x 0) s.answer in
     let f = ap length s.slice in
     let k = count_fits (bytes_of text) out in
     omega arith

@@ -1,17 +1,18 @@
 -- The digits of a number: how many there are, and how they are stored, the last of them first. Assumes nothing.
-use mathlib.Core.Path.{◌≡◌, refl, ap, ◌∙◌}
-use mathlib.Core.List.{List, [], ◌∷◌, ◌++◌}
+use mathlib.Core.Path.{◌≡◌, refl, sym, ap, ap₂, ◌∙◌}
+use mathlib.Core.List.{List, [], ◌∷◌, ◌++◌, append_assoc, append-nil}
 use mathlib.Core.Bool.{Bool, true, false}
 use Prim.Native.Nat.{ℕ, zero, suc, ◌+◌, ◌-◌, ◌/◌, ◌%◌, ◌≤◌, ◌<◌}
 use native.Mathlib.Omega.{arith}
 use lib.Dec.{ltb}
-use lib.ListN.{length, set, length-append, length-set}
-use lib.Seq.{sets}
+use lib.ListN.{length, take, drop, set, length-append, length-set, drop_of_length-le}
+use lib.Seq.{sets, sets-eq, drop-cons, drop-drop, drop-set-lt, get_or-set_same}
+use borrow.Rule.Slice.PartMut.{put_mid}
 use borrow.Author.Tests.{lt-ltb, le-ltb, ltb-true}
 use Rattle.meaning.specs.Choice.{pick}
 use Rattle.numerals.specs.Storing.{Puts, Stores}
 use Rattle.numerals.specs.Decimals.{digits, numeral}
-use Rattle.numerals.proofs.StoringLaws.{sets_last, puts_byte, puts_fits, stores_room, stores_puts, stores_none}
+use Rattle.numerals.proofs.StoringLaws.{puts_byte, puts_fits, stores_room, stores_puts, stores_none}
 
 -- how many there are
 pub digits_few : (p n : ℕ) → n < 10 → length (digits (suc p) n) ≡ 1
@@ -79,69 +80,62 @@ digits_last (suc p) n = go (ltb n 10) refl (digits_last p (n / 10))
         let k : length (digits p (n / 10) ++ ((48 + n % 10) ∷ [])) ≡ suc (length (digits p (n / 10))) = simp length-append (omega arith) in
         ap (λ (j : ℕ). last_digits j n) k ∙ ap (λ (l : List ℕ). l ++ ((48 + n % 10) ∷ [])) e
 
--- a digit stored, and those before it still to store
-pub digits_next : (l : List ℕ) (at i n : ℕ) → 0 < i → sets (set l (at + (i - 1)) (48 + n % 10)) at (last_digits (i - 1) (n / 10)) ≡ sets l at (last_digits i n)
+-- The last i digits of the number rest are left to store, in front of those that are stored.
+abbrev pub Storing : ℕ → ℕ → ℕ → List ℕ → Type 0
+Storing n i rest out = last_digits i rest ++ drop i out ≡ digits 20 n
+
+pub storing_begin : (n : ℕ) (out : List ℕ) → length out ≡ length (digits 20 n) → Storing n (length out) n out
+storing_begin n out e =
+    ap₂ (λ (k : ℕ) (l : List ℕ). last_digits k n ++ l) e (drop_of_length-le out (omega arith)) ∙ append-nil _ ∙ digits_last 20 n
+
+pub storing_next : (n i rest : ℕ) (out : List ℕ) → 0 < i → i ≤ length out → Storing n i rest out → Storing n (i - 1) (rest / 10) (set out (i - 1) (48 + rest % 10))
 unfolding last_digits
-digits_next l at zero n h = (let never : ⊥ = omega arith in absurd never)
-digits_next l at (suc i) n h =
+storing_next n zero rest out h k s = (let never : ⊥ = omega arith in absurd never)
+storing_next n (suc i) rest out h k s =
     let e : suc i - 1 ≡ i = omega arith in
-    rw e (sets_last (last_digits i (n / 10)) l at (48 + n % 10) i (length_last i (n / 10)))
+    let d = 48 + rest % 10 in
+    let w : i < length (set out i d) = omega (arith, length-set out i d) in
+    rw e (ap (λ (l : List ℕ). last_digits i (rest / 10) ++ l) (drop-cons (set out i d) i 0 w ∙ ap₂ (λ (x : ℕ) (l : List ℕ). x ∷ l) (get_or-set_same out i d 0 (omega arith)) (drop-set-lt (suc i) out i d (omega arith)))
+    ∙ sym (append_assoc (last_digits i (rest / 10)) (d ∷ []) (drop (suc i) out))
+    ∙ s)
 
--- The digits that are left to store, i of them, of the number rest.
-pub record Storing (n at count i rest : ℕ) (out₀ out : List ℕ) : Type 0 where
-  pub fewer : i ≤ count
-  pub kept : length out ≡ length out₀
-  pub left : sets out at (last_digits i rest) ≡ sets out₀ at (digits 20 n)
+pub storing_end : (n i rest : ℕ) (out : List ℕ) → i ≤ 0 → Storing n i rest out → out ≡ digits 20 n
+unfolding last_digits
+storing_end n zero rest out h s = s
+storing_end n (suc i) rest out h s = (let never : ⊥ = omega arith in absurd never)
 
-module _ (n at count : ℕ) (out₀ : List ℕ) where
-  pub storing_begin : count ≡ length (digits 20 n) → Storing n at count count n out₀ out₀
-  storing_begin e = record {
-    fewer = omega arith;
-    kept = refl;
-    left = ap (λ (l : List ℕ). sets out₀ at l) (ap (λ (k : ℕ). last_digits k n) e ∙ digits_last 20 n);
-  }
+-- The digits of the number rest are to be counted, behind those that are: count is one above these.
+pub record Counting (n count rest : ℕ) : Type 0 where
+  pub few : (1 ≤ count) × (count ≤ 20)
+  pub counted : length (digits 20 n) + 1 ≡ count + length (digits (21 - count) rest)
 
-  pub storing_next : (i rest : ℕ) (out : List ℕ) → 0 < i → Storing n at count i rest out₀ out → Storing n at count (i - 1) (rest / 10) out₀ (set out (at + (i - 1)) (48 + rest % 10))
-  storing_next i rest out h s = let f = s.fewer in record {
-    fewer = omega arith;
-    kept = length-set out (at + (i - 1)) (48 + rest % 10) ∙ s.kept;
-    left = digits_next out at i rest h ∙ s.left;
-  }
+pub counting_begin : (n : ℕ) → Counting n 1 n
+counting_begin n = record { few = omega arith; counted = omega arith }
 
-  pub storing_end : (i rest : ℕ) (out : List ℕ) → i ≤ 0 → Storing n at count i rest out₀ out → out ≡ sets out₀ at (digits 20 n)
-  unfolding last_digits
-  storing_end zero rest out h s = s.left
-  storing_end (suc i) rest out h s = (let never : ⊥ = omega arith in absurd never)
+module _ (n count rest : ℕ) (c : Counting n count rest) where
+  long : 21 - count ≡ suc (20 - count)
+  long = let f = c.few in omega arith
 
--- The digits that are left to count, those of the number rest, where `left` places may follow the first.
-pub record Counting (n left rest : ℕ) : Type 0 where
-  pub fewer : left ≤ 19
-  pub counted : length (digits 20 n) ≡ 19 - left + length (digits (suc left) rest)
+  counted_here : length (digits 20 n) + 1 ≡ count + length (digits (suc (20 - count)) rest)
+  counted_here = c.counted ∙ ap (λ (k : ℕ). count + length (digits k rest)) long
 
-pub counting_begin : (n : ℕ) → Counting n 19 n
-counting_begin n = record { fewer = omega arith; counted = omega arith }
+  pub counting_next : count < 20 → 10 ≤ rest → Counting n (count + 1) (rest / 10)
+  counting_next h k =
+      let e = digits_many (20 - count) rest k in
+      let f = counted_here in
+      let m : 20 - count ≡ 21 - (count + 1) = omega arith in
+      let g = ap (λ (j : ℕ). length (digits j (rest / 10))) m in
+      record { few = omega arith; counted = omega arith }
 
-module _ (n left rest : ℕ) (c : Counting n left rest) where
-  pub counting_next : 0 < left → 10 ≤ rest → Counting n (left - 1) (rest / 10)
-  counting_next h k = go left c h
-    where
-      go : (p : ℕ) → Counting n p rest → 0 < p → Counting n (p - 1) (rest / 10)
-      go zero d i = (let never : ⊥ = omega arith in absurd never)
-      go (suc p) d i =
-          let e = digits_many (suc p) rest k in
-          let f = d.counted in
-          let g = d.fewer in
-          let m : suc p - 1 ≡ p = omega arith in
-          rw m (record { fewer = omega arith; counted = omega arith })
+  pub counting_few : rest < 10 → count ≡ length (digits 20 n)
+  counting_few h = let e = digits_few (20 - count) rest h in let f = counted_here in omega arith
 
-  pub counting_few : rest < 10 → 20 - left ≡ length (digits 20 n)
-  counting_few h = let e = digits_few left rest h in let f = c.counted in let g = c.fewer in omega arith
-
-  pub counting_end : left ≤ 0 → 20 ≡ length (digits 20 n)
+  pub counting_end : 20 ≤ count → 20 ≡ length (digits 20 n)
   counting_end h =
-      let z : left ≡ 0 = omega arith in
+      let w = c.few in
+      let z : 21 - count ≡ 1 = omega arith in
       let o = digits_one rest in
-      let e = c.counted ∙ ap (λ (k : ℕ). 19 - k + length (digits (suc k) rest)) z in
+      let e = c.counted ∙ ap (λ (k : ℕ). count + length (digits k rest)) z in
       omega arith
 
 -- the ways out of `put_decimal`
@@ -153,11 +147,13 @@ module _ (l : List ℕ) (at n end count : ℕ) (e : count ≡ length (digits 20 
   pub decimal_none : length l ≤ at + count → Stores l l at (numeral n end) at
   decimal_none h = let k = length_numeral n end in stores_none l at (numeral n end) (omega arith)
 
-  pub decimal_stored : (m : List ℕ) → at + count < length l → m ≡ sets l at (digits 20 n) → Stores l (set m (at + count) end) at (numeral n end) (at + count + 1)
+  pub decimal_stored : (t : List ℕ) (k : ℕ) → at + count < length l → t ≡ digits 20 n → k ≡ count → Stores l (set (put_mid at k l t) (at + count) end) at (numeral n end) (at + count + 1)
   unfolding numeral
-  decimal_stored m h s =
-      let k = length_numeral n end in
-      let p : Puts l m at (digits 20 n) (at + count) = record { next = ap (λ (x : ℕ). at + x) e; slice = s } in
+  decimal_stored t k h s f =
+      let j = length_numeral n end in
+      let whole : put_mid at k l t ≡ take at l ++ (digits 20 n ++ drop (at + length (digits 20 n)) l) = ap₂ (λ (u : List ℕ) (i : ℕ). put_mid at i l u) s (f ∙ e) ∙ ap (λ (u : List ℕ). take at l ++ (digits 20 n ++ u)) (drop-drop (length (digits 20 n)) at l) in
+      let stored : put_mid at k l t ≡ sets l at (digits 20 n) = whole ∙ sym (append_assoc (take at l) (digits 20 n) _) ∙ sym (sets-eq (digits 20 n) l at (omega arith)) in
+      let p : Puts l (put_mid at k l t) at (digits 20 n) (at + count) = record { next = ap (λ (x : ℕ). at + x) e; slice = stored } in
       stores_room (omega arith) (puts_byte end p)
 
 -- where every number has room

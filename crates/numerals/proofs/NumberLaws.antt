@@ -3,7 +3,7 @@ use mathlib.Core.Path.{◌≡◌, refl, sym, ap, ap₂, ◌∙◌}
 use mathlib.Core.List.{List, [], ◌∷◌, ◌++◌}
 use mathlib.Core.Option.{Option, none, some}
 use mathlib.Core.Bool.{Bool, true, false}
-use Prim.Native.Nat.{ℕ, zero, suc, ◌+◌, ◌-◌, ◌*◌, ◌/◌, ◌%◌, ◌^◌, ◌≤◌, ◌<◌}
+use Prim.Native.Nat.{ℕ, zero, suc, ◌+◌, ◌*◌, ◌/◌, ◌%◌, ◌^◌, ◌≤◌, ◌<◌}
 use native.Mathlib.Nat.{pow-suc}
 use native.Mathlib.Numerals.{add-one}
 use native.Mathlib.Omega.{arith}
@@ -11,6 +11,7 @@ use lib.Dec.{ltb}
 use lib.ListN.{length, drop, get_or, drop_of_length-le}
 use lib.Seq.{drop-cons}
 use borrow.Author.Tests.{lt-ltb, le-ltb, ltb-true, lt-leb, le-leb}
+use Rattle.std.specs.Prelude.{Some, None}
 use Rattle.meaning.specs.Choice.{pick}
 use Rattle.numerals.specs.Hexadecimal.{digit}
 use Rattle.numerals.specs.Decimals.{digits, number_behind, fitting, number_of, understood}
@@ -42,59 +43,48 @@ number_some (b ∷ l) h = refl
 
 -- The digits from i on are left, behind those that spell v.
 pub record Spelling (text : List ℕ) (i v : ℕ) : Type 0 where
-  pub within : i ≤ length text
   pub fits : v ≤ 18446744073709551615
   pub rest : number_behind 0 text ≡ number_behind v (drop i text)
 
 pub spelling_begin : (text : List ℕ) → Spelling text 0 0
-spelling_begin text = record { within = omega arith; fits = omega arith; rest = refl }
+spelling_begin text = record { fits = omega arith; rest = refl }
 
 module _ (text : List ℕ) (i v : ℕ) (s : Spelling text i v) where
   module _ (h : i < length text) where
     here : number_behind 0 text ≡ number_behind v (get_or text i 0 ∷ drop (suc i) text)
     here = s.rest ∙ ap (number_behind v) (drop-cons text i 0 h)
 
-    refused : fitting (number_behind 0 text) ≡ none → understood none ≡ understood (number_of text)
+    refused : fitting (number_behind 0 text) ≡ none → None ≡ understood (number_of text)
+    unfolding understood
     refused e = ap understood (sym (number_some text (omega arith) ∙ e))
 
-    pub spelling_other : (d : ℕ) → d ≡ digit (get_or text i 0) → 9 < d → understood none ≡ understood (number_of text)
+    pub spelling_other : 10 ≤ digit (get_or text i 0) → None ≡ understood (number_of text)
     unfolding fitting
-    spelling_other d e k = refused (ap fitting (here ∙ behind_other v (get_or text i 0) (drop (suc i) text) (omega arith)))
+    spelling_other k = refused (ap fitting (here ∙ behind_other v (get_or text i 0) (drop (suc i) text) k))
 
-    pub spelling_over : (d : ℕ) → d ≡ digit (get_or text i 0) → d ≤ 9 → (18446744073709551615 - d) / 10 < v → understood none ≡ understood (number_of text)
-    spelling_over d e k o =
-        let over : 18446744073709551615 < 10 * v + digit (get_or text i 0) = omega arith in
-        refused (ap fitting (here ∙ behind_digit v (get_or text i 0) (drop (suc i) text) (omega arith)) ∙ fitting_over _ (drop (suc i) text) over)
+    pub spelling_over : digit (get_or text i 0) < 10 → 18446744073709551615 < 10 * v + digit (get_or text i 0) → None ≡ understood (number_of text)
+    spelling_over k o =
+        refused (ap fitting (here ∙ behind_digit v (get_or text i 0) (drop (suc i) text) k) ∙ fitting_over _ (drop (suc i) text) o)
 
-    pub spelling_next : (d : ℕ) → d ≡ digit (get_or text i 0) → d ≤ 9 → v ≤ (18446744073709551615 - d) / 10 → Spelling text (i + 1) (10 * v + d)
-    spelling_next d e k o = record {
-      within = omega arith;
-      fits = omega arith;
+    pub spelling_next : (w : ℕ) → digit (get_or text i 0) < 10 → w ≡ 10 * v + digit (get_or text i 0) → w ≤ 18446744073709551615 → Spelling text (i + 1) w
+    spelling_next w k e o = record {
+      fits = o;
       rest = here
-          ∙ behind_digit v (get_or text i 0) (drop (suc i) text) (omega arith)
-          ∙ ap (λ (x : ℕ). number_behind (10 * v + x) (drop (suc i) text)) (sym e)
-          ∙ ap (λ (k : ℕ). number_behind (10 * v + d) (drop k text)) (sym (add-one i));
+          ∙ behind_digit v (get_or text i 0) (drop (suc i) text) k
+          ∙ ap₂ (λ (x k : ℕ). number_behind x (drop k text)) (sym e) (sym (add-one i));
     }
 
-spelling_all : (text : List ℕ) (i v : ℕ) → Spelling text i v → length text ≤ i → number_behind 0 text ≡ some v
-unfolding number_behind
-spelling_all text i v s h = s.rest ∙ ap (number_behind v) (drop_of_length-le text h)
+  pub spelling_end : length text ≤ i → 0 < length text → Some v ≡ understood (number_of text)
+  unfolding understood fitting number_behind
+  spelling_end h k =
+      sym (ap understood (number_some text k ∙ ap fitting (s.rest ∙ ap (number_behind v) (drop_of_length-le text h)))
+      ∙ ap (λ (x : Bool). understood (pick x (some v) none)) (le-leb v 18446744073709551615 s.fits))
 
-abbrev or_zero : Option ℕ → ℕ
-or_zero none = 0
-or_zero (some n) = n
-
-pub spelling_end : (text : List ℕ) (i v : ℕ) → Spelling text i v → length text ≤ i → record { understood = ltb 0 i; value = v } ≡ understood (number_of text)
-unfolding understood fitting number_of number_behind
-spelling_end [] i v s h =
-    let n : i ≤ 0 = s.within in
-    let z : 0 ≡ v = ap or_zero (spelling_all [] i v s h) in
-    ap₂ (λ (x : Bool) (k : ℕ). record { understood = x; value = k }) (le-ltb 0 i n) (sym z)
-spelling_end (b ∷ l) i v s h =
-    let some_digit : 0 < i = omega arith in
-    ap (λ (x : Bool). record { understood = x; value = v }) (lt-ltb 0 i some_digit)
-    ∙ sym (ap (λ (x : Option ℕ). understood (fitting x)) (spelling_all (b ∷ l) i v s h)
-    ∙ ap (λ (x : Bool). understood (pick x (some v) none)) (le-leb v 18446744073709551615 s.fits))
+-- no text, no number
+pub spelling_none : (text : List ℕ) → length text ≡ 0 → None ≡ understood (number_of text)
+unfolding understood number_of
+spelling_none [] h = refl
+spelling_none (b ∷ l) h = (let never : ⊥ = omega arith in absurd never)
 
 -- the digits of a number spell it
 abbrev and_then : ℕ → Option ℕ → Option ℕ

@@ -1,6 +1,7 @@
 -- Each public contract leaves one answer: said of what the function's own clauses state. Assumes nothing.
 use mathlib.Core.Path.{refl, sym, ◌∙◌}
 use Rattle.meaning.specs.OneAnswer.{OneAnswer}
+use Rattle.numerals.proofs.DigitLaws.{digit_one}
 use Rattle.numerals.proofs.digit.Kinds as digit_kinds
 use Rattle.numerals.proofs.digit.Reads as digit
 use Rattle.numerals.proofs.begun.Kinds as begun_kinds
@@ -13,7 +14,7 @@ use Rattle.numerals.proofs.put_decimal.Kinds as put_decimal_kinds
 use Rattle.numerals.proofs.put_decimal.Reads as put_decimal
 
 pub digit_unique : OneAnswer digit_kinds.ps digit_kinds.r digit.Learnt
-digit_unique κs a z z' w w' p q = (p.0 ∙ sym q.0, refl)
+digit_unique κs a z z' w w' p q = (digit_one _ _ (p.0 ∙ sym q.0) p.1 q.1, refl)
 
 pub begun_unique : OneAnswer begun_kinds.ps begun_kinds.r begun.Learnt
 begun_unique κs a z z' w w' p q = (p ∙ sym q, refl)

@@ -1,10 +1,9 @@
 -- Numbers in decimal: the text of a number, and the number that a text spells. Assumes nothing: these are definitions.
-use Rattle.std.specs.Prelude.{List, [], ◌∷◌, ◌++◌, true, false, ℕ, zero, suc, ◌+◌, ◌*◌, ◌/◌, ◌%◌, leb, ltb}
+use Rattle.std.specs.Prelude.{List, [], ◌∷◌, ◌++◌, ℕ, zero, suc, ◌+◌, ◌*◌, ◌/◌, ◌%◌, leb, ltb, Some, None, Option as Answer}
 use Rattle.std.proofs.Math.Option.{Option, none, some}
 use Rattle.meaning.specs.Choice.{pick}
 use Rattle.meaning.specs.Limits.{largest_number}
 use Rattle.numerals.specs.Hexadecimal.{digit}
-use Rattle.numerals.specs.declared.Number.{Number}
 
 -- the decimal digits of a number, or the last of them where it has more than so many
 unfoldable pub digits : ℕ → ℕ → List ℕ
@@ -31,6 +30,6 @@ number_of [] = none
 number_of (b ∷ l) = fitting (number_behind 0 (b ∷ l))
 
 -- what `decimal` answers
-unfoldable pub understood : Option ℕ → Number
-understood none = record { understood = false; value = 0 }
-understood (some n) = record { understood = true; value = n }
+unfoldable pub understood : Option ℕ → Answer ℕ
+understood none = None
+understood (some n) = Some n

@@ -1,9 +1,8 @@
 -- Bytes in hexadecimal: the value of a digit, and the bytes that pairs of digits spell. Assumes nothing: these are definitions.
-use Rattle.std.specs.Prelude.{◌≡◌, List, [], ◌∷◌, ◌++◌, Bool, true, false, ◌&&◌, ℕ, ◌+◌, ◌-◌, ◌*◌, leb, ltb, length}
+use Rattle.std.specs.Prelude.{◌≡◌, List, [], ◌∷◌, ◌++◌, Bool, true, ◌&&◌, ℕ, ◌+◌, ◌-◌, ◌*◌, ◌%◌, leb, ltb, length, Some, None, Option as Answer}
 use Rattle.std.proofs.Math.Option.{Option, none, some}
 use Rattle.meaning.specs.Choice.{pick}
 use Rattle.numerals.specs.Storing.{over}
-use Rattle.numerals.specs.declared.Spelt.{Spelt}
 
 abbrev pub among : ℕ → ℕ → ℕ → Bool
 among low high b = leb low b && leb b high
@@ -11,6 +10,11 @@ among low high b = leb low b && leb b high
 -- the value of a hexadecimal digit, 0 to 9, A to F or a to f; 16 for any other byte
 unfoldable pub digit : ℕ → ℕ
 digit b = pick (among 48 57 b) (b - 48) (pick (among 65 70 b) (b - 55) (pick (among 97 102 b) (b - 87) 16))
+
+-- the value of a digit that is there, 16 where none is; of a number that is no digit's value its last digit counts
+abbrev pub digit_in : Answer ℕ → ℕ
+digit_in None = 16
+digit_in (Some d) = d % 16
 
 unfoldable pub before : List ℕ → Option (List ℕ) → Option (List ℕ)
 before front none = none
@@ -36,16 +40,16 @@ within room none = none
 within room (some l) = pick (leb (length l) room) (some l) none
 
 -- how many, and which they are
-unfoldable pub spelt : Option (List ℕ) → Spelt
-spelt none = record { understood = false; count = 0 }
-spelt (some l) = record { understood = true; count = length l }
+unfoldable pub spelt : Option (List ℕ) → Answer ℕ
+spelt none = None
+spelt (some l) = Some (length l)
 
 unfoldable pub stored_bytes : Option (List ℕ) → List ℕ
 stored_bytes none = []
 stored_bytes (some l) = l
 
 -- THE ANSWER OF `bytes`: r, where the slice out is then out': the bytes that the text spells stand at its front, if they have room
-pub record Spells (text out out' : List ℕ) (r : Spelt) : Type 0 where
+pub record Spells (text out out' : List ℕ) (r : Answer ℕ) : Type 0 where
   pub answer : r ≡ spelt (within (length out) (bytes_of text))
   pub slice : out' ≡ over (stored_bytes (within (length out) (bytes_of text))) out
 

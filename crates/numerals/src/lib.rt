@@ -1,154 +1,94 @@
 // Bytes in hexadecimal and numbers in decimal: with `lines`, what the programs that read and print text share.
 #![tactic(auto)]
 
-ghost use Rattle.std.specs.Prelude.{◌≡◌, true, ◌+◌, ◌*◌, ◌≤◌, length, take, drop};
-ghost use Rattle.std.proofs.Math.Option.{none, some};
+ghost use Rattle.std.specs.Prelude.{◌≡◌, true, ◌+◌, ◌*◌, ◌<◌, ◌≤◌, ltb, length, IfSome, MatchOption};
+ghost use Rattle.std.proofs.Math.Option.{some};
 ghost use Rattle.std.proofs.lemmas.List.Edits.{sets};
 ghost use Rattle.numerals.specs.Storing.{Stores};
-ghost use Rattle.numerals.specs.Hexadecimal.{digit as digit_of, has_byte, bytes_of, spelt, all_digits, Spells};
+ghost use Rattle.numerals.specs.Hexadecimal.{digit as digit_of, digit_in, has_byte, bytes_of, all_digits, Spells};
 ghost use Rattle.numerals.specs.Decimals.{digits, numeral, number_of, understood};
 
-// Whether a text spells bytes, and how many.
-#[derive(Clone, Copy)]
-pub struct Spelt {
-    pub understood: bool,
-    pub count: usize,
-}
-
-// Whether a text spells a number, and which.
-#[derive(Clone, Copy)]
-pub struct Number {
-    pub understood: bool,
-    pub value: u64,
-}
-
-// The value of a hexadecimal digit, 16 for any other byte.
-pub fn digit(byte: u8) -> u8
-    ensures { (result ≡ digit_of byte) × (result ≤ 16) }
+// The value of a hexadecimal digit.
+pub fn digit(byte: u8) -> Option<u8>
+    ensures value { digit_in result ≡ digit_of byte }
+    ensures small { IfSome result (λ d. d < 16) }
 {
-    if byte < b'0' {
-        return 16;
+    match byte {
+        b'0'..=b'9' => Some(byte - b'0'),
+        b'A'..=b'F' => Some(byte - b'A' + 10),
+        b'a'..=b'f' => Some(byte - b'a' + 10),
+        _ => None,
     }
-    if byte <= b'9' {
-        return byte - b'0';
-    }
-    if byte < b'A' {
-        return 16;
-    }
-    if byte <= b'F' {
-        return byte - 55;
-    }
-    if byte < b'a' {
-        return 16;
-    }
-    if byte <= b'f' {
-        return byte - 87;
-    }
-    16
 }
 
 // Whether a line of hexadecimal has a byte, by what is kept of it: whether it is spoilt by a byte that is no digit, the value of a pair's
-// first digit, 16 where none waits, and how many bytes its pairs have spelled.
-pub fn begun(spoilt: bool, half: u8, kept: usize) -> bool
-    ensures { result ≡ has_byte spoilt half kept }
+// first digit where one waits, and how many bytes its pairs have spelled.
+pub fn begun(spoilt: bool, half: Option<u8>, kept: usize) -> bool
+    ensures { result ≡ has_byte spoilt (digit_in half) kept }
 {
-    if spoilt {
-        return true;
-    }
-    if half < 16 {
-        return true;
-    }
-    0 < kept
+    spoilt || half.is_some() || 0 < kept
 }
 
-// Puts the bytes that a text spells at the front of a slice, if it spells bytes and they have room.
-pub fn bytes(text: &[u8], out: &mut [u8]) -> Spelt
+// Puts the bytes that a text spells at the front of a slice, if it spells bytes and they have room: how many, then.
+pub fn bytes(text: &[u8], out: &mut [u8]) -> Option<usize>
     ensures { Spells text.now out.old out.new result }
 {
     let count = text.len() / 2;
-    if text.len() != 2 * count {
-        return no_bytes();
+    if text.len() != 2 * count || out.len() < count || !all_digits(text) {
+        return None;
     }
-    if out.len() < count {
-        return no_bytes();
-    }
-    if !all_digits(text) {
-        return no_bytes();
-    }
-    put_bytes(text, count, out);
-    Spelt {
-        understood: true,
-        count,
-    }
-}
-
-fn no_bytes() -> Spelt
-    ensures { result ≡ spelt none }
-{
-    Spelt {
-        understood: false,
-        count: 0,
-    }
+    put_bytes(text, &mut out[..count]);
+    Some(count)
 }
 
 fn all_digits(text: &[u8]) -> bool
     ensures { result ≡ all_digits text.now }
 {
-    let mut i = 0;
-    while i < text.len() {
-        if 16 <= digit(text[i]) {
-            return false;
-        }
-        i += 1;
-    }
-    true
+    text.iter().all(|byte| is_digit(*byte))
+}
+
+fn is_digit(byte: u8) -> bool
+    ensures { result ≡ ltb (digit_of byte) 16 }
+{
+    digit(byte).is_some()
 }
 
 // The bytes that a text of digits spells.
-fn put_bytes(text: &[u8], count: usize, out: &mut [u8])
-    requires { (length text.now ≡ 2 * count) × (count ≤ length out.old) × (all_digits text.now ≡ true) }
-    ensures text_value { bytes_of text.now ≡ some (take count out.new) }
-    ensures out_unchanged { drop count out.new ≡ drop count out.old }
+fn put_bytes(text: &[u8], out: &mut [u8])
+    requires even { length text.now ≡ 2 * length out.old }
+    requires digits { all_digits text.now ≡ true }
+    ensures { bytes_of text.now ≡ some out.new }
 {
-    let mut n = 0;
-    while n < count {
-        let first = digit(text[2 * n]);
-        let second = digit(text[2 * n + 1]);
-        out[n] = 16 * first + second;
-        n += 1;
+    for (n, byte) in out.iter_mut().enumerate() {
+        *byte = 16 * value_of(text[2 * n]) + value_of(text[2 * n + 1]);
     }
+}
+
+// The value of a byte that is a digit.
+fn value_of(byte: u8) -> u8
+    requires { digit_of byte < 16 }
+    ensures { result ≡ digit_of byte }
+{
+    digit(byte).unwrap()
 }
 
 // The number that a text spells in decimal, up to the largest of 64 bits.
-pub fn decimal(text: &[u8]) -> Number
+pub fn decimal(text: &[u8]) -> Option<u64>
     ensures { result ≡ understood (number_of text.now) }
 {
-    let mut value = 0;
-    let mut i = 0;
-    while i < text.len() {
-        let ones = digit(text[i]) as u64;
-        if 9 < ones {
-            return no_number();
-        }
-        if (u64::MAX - ones) / 10 < value {
-            return no_number();
-        }
-        value = 10 * value + ones;
-        i += 1;
+    let mut value = 0u64;
+    for byte in text {
+        let ones = ones_of(*byte)?;
+        value = value.checked_mul(10)?.checked_add(u64::from(ones))?;
     }
-    Number {
-        understood: 0 < i,
-        value,
-    }
+    if text.is_empty() { None } else { Some(value) }
 }
 
-fn no_number() -> Number
-    ensures { result ≡ understood none }
+// The value of a decimal digit.
+fn ones_of(byte: u8) -> Option<u8>
+    ensures { MatchOption result (10 ≤ digit_of byte) (λ d. (d ≡ digit_of byte) × (d < 10)) }
 {
-    Number {
-        understood: false,
-        value: 0,
-    }
+    digit(byte).filter(|ones| *ones < 10)
 }
 
 // Puts a number in decimal and a byte behind it from a place on, if they have room there. Says the place behind them.
@@ -156,42 +96,36 @@ pub fn put_decimal(n: u64, end: u8, out: &mut [u8], at: usize) -> usize
     ensures { Stores out.old out.new at (numeral n end) result }
 {
     let count = places(n);
-    if out.len() <= at {
+    if out.len() <= at || out.len() - at <= count {
         return at;
     }
-    if out.len() - at <= count {
-        return at;
-    }
-    put_digits(n, count, out, at);
+    put_digits(n, &mut out[at..at + count]);
     out[at + count] = end;
     at + count + 1
 }
 
 // How many digits a number has.
 fn places(n: u64) -> usize
-    ensures { (result ≡ length (digits 20 n)) × (result ≤ 20) }
+    ensures value { result ≡ length (digits 20 n) }
+    ensures few { result ≤ 20 }
 {
     let mut rest = n;
-    let mut left = 19;
-    while 0 < left {
+    for count in 1..20 {
         if rest < 10 {
-            return 20 - left;
+            return count;
         }
         rest /= 10;
-        left -= 1;
     }
     20
 }
 
-fn put_digits(n: u64, count: usize, out: &mut [u8], at: usize)
-    requires { (count ≡ length (digits 20 n)) × (at + count ≤ length out.old) }
-    ensures { out.new ≡ sets out.old at (digits 20 n) }
+fn put_digits(n: u64, out: &mut [u8])
+    requires { length out.old ≡ length (digits 20 n) }
+    ensures { out.new ≡ digits 20 n }
 {
     let mut rest = n;
-    let mut i = count;
-    while 0 < i {
-        i -= 1;
-        out[at + i] = 48 + (rest % 10) as u8;
+    for i in (0..out.len()).rev() {
+        out[i] = b'0' + (rest % 10) as u8;
         rest /= 10;
     }
 }

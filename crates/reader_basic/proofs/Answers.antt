@@ -8,9 +8,8 @@ use native.Mathlib.Omega.{arith}
 use lib.Dec.{eqb}
 use borrow.Author.Tests.{eq-eqb, ne_eqb}
 use Rattle.std.specs.Prelude.{Result, Ok, Err}
-use Rattle.std.specs.Result.{IsErr, IsErrAnd, result_unwrap_or}
+use Rattle.std.specs.Result.{IsErr, IsErrAnd}
 use Rattle.meaning.specs.declared.refusals.Refusal.{Refusal}
-use Rattle.utils.specs.Checks.{checked}
 use Rattle.meaning.specs.Events.{Event}
 use Rattle.meaning.specs.Outcome.{Outcome, done, refused, after, chain}
 use Rattle.meaning.specs.Refused.{number_of}
@@ -41,11 +40,6 @@ handed_on r e h d = rw (handed r e h) d
 pub refused_at : {A : Type 0} {o : Outcome} {end len n u m : ℕ} {l l' : List ℕ} {found : Result A Refusal} (r : Result Answer Stop) (e : Stop) → IsErr r × IsErrAnd r (λ x. x ≡ e) → StopsAt found u m e
     → Done o end len n l l' (answer (number_of e.refusal) u m) → Done o end len n l l' (counts_of r)
 refused_at r e h s d = rw (handed r e h, s.used, s.count) d
-
--- what a leaf found where a refusal counts as 0
-pub value_found : (r : Result ℕ Refusal) (v : ℕ) → v ≡ result_unwrap_or r 0 → (checked r).value ≡ v
-value_found (Ok n) v e = sym e
-value_found (Err k) v e = sym e
 
 -- a refusal with no event
 pub refusing : (k p end len n : ℕ) (l : List ℕ) → (k ≡ 0 → ⊥) → Done (refused k p) end len n l l (answer k 0 n)

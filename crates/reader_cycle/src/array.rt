@@ -3,7 +3,7 @@ ghost use Rattle.std.specs.Prelude.{◌≡◌, true, false, ◌≤◌, length, d
 ghost use Rattle.framing_offsets.specs.Tables.{table_in};
 ghost use Rattle.signature.specs.Places.{letter_at};
 ghost use Rattle.signature.specs.Trees.{tree_at};
-ghost use Rattle.reader_basic.specs.Answers.{From};
+ghost use Rattle.reader_basic.specs.Answers.{From, counts_of};
 ghost use Rattle.reader_basic.specs.Parts.{Stands, Inside};
 ghost use Rattle.reader_steps.specs.Places.{inside_of, item_of, elements_of, framed_of, DescribedAt, RepeatedAt};
 ghost use Rattle.reader_steps.specs.Rides.{context_of};
@@ -14,7 +14,7 @@ use events::emit;
 use framing_offsets::table::next_in;
 use framing_offsets::{OffsetTable, from_encoded_array};
 use reader_basic::basic::close;
-use reader_basic::{Answer, behind, done, refused};
+use reader_basic::{Answer, Reading, behind, done, or_stop};
 use reader_runs::numbers::{numbers, readings};
 use reader_runs::texts_run::texts;
 use reader_steps::array::{empty, kind_by, repeats_fixed};
@@ -34,16 +34,11 @@ pub(crate) fn array(
     ride: usize,
     out: &mut [u64],
     n: usize,
-) -> Answer
+) -> Reading
     requires { DescribedAt text.now shapes.now at × (letter_at text.now at ≡ Letter.Array) × Inside (length part.now) place (context_of ride) × (lead ≤ length part.now) }
-    ensures { From (inside_of (context_of ride) (tree_at text.now at) place part.now lead) part.now lead n out.old out.new result }
+    ensures { From (inside_of (context_of ride) (tree_at text.now at) place part.now lead) part.now lead n out.old out.new (counts_of result) }
 {
-    let inner = in_array(ride);
-    let refusal = inner.refusal;
-    if refusal != 0 {
-        return refused(refusal, 0, n);
-    }
-    let deeper = inner.ride;
+    let deeper = or_stop(in_array(ride), 0, n)?;
     let kind = kind_by(text[at + 1]);
     if lead == part.len() {
         return empty(kind, place + lead, out, n);
@@ -53,12 +48,7 @@ pub(crate) fn array(
         let r = elements(text, shapes, at, part, lead, place, deeper, out, m);
         return close(r, place + lead, out);
     }
-    let table = from_encoded_array(&part[lead..]);
-    let fault = table.refusal;
-    let ends = table.offsets;
-    if fault != 0 {
-        return refused(fault, 0, n);
-    }
+    let ends = or_stop(from_encoded_array(&part[lead..]), 0, n)?;
     let m = emit(out, n, kind, place + lead, 0);
     let r = framed(text, shapes, at, ends, part, lead, place, deeper, out, m);
     close(r, place + lead, out)
@@ -76,35 +66,29 @@ pub(crate) fn elements(
     ride: usize,
     out: &mut [u64],
     n: usize,
-) -> Answer
+) -> Reading
     requires { RepeatedAt text.now shapes.now at × ((item_of text.now shapes.now at).fixed ≡ true) × Inside (length part.now) place (context_of ride) × (lead ≤ length part.now) }
-    ensures { From (elements_of (context_of ride) text.now (item_of text.now shapes.now at) place part.now lead) part.now lead n out.old out.new result }
+    ensures { From (elements_of (context_of ride) text.now (item_of text.now shapes.now at) place part.now lead) part.now lead n out.old out.new (counts_of result) }
 {
     let child = at + 1;
     let code = text[child];
-    let width = number_width(code);
-    if width != 0 {
+    if let Some(width) = number_width(code) {
         return numbers(part, lead, place, context_of(ride), code, width, out, n);
     }
     let is_entry = code == b'{';
     let b = part.len();
-    let mut u = 0;
-    let mut m = n;
-    while lead + u < b {
-        let j = lead + u;
+    let mut read = Answer { used: 0, count: n };
+    while lead + read.used < b {
+        let j = lead + read.used;
+        let m = read.count;
         let r = if is_entry {
             entry(text, shapes, at, part, b, j, b, place, ride, out, m)
         } else {
             value(text, shapes, child, part, j, b, place, ride, out, m)
         };
-        let refusal = r.refusal;
-        if refusal != 0 {
-            return behind(u, r);
-        }
-        u = u + r.used;
-        m = r.count;
+        read = behind(read.used, r)?;
     }
-    done(u, m)
+    Ok(read)
 }
 
 // Elements that are not fixed, each from where the one before stopped, up to the end that the table gives; then the table.
@@ -120,13 +104,12 @@ pub(crate) fn framed(
     ride: usize,
     out: &mut [u64],
     n: usize,
-) -> Answer
+) -> Reading
     requires { RepeatedAt text.now shapes.now at × ((item_of text.now shapes.now at).fixed ≡ false) × Inside (length part.now) place (context_of ride) × (lead ≤ length part.now) × Stands (table_in offsets) (drop lead part.now) }
-    ensures { From (framed_of (context_of ride) text.now (item_of text.now shapes.now at) offsets place part.now lead) part.now lead n out.old out.new result }
+    ensures { From (framed_of (context_of ride) text.now (item_of text.now shapes.now at) offsets place part.now lead) part.now lead n out.old out.new (counts_of result) }
 {
     let child = at + 1;
-    let width = held_width(text, child);
-    if width != 0 {
+    if let Some(width) = held_width(text, child) {
         let held = text[at + 2];
         let context = context_of(ride);
         return readings(offsets, part, lead, place, context, held, width, out, n);
@@ -136,29 +119,20 @@ pub(crate) fn framed(
         return texts(offsets, part, lead, place, code, out, n);
     }
     let is_entry = code == b'{';
-    let many = offsets.count;
     let b = lead + offsets.start;
     let table = &part[b..];
-    let mut i = 0;
-    let mut stopped = 0;
-    let mut m = n;
-    while i < many {
-        let j = lead + stopped;
-        let size = offsets.size;
-        let offset = next_in(table, size, i);
-        let e = lead + offset.value;
+    let mut so_far = Answer { used: 0, count: n };
+    for i in 0..offsets.count {
+        let j = lead + so_far.used;
+        let offset = next_in(table, offsets.size, i).unwrap_or(0);
+        let e = lead + offset;
+        let m = so_far.count;
         let r = if is_entry {
             entry(text, shapes, at, part, b, j, e, place, ride, out, m)
         } else {
             value(text, shapes, child, part, j, e, place, ride, out, m)
         };
-        let refusal = r.refusal;
-        if refusal != 0 {
-            return behind(stopped, r);
-        }
-        stopped = stopped + r.used;
-        m = r.count;
-        i = i + 1;
+        so_far = behind(so_far.used, r)?;
     }
-    done(stopped + (part.len() - b), m)
+    done(so_far.used + (part.len() - b), so_far.count)
 }

@@ -1,13 +1,13 @@
 // The entries of a dictionary. Ports MapAccess of ArrayDeserializer, gvariant/de.rs.
 ghost use Rattle.std.specs.Prelude.{◌≡◌, true, ℕ, ◌≤◌, length};
-ghost use Rattle.reader_basic.specs.Answers.{Between};
+ghost use Rattle.reader_basic.specs.Answers.{Between, counts_of};
 ghost use Rattle.reader_basic.specs.Parts.{Inside};
 ghost use Rattle.reader_steps.specs.Places.{step_in, fixed_key_in, text_key_in, EntriesAt, entry_of};
 ghost use Rattle.reader_steps.specs.Rides.{context_of};
 
 use crate::value;
-use meaning::refusals::OUT_OF_BOUNDS;
-use reader_basic::{Answer, behind, refused};
+use meaning::refusals::Refusal;
+use reader_basic::{Reading, behind, or_stop, refused};
 use reader_steps::codes::{is_fixed, leaf};
 use reader_steps::dictionary::key_ends;
 use reader_steps::ends::{end_padded, padded, past};
@@ -27,16 +27,11 @@ pub(crate) fn entry(
     ride: usize,
     out: &mut [u64],
     n: usize,
-) -> Answer
+) -> Reading
     requires { EntriesAt text.now shapes.now at × Inside (length part.now) place (context_of ride) × (j ≤ length part.now) × (e ≤ b) × (b ≤ length part.now) × ((entry_of text.now shapes.now at).fixed ≡ true → e ≡ length part.now) }
-    ensures { Between (step_in (context_of ride) text.now (entry_of text.now shapes.now at) place part.now b j e) part.now j e n out.old out.new result }
+    ensures { Between (step_in (context_of ride) text.now (entry_of text.now shapes.now at) place part.now b j e) part.now j e n out.old out.new (counts_of result) }
 {
-    let padding = padded(part, j, place, ride, shapes[at]);
-    let refusal = padding.refusal;
-    let lead = padding.value;
-    if refusal != 0 {
-        return refused(refusal, 0, n);
-    }
+    let lead = or_stop(padded(part, j, place, ride, shapes[at]), 0, n)?;
     let from = j + lead;
     if is_fixed(text[at + 2]) {
         let r = fixed_key(text, shapes, at, part, from, e, place, ride, out, n);
@@ -59,27 +54,22 @@ pub(crate) fn fixed_key(
     ride: usize,
     out: &mut [u64],
     n: usize,
-) -> Answer
+) -> Reading
     requires { EntriesAt text.now shapes.now at × Inside (length part.now) place (context_of ride) × (j ≤ length part.now) × (e ≤ length part.now) × ((entry_of text.now shapes.now at).fixed ≡ true → e ≡ length part.now) × ((entry_of text.now shapes.now at).keyed ≡ true) }
-    ensures { (b : ℕ) → Between (fixed_key_in (context_of ride) text.now (entry_of text.now shapes.now at) place part.now b j e) part.now j e n out.old out.new result }
+    ensures { (b : ℕ) → Between (fixed_key_in (context_of ride) text.now (entry_of text.now shapes.now at) place part.now b j e) part.now j e n out.old out.new (counts_of result) }
 {
     if e < j {
-        return refused(OUT_OF_BOUNDS, 0, n);
+        return refused(Refusal::OutOfBounds, 0, n);
     }
-    let k = leaf(text[at + 2], &part[j..e], place + j, ride, out, n);
-    let refusal = k.refusal;
-    let first = k.used;
-    if refusal != 0 {
-        return k;
-    }
-    let from = j + first;
+    let k = leaf(text[at + 2], &part[j..e], place + j, ride, out, n)?;
+    let from = j + k.used;
     let m = k.count;
     let v = value(text, shapes, at + 3, part, from, e, place, ride, out, m);
     if fixed_of(shapes[at + 3]) {
         let r = end_padded(part, from, place, ride, shapes[at], v);
-        return behind(first, r);
+        return behind(k.used, r);
     }
-    behind(first, v)
+    behind(k.used, v)
 }
 
 // An entry behind its padding, from j to e: a text, the value, and the key's offset.
@@ -96,29 +86,20 @@ pub(crate) fn text_key(
     ride: usize,
     out: &mut [u64],
     n: usize,
-) -> Answer
+) -> Reading
     requires { EntriesAt text.now shapes.now at × Inside (length part.now) place (context_of ride) × (j ≤ length part.now) × (e ≤ b) × (b ≤ length part.now) }
-    ensures { Between (text_key_in (context_of ride) text.now (entry_of text.now shapes.now at) place part.now b j e) part.now j e n out.old out.new result }
+    ensures { Between (text_key_in (context_of ride) text.now (entry_of text.now shapes.now at) place part.now b j e) part.now j e n out.old out.new (counts_of result) }
 {
-    let ends = key_ends(part, b, j, e);
-    let fault = ends.refusal;
-    if fault != 0 {
-        return refused(fault, 0, n);
-    }
+    let ends = or_stop(key_ends(part, b, j, e), 0, n)?;
     let stop = ends.child;
-    let k = leaf(text[at + 2], &part[j..stop], place + j, ride, out, n);
-    let refusal = k.refusal;
-    let first = k.used;
-    if refusal != 0 {
-        return k;
-    }
-    let from = j + first;
+    let k = leaf(text[at + 2], &part[j..stop], place + j, ride, out, n)?;
+    let from = j + k.used;
     let m = k.count;
     if e < from + ends.width {
-        return refused(OUT_OF_BOUNDS, first, m);
+        return refused(Refusal::OutOfBounds, k.used, m);
     }
     let end = e - ends.width;
     let v = value(text, shapes, at + 3, part, from, end, place, ride, out, m);
     let r = past(v, ends.width);
-    behind(first, r)
+    behind(k.used, r)
 }

@@ -11,7 +11,7 @@ mod variant;
 ghost use Rattle.std.specs.Prelude.{◌≤◌, length};
 ghost use Rattle.meaning.specs.Reading.{child};
 ghost use Rattle.signature.specs.Trees.{tree_at};
-ghost use Rattle.reader_basic.specs.Answers.{Whole, From, Between};
+ghost use Rattle.reader_basic.specs.Answers.{Whole, From, Between, counts_of};
 ghost use Rattle.reader_basic.specs.Parts.{Inside};
 ghost use Rattle.reader_steps.specs.Places.{Contains, value_in, inside_of, DescribedAt};
 ghost use Rattle.reader_steps.specs.Rides.{context_of};
@@ -20,8 +20,8 @@ use crate::array::array;
 use crate::maybe::maybe;
 use crate::structure::structure;
 use crate::variant::variant;
-use meaning::refusals::OUT_OF_BOUNDS;
-use reader_basic::{Answer, behind, refused};
+use meaning::refusals::Refusal;
+use reader_basic::{Reading, behind, or_stop, refused};
 use reader_steps::codes::leaf;
 use reader_steps::ends::padded;
 
@@ -38,15 +38,12 @@ pub fn value(
     ride: usize,
     out: &mut [u64],
     n: usize,
-) -> Answer
+) -> Reading
     requires { DescribedAt text.now shapes.now at × Inside (length part.now) place (context_of ride) × (j ≤ length part.now) }
-    ensures { Between (child (value_in (context_of ride) (tree_at text.now at)) place part.now j e) part.now j e n out.old out.new result }
+    ensures { Between (child (value_in (context_of ride) (tree_at text.now at)) place part.now j e) part.now j e n out.old out.new (counts_of result) }
 {
-    if e < j {
-        return refused(OUT_OF_BOUNDS, 0, n);
-    }
-    if part.len() < e {
-        return refused(OUT_OF_BOUNDS, 0, n);
+    if e < j || part.len() < e {
+        return refused(Refusal::OutOfBounds, 0, n);
     }
     let own = &part[j..e];
     let from = place + j;
@@ -68,16 +65,11 @@ pub(crate) fn container(
     ride: usize,
     out: &mut [u64],
     n: usize,
-) -> Answer
+) -> Reading
     requires { DescribedAt text.now shapes.now at × Inside (length part.now) place (context_of ride) × Contains (tree_at text.now at) }
-    ensures { Whole (value_in (context_of ride) (tree_at text.now at) place part.now) part.now n out.old out.new result }
+    ensures { Whole (value_in (context_of ride) (tree_at text.now at) place part.now) part.now n out.old out.new (counts_of result) }
 {
-    let padding = padded(part, 0, place, ride, shapes[at]);
-    let refusal = padding.refusal;
-    let lead = padding.value;
-    if refusal != 0 {
-        return refused(refusal, 0, n);
-    }
+    let lead = or_stop(padded(part, 0, place, ride, shapes[at]), 0, n)?;
     let r = body(text, shapes, at, part, lead, place, ride, out, n);
     behind(lead, r)
 }
@@ -94,9 +86,9 @@ pub(crate) fn body(
     ride: usize,
     out: &mut [u64],
     n: usize,
-) -> Answer
+) -> Reading
     requires { DescribedAt text.now shapes.now at × Inside (length part.now) place (context_of ride) × Contains (tree_at text.now at) × (lead ≤ length part.now) }
-    ensures { From (inside_of (context_of ride) (tree_at text.now at) place part.now lead) part.now lead n out.old out.new result }
+    ensures { From (inside_of (context_of ride) (tree_at text.now at) place part.now lead) part.now lead n out.old out.new (counts_of result) }
 {
     let code = text[at];
     match code {

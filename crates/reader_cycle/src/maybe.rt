@@ -2,7 +2,7 @@
 ghost use Rattle.std.specs.Prelude.{◌≡◌, ◌≤◌, length};
 ghost use Rattle.signature.specs.Places.{letter_at};
 ghost use Rattle.signature.specs.Trees.{tree_at};
-ghost use Rattle.reader_basic.specs.Answers.{From};
+ghost use Rattle.reader_basic.specs.Answers.{From, counts_of};
 ghost use Rattle.reader_basic.specs.Parts.{Inside};
 ghost use Rattle.reader_steps.specs.Places.{inside_of, DescribedAt};
 ghost use Rattle.reader_steps.specs.Rides.{context_of};
@@ -10,7 +10,7 @@ ghost use Rattle.reader_steps.specs.Rides.{context_of};
 use crate::value;
 use events::emit;
 use meaning::letters::{MAYBE_LETTER, NOTHING_LETTER};
-use reader_basic::{Answer, done, refused};
+use reader_basic::{Reading, done, or_stop};
 use reader_steps::maybe::end_byte;
 use reader_steps::opening::in_maybe;
 use signature::Letter;
@@ -27,20 +27,15 @@ pub(crate) fn maybe(
     ride: usize,
     out: &mut [u64],
     n: usize,
-) -> Answer
+) -> Reading
     requires { DescribedAt text.now shapes.now at × (letter_at text.now at ≡ Letter.Maybe) × Inside (length part.now) place (context_of ride) × (lead ≤ length part.now) }
-    ensures { From (inside_of (context_of ride) (tree_at text.now at) place part.now lead) part.now lead n out.old out.new result }
+    ensures { From (inside_of (context_of ride) (tree_at text.now at) place part.now lead) part.now lead n out.old out.new (counts_of result) }
 {
     if part.len() <= lead {
         let m = emit(out, n, NOTHING_LETTER, place + lead, 0);
         return done(0, m);
     }
-    let inner = in_maybe(ride);
-    let refusal = inner.refusal;
-    if refusal != 0 {
-        return refused(refusal, 0, n);
-    }
-    let deeper = inner.ride;
+    let deeper = or_stop(in_maybe(ride), 0, n)?;
     let m = emit(out, n, MAYBE_LETTER, place + lead, 0);
     let held = at + 1;
     let fixed = fixed_of(shapes[held]);

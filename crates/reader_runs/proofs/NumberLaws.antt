@@ -18,12 +18,12 @@ use Rattle.meaning.specs.Outcome.{Outcome, done, refused, after, chain, unused}
 use Rattle.meaning.specs.Reading.{child, child_step, within, padding_of, pad, number_in, read_number, present_in, maybe_in, read_maybe, elements}
 use Rattle.meaning.proofs.PaddingLaws.{by_alignment, aligns_positive, padding_aligned, padding_none}
 use Rattle.meaning.proofs.OutcomeLaws.{unpadded}
-use Rattle.utils.specs.declared.Checked as leafs
+use Rattle.utils.specs.Checks as leafs
 use Rattle.byte_order.specs.Standing.{number_at}
 use Rattle.events.specs.Slices.{next_event, put, put_all, advance}
 use Rattle.reader_basic.specs.Answers.{Done}
 use Rattle.reader_runs.specs.Runs.{number_events, counted_of, numbers_from}
-use Rattle.reader_basic.specs.declared.Answer.{Answer}
+use Rattle.meaning.specs.Calls.{Counts}
 use Rattle.reader_basic.proofs.Answers.{answer, refusing, plain, single, after_event}
 use Rattle.events.proofs.SliceLaws.{advance_most, length_put, put_all_full}
 use Rattle.reader_basic.proofs.Leaves.{Pads, pads_stop, pads_on}
@@ -96,7 +96,7 @@ module _ (big : Bool) (kind w k : ℕ) (part : List ℕ) (j n : ℕ) (l : List �
       slice = sym (i.slice ∙ f);
     }
 
-    pub run_short : (r : Answer) → r ≡ counted_of left w n → n ≤ 18446744073709551615 → length part - at < w → Done (numbers_from big kind w k part j) left left n l out r
+    pub run_short : (r : Counts) → r ≡ counted_of left w n → n ≤ 18446744073709551615 → length part - at < w → Done (numbers_from big kind w k part j) left left n l out r
     unfolding number_events put_all
     run_short r e a h = rw e (run_stands a (go i.more i.size))
       where
@@ -104,7 +104,7 @@ module _ (big : Bool) (kind w k : ℕ) (part : List ℕ) (j n : ℕ) (l : List �
         go zero z = refl
         go (suc more) z = absurd (omega (arith, suc-mul more w))
 
-    pub run_full : (r : Answer) → r ≡ counted_of left w n → n ≤ 18446744073709551615 → length out / 3 ≤ count → Done (numbers_from big kind w k part j) left left n l out r
+    pub run_full : (r : Counts) → r ≡ counted_of left w n → n ≤ 18446744073709551615 → length out / 3 ≤ count → Done (numbers_from big kind w k part j) left left n l out r
     run_full r e a h = rw e (run_stands a (put_all_full (number_events big kind w k part i.more at) out count h))
 
 -- the number that a leaf found
@@ -199,7 +199,7 @@ module _ (position : ℕ) (big : Bool) (kind w : ℕ) (s : Aligns w) (d : Depths
       (record { refusal = i.refusal; used = omega (arith, i.used); events = ap (λ x. event kind (k + j) (spelled big w j l) ∷ x) i.events }))
 
   -- as an answer
-  pub numbers_done : (more j end len n : ℕ) (out out' : List ℕ) (r : Answer) → j ≤ length l → length l - j ≤ more → padding (position + (k + j)) w ≡ 0
+  pub numbers_done : (more j end len n : ℕ) (out out' : List ℕ) (r : Counts) → j ≤ length l → length l - j ≤ more → padding (position + (k + j)) w ≡ 0
       → Done (numbers_from big kind w k l j) end len n out out' r → Done (elements more step (length l) j) end len n out out' r
   numbers_done more j end len n out out' r h g z q =
       let left = length l - j in
@@ -221,7 +221,7 @@ module _ (position : ℕ) (big : Bool) (kind w : ℕ) (s : Aligns w) (d : Depths
     pub numbers_none : length l ≤ lead → Done all (length l - lead) (length l - lead) n out out (answer 0 0 n)
     numbers_none h = rw (elements_none step l lead n out (length l) lead h) (plain 0 _ _ n out (omega arith) (omega arith))
 
-    module _ (h : lead < length l) (r : Answer) (out₁ : List ℕ) (f : Done (read_number position big kind w d (k + lead) (drop lead l)) (length (drop lead l)) (length (drop lead l)) n out out₁ r) where
+    module _ (h : lead < length l) (r : Counts) (out₁ : List ℕ) (f : Done (read_number position big kind w d (k + lead) (drop lead l)) (length (drop lead l)) (length (drop lead l)) n out out₁ r) where
       -- the first as a step
       first_step : Done (step (lead + 0) (length l)) (length l - (lead + 0)) (length l - (lead + 0)) n out out₁ r
       unfolding child_step
@@ -239,7 +239,7 @@ module _ (position : ℕ) (big : Bool) (kind w : ℕ) (s : Aligns w) (d : Depths
           let a : position + (k + lead) + padding (position + (k + lead)) w + w ≡ position + (k + (lead + r.used)) = omega arith in
           rw (← a) (padding_on s (position + (k + lead) + padding (position + (k + lead)) w) (padding_behind s (position + (k + lead))))
 
-      pub numbers_on : (q : Answer) (out₂ : List ℕ) → r.refusal ≡ 0
+      pub numbers_on : (q : Counts) (out₂ : List ℕ) → r.refusal ≡ 0
           → Done (numbers_from big kind w k l (lead + r.used)) (length l - (lead + r.used)) (length l - (lead + r.used)) r.count out₁ out₂ q
           → Done all (length l - lead) (length l - lead) n out out₂ (answer q.refusal (r.used + q.used) q.count)
       numbers_on q out₂ z g =
@@ -262,7 +262,7 @@ module _ (position : ℕ) (big : Bool) (kind w : ℕ) (s : Aligns w) (d : Depths
 
   module _ (z : r.refusal ≡ 0) where
     -- what stands behind the padding
-    behind : (out' : List ℕ) (q : Answer) → Done (inside r.value) (length l - r.value) (length l - r.value) n out out' q → Done this (length l) (length l) n out out' (answer q.refusal (r.value + q.used) q.count)
+    behind : (out' : List ℕ) (q : Counts) → Done (inside r.value) (length l - r.value) (length l - r.value) n out out' q → Done this (length l) (length l) n out out' (answer q.refusal (r.value + q.used) q.count)
     unfolding read_maybe
     behind out' q g =
         let f = p.fits in
@@ -281,7 +281,7 @@ module _ (position : ℕ) (big : Bool) (kind w : ℕ) (s : Aligns w) (d : Depths
 
       module _ (e : depth_refusal (opened Depth.maybe d) ≡ 0) (m : ℕ) (out₁ : List ℕ) (a : m ≡ next_event n) (b : out₁ ≡ put out n (event 109 (k + r.value) 0)) where
         -- the number itself
-        present_by : (out' : List ℕ) (q : Answer) → Done (child (read_number position big kind w (opened Depth.maybe d)) k l r.value (length l)) (length l - r.value) (length l - r.value) m out₁ out' q
+        present_by : (out' : List ℕ) (q : Counts) → Done (child (read_number position big kind w (opened Depth.maybe d)) k l r.value (length l)) (length l - r.value) (length l - r.value) m out₁ out' q
             → Done this (length l) (length l) n out out' (answer q.refusal (r.value + q.used) q.count)
         unfolding maybe_in within present_in
         present_by out' q g =

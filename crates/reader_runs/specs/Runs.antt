@@ -6,7 +6,7 @@ use Rattle.meaning.specs.Events.{Event, event}
 use Rattle.meaning.specs.Outcome.{Outcome, outcome}
 use Rattle.meaning.specs.Limits.{largest_number}
 use Rattle.meaning.specs.Refusals.{out_of_bounds}
-use Rattle.reader_basic.specs.declared.Answer.{Answer}
+use Rattle.meaning.specs.Calls.{Counts}
 
 -- so many numbers from j on of a part that begins at the place k
 unfoldable pub number_events : Bool → ℕ → ℕ → ℕ → List ℕ → ℕ → ℕ → List Event
@@ -17,7 +17,7 @@ number_events big kind w k l (suc m) j = event kind (k + j) (spelled big w j l) 
 abbrev pub left_over : ℕ → ℕ → ℕ
 left_over left w = pick (eqb (left % w) 0) 0 out_of_bounds
 
-abbrev pub counted_of : ℕ → ℕ → ℕ → Answer
+abbrev pub counted_of : ℕ → ℕ → ℕ → Counts
 counted_of left w n = record {
   refusal = left_over left w;
   used = left - left % w;

@@ -3,13 +3,13 @@ ghost use Rattle.std.specs.Prelude.{◌+◌, ◌≤◌, length};
 ghost use Rattle.meaning.specs.Depths.{Depths};
 ghost use Rattle.meaning.specs.Reading.{child, child_step, read_text};
 ghost use Rattle.meaning.specs.Limits.{largest_frame};
-ghost use Rattle.reader_basic.specs.Answers.{From, Between};
+ghost use Rattle.reader_basic.specs.Answers.{From, Between, counts_of};
 ghost use Rattle.reader_basic.specs.Parts.{Tabled, elements_by};
 
 use framing_offsets::{OffsetTable, next};
-use meaning::refusals::OUT_OF_BOUNDS;
+use meaning::refusals::Refusal;
 use reader_basic::basic::text_value;
-use reader_basic::{Answer, behind, done, refused};
+use reader_basic::{Answer, Reading, behind, done, refused};
 
 // A text from j to e of an array's part.
 fn child_text(
@@ -20,12 +20,12 @@ fn child_text(
     code: u8,
     out: &mut [u64],
     n: usize,
-) -> Answer
+) -> Reading
     requires { (place + length part.now ≤ largest_frame) × (e ≤ length part.now) }
-    ensures { (d : Depths) → Between (child (read_text code d) place part.now j e) part.now j e n out.old out.new result }
+    ensures { (d : Depths) → Between (child (read_text code d) place part.now j e) part.now j e n out.old out.new (counts_of result) }
 {
     if e < j {
-        return refused(OUT_OF_BOUNDS, 0, n);
+        return refused(Refusal::OutOfBounds, 0, n);
     }
     text_value(&part[j..e], place + j, code, out, n)
 }
@@ -39,25 +39,17 @@ pub fn texts(
     code: u8,
     out: &mut [u64],
     n: usize,
-) -> Answer
+) -> Reading
     requires { (place + length part.now ≤ largest_frame) × Tabled offsets part.now lead }
-    ensures { (d : Depths) → From (elements_by (child_step (read_text code) d place part.now (lead + offsets.start)) offsets part.now lead) part.now lead n out.old out.new result }
+    ensures { (d : Depths) → From (elements_by (child_step (read_text code) d place part.now (lead + offsets.start)) offsets part.now lead) part.now lead n out.old out.new (counts_of result) }
 {
     let table = &part[lead..];
-    let many = offsets.count;
     let body_end = lead + offsets.start;
-    let mut i = 0;
-    let mut u = 0;
-    let mut count = n;
-    while i < many {
-        let end = next(table, offsets, i);
-        let r = child_text(part, lead + u, lead + end.value, place, code, out, count);
-        if r.refusal != 0 {
-            return behind(u, r);
-        }
-        u = u + r.used;
-        count = r.count;
-        i = i + 1;
+    let mut read = Answer { used: 0, count: n };
+    for i in 0..offsets.count {
+        let end = lead + next(table, offsets, i).unwrap_or(0);
+        let r = child_text(part, lead + read.used, end, place, code, out, read.count);
+        read = behind(read.used, r)?;
     }
-    done(u + (part.len() - body_end), count)
+    done(read.used + (part.len() - body_end), read.count)
 }

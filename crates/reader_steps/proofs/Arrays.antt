@@ -13,19 +13,17 @@ use Rattle.meaning.specs.Reading.{Step, elements, elements_to, tabled, array_bod
 use Rattle.container_depths.specs.Opening.{depths_of}
 use Rattle.framing_offset_size.specs.Widths.{width_of}
 use Rattle.framing_offset_size.proofs.WidthLaws.{width_positive}
-use Rattle.framing_offsets.specs.Tables.{table_in, empty_table, Encoded, offset_in}
+use Rattle.framing_offsets.specs.Tables.{table_in, empty_table, EncodedArray, Encoded, offset_in}
 use Rattle.framing_offsets.specs.Held.{held_table}
 use Rattle.framing_offsets.specs.declared.OffsetTable.{OffsetTable}
 use Rattle.utils.specs.Checks.{Checked}
 use Rattle.framing_offsets.proofs.HeldLaws.{offset_through}
-use Rattle.framing_offsets.specs.declared.EncodedArray.{EncodedArray}
 use Rattle.events.specs.Slices.{next_event, put}
 use Rattle.reader_basic.specs.Answers.{Done, From}
 use Rattle.signature.specs.Trees.{tree_at}
-use Rattle.reader_steps.specs.Openings.{Deeper, Opens}
-use Rattle.reader_steps.specs.declared.opening.Inner.{Inner}
+use Rattle.reader_steps.specs.Openings.{Inner, Deeper, Opens}
 use Rattle.reader_steps.specs.Places.{inside_of, item_step, elements_of, framed_of, ItemAt, Repeated}
-use Rattle.reader_basic.specs.declared.Answer.{Answer}
+use Rattle.meaning.specs.Calls.{Counts}
 use Rattle.reader_basic.specs.declared.Context.{Context}
 use Rattle.signature.specs.declared.items.Item.{Item}
 use Rattle.signature.specs.Items.{item_kind}
@@ -34,7 +32,7 @@ use Rattle.reader_basic.proofs.Leaves.{closed}
 use Rattle.reader_basic.proofs.Loops.{elements_none}
 use Rattle.reader_steps.proofs.Deepening.{too_deep, within_open, same_inside}
 
-pub enclosed_on : (kind p end len n m : ℕ) (l l₁ l' : List ℕ) (o : Outcome) (s : Answer) → m ≡ next_event n → l₁ ≡ put l n (event kind p 0) → Done (chain o (closing_at p)) end len m l₁ l' s → Done (enclosed kind p o) end len n l l' s
+pub enclosed_on : (kind p end len n m : ℕ) (l l₁ l' : List ℕ) (o : Outcome) (s : Counts) → m ≡ next_event n → l₁ ≡ put l n (event kind p 0) → Done (chain o (closing_at p)) end len m l₁ l' s → Done (enclosed kind p o) end len n l l' s
 unfolding enclosed
 enclosed_on kind p end len n m l l₁ l' o s a b d = after_event end len n m l l₁ l' (opening kind p) (chain o (closing_at p)) s a b d
 
@@ -99,13 +97,13 @@ module _ {text shapes : List ℕ} {at : ℕ} {i : Item} (a : ItemAt text shapes 
         ∙ ap (λ (x : Step). array_body (item_kind i) i.fixed x place part lead (depths_of c'.depths))
         (same_inside d (λ y w v. item_step y w v text i) c.depths.variant (ap (λ (y : Depths). y.variant) d.depths))
 
-    pub array_fixed : (m : ℕ) (l₁ l' : List ℕ) (s : Answer) → i.fixed ≡ true → m ≡ next_event n → l₁ ≡ put l n (event (item_kind i) (place + lead) 0)
+    pub array_fixed : (m : ℕ) (l₁ l' : List ℕ) (s : Counts) → i.fixed ≡ true → m ≡ next_event n → l₁ ≡ put l n (event (item_kind i) (place + lead) 0)
         → From (chain (elements_of c' text i place part lead) (closing_at (place + lead))) part lead m l₁ l' s → From body part lead n l l' s
     array_fixed m l₁ l' s f p q g =
         rw (opened_body ∙ body_fixed (item_kind i) i.fixed (item_step c'.position c'.big c'.depths.variant text i) place part lead (depths_of c'.depths) f)
         (enclosed_on (item_kind i) (place + lead) _ _ n m l l₁ l' _ s p q g)
 
-    pub array_empty : (kind : ℕ) (l' : List ℕ) (s : Answer) → length part ≤ lead → kind ≡ item_kind i → ((end len : ℕ) → Done (enclosed kind (place + lead) (done 0 [])) end len n l l' s) → From body part lead n l l' s
+    pub array_empty : (kind : ℕ) (l' : List ℕ) (s : Counts) → length part ≤ lead → kind ≡ item_kind i → ((end len : ℕ) → Done (enclosed kind (place + lead) (done 0 [])) end len n l l' s) → From body part lead n l l' s
     array_empty kind l' s h e g =
         rw (opened_body ∙ body_empty (item_kind i) (item_step c'.position c'.big c'.depths.variant text i) place part lead (depths_of c'.depths) h i.fixed, ← e)
         (g (length part - lead) (length part - lead))
@@ -128,7 +126,7 @@ module _ {text shapes : List ℕ} {at : ℕ} {i : Item} (a : ItemAt text shapes 
           (rw (opened_body ∙ body_no_table (item_kind i) i.fixed (item_step c'.position c'.big c'.depths.variant text i) place part lead (depths_of c'.depths) f (no_table _ t.refusal y))
           (refusing 3 (place + lead) _ _ n l (λ w. omega arith)))
 
-      pub array_framed : (m : ℕ) (l₁ l' : List ℕ) (s : Answer) → e.refusal ≡ 0 → m ≡ next_event n → l₁ ≡ put l n (event (item_kind i) (place + lead) 0)
+      pub array_framed : (m : ℕ) (l₁ l' : List ℕ) (s : Counts) → e.refusal ≡ 0 → m ≡ next_event n → l₁ ≡ put l n (event (item_kind i) (place + lead) 0)
           → From (chain (framed_of c' text i e.offsets place part lead) (closing_at (place + lead))) part lead m l₁ l' s → From body part lead n l l' s
       array_framed m l₁ l' s y p q g =
           let b = table_is _ t.refusal y in
@@ -145,6 +143,6 @@ offset_told o i lead part h e =
     offset_through (table_in o) i (drop lead part) h (width_positive o.size) (rw (z, sym (drop-drop o.start lead part)) at e)
 
 -- a fixed step that is done uses a byte
-pub item_least : (text shapes : List ℕ) (i : Item) → Repeated text shapes i → i.fixed ≡ true → (position : ℕ) (big : Bool) (nested : ℕ) (d : Depths) (place : ℕ) (part : List ℕ) (b j end len n : ℕ) (l l' : List ℕ) (r : Answer)
+pub item_least : (text shapes : List ℕ) (i : Item) → Repeated text shapes i → i.fixed ≡ true → (position : ℕ) (big : Bool) (nested : ℕ) (d : Depths) (place : ℕ) (part : List ℕ) (b j end len n : ℕ) (l l' : List ℕ) (r : Counts)
     → j ≤ length part → Done (item_step position big nested text i d place part b j (length part)) end len n l l' r → r.refusal ≡ 0 → 0 < r.used
 item_least text shapes i p f position big nested d place part b j end len n l l' r h g z = omega (arith, g.used, p.pays f position big nested d place part b j h (sym g.refusal ∙ z))

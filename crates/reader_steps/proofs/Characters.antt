@@ -3,6 +3,8 @@ use Rattle.std.proofs.Common.{◌≡◌, ℕ, suc, ◌+◌, ◌-◌, ◌<◌, �
 use mathlib.Core.Path.{subst⁻¹}
 use mathlib.Core.Option.{Option, none, some}
 use mathlib.Core.Bool.{false≢true}
+use Rattle.std.specs.Prelude.{Option as Found, Some, None, is_some, IfSome}
+use Rattle.reader_steps.specs.Codes.{Held, WidthBy}
 use Rattle.meaning.specs.Choice.{pick}
 use Rattle.meaning.specs.Depths.{Depths}
 use Rattle.meaning.specs.Padding.{Aligns}
@@ -22,7 +24,7 @@ use Rattle.signature.proofs.Dispatch.{Shown, shown, is_last, is_next}
 use Rattle.signature.proofs.TreeLaws.{typed_by}
 use Rattle.reader_basic.specs.Answers.{Done, Whole, Between}
 use Rattle.reader_basic.specs.Parts.{key_reader}
-use Rattle.reader_basic.specs.declared.Answer.{Answer}
+use Rattle.meaning.specs.Calls.{Counts}
 use Rattle.reader_basic.proofs.Leaves.{child_there}
 use Rattle.reader_steps.specs.Places.{Contains, reader_of}
 use Rattle.reader_steps.proofs.Readers.{reading_basic, width_by_lem}
@@ -91,6 +93,11 @@ module _ (c : ℕ) where
       go (number n) e r = rw (e, r)
       go (text x) e r = absurd (h r)
 
+  -- what is fixed, where no width tells
+  pub fixed_by : (r : Found ℕ) → WidthBy (letter_of c) r → (c ≡ 98 → ⊥) → is_some r ≡ key_fixed (letter_of c)
+  fixed_by None h i = no_fixed i h
+  fixed_by (Some w) h i = sym (ap key_fixed (number_code w h.0 h.1))
+
   pub byte_code : c ≡ 121 → letter_of c ≡ Number c 1
   unfolding letter_by basic_among
   byte_code e = rw e
@@ -132,9 +139,14 @@ module _ (c : ℕ) where
   pub text_key_lem : true ≡ is_text (letter_of c) → key_alignment (letter_of c) ≡ 0 → ⊥
   text_key_lem q = let e : key_alignment (letter_of c) ≡ 1 = ap key_alignment (text_code q) in λ z. omega arith
 
+-- a number in a maybe
+pub held_by : (l : List ℕ) (at : ℕ) (r : Found ℕ) → letter_at l at ≡ Maybe → at + 1 < length l → WidthBy (letter_of (get_or l (at + 1) 0)) r → IfSome r (Held l at)
+held_by l at None m h w = tt
+held_by l at (Some v) m h w = record { maybe = m; within = h; number = letter_some l (at + 1) h ∙ number_code _ v w.0 w.1 }
+
 -- ---- the readers of a character
 
-module _ (c position : ℕ) (big : Bool) (place : ℕ) (part : List ℕ) (n : ℕ) (l l' : List ℕ) (r : Answer) where
+module _ (c position : ℕ) (big : Bool) (place : ℕ) (part : List ℕ) (n : ℕ) (l l' : List ℕ) (r : Counts) where
   pub leaf_as : (k : Letter) → letter_of c ≡ k → ((d : Depths) → Whole (key_reader position big k d place part) part n l l' r) → (d : Depths) → Whole (key_reader position big (letter_of c) d place part) part n l l' r
   leaf_as k e g d = subst⁻¹ (λ (x : Letter). Whole (key_reader position big x d place part) part n l l' r) e (g d)
 
@@ -142,13 +154,13 @@ module _ (c position : ℕ) (big : Bool) (place : ℕ) (part : List ℕ) (n : �
   leaf_bool q f g d = subst⁻¹ (λ (x : Reader). Whole (x d place part) part n l l' r) (bool_code c q f position big) (g d)
 
 -- from j to a stop of a part
-pub leaf_child : (c position : ℕ) (big : Bool) (place : ℕ) (part : List ℕ) (j stop n : ℕ) (l l' : List ℕ) (r : Answer) → j ≤ stop → stop ≤ length part
+pub leaf_child : (c position : ℕ) (big : Bool) (place : ℕ) (part : List ℕ) (j stop n : ℕ) (l l' : List ℕ) (r : Counts) → j ≤ stop → stop ≤ length part
     → ((d : Depths) → Whole (key_reader position big (letter_of c) d (place + j) (take (stop - j) (drop j part))) (take (stop - j) (drop j part)) n l l' r)
     → (d : Depths) → Between (child (key_reader position big (letter_of c) d) place part j stop) part j stop n l l' r
 leaf_child c position big place part j stop n l l' r h i g d = child_there _ _ _ _ _ _ _ _ _ h i (g d)
 
 -- by the character of a text at a place
-pub key_read : (x : List ℕ) (at : ℕ) → at < length x → (position : ℕ) (big : Bool) (place : ℕ) (part : List ℕ) (j stop n : ℕ) (l l' : List ℕ) (r : Answer) → j ≤ stop → stop ≤ length part
+pub key_read : (x : List ℕ) (at : ℕ) → at < length x → (position : ℕ) (big : Bool) (place : ℕ) (part : List ℕ) (j stop n : ℕ) (l l' : List ℕ) (r : Counts) → j ≤ stop → stop ≤ length part
     → ((d : Depths) → Whole (key_reader position big (letter_of (get_or x at 0)) d (place + j) (take (stop - j) (drop j part))) (take (stop - j) (drop j part)) n l l' r)
     → (d : Depths) → Between (child (key_reader position big (letter_at x at) d) place part j stop) part j stop n l l' r
 key_read x at h position big place part j stop n l l' r i y g d =
@@ -246,7 +258,7 @@ module _ {l : List ℕ} {at : ℕ} (t : Typed l at) where
       go (dictionary b s) w = absurd (h (inr (inl (mark_code l at Array 97 w.letter refl))))
       go (structure ts) w = absurd (h (inl (mark_code l at OpenStructure 40 w.letter refl)))
 
-  pub value_leaf : (OneOfFour (get_or l at 0) → ⊥) → (position : ℕ) (big : Bool) (nested : ℕ) (D : Depths) (k : ℕ) (part : List ℕ) (end len n : ℕ) (o o' : List ℕ) (r : Answer)
+  pub value_leaf : (OneOfFour (get_or l at 0) → ⊥) → (position : ℕ) (big : Bool) (nested : ℕ) (D : Depths) (k : ℕ) (part : List ℕ) (end len n : ℕ) (o o' : List ℕ) (r : Counts)
       → ((d : Depths) → Done (key_reader position big (letter_of (get_or l at 0)) d k part) end len n o o' r) → Done (reader_of position big nested (tree_at l at) D k part) end len n o o' r
   value_leaf h position big nested D k part end len n o o' r g =
       subst⁻¹ (λ (R : Reader). Done (R D k part) end len n o o' r) (leaf_reads h position big nested ∙ ap (key_reader position big) (letter_some l at (typed_within t))) (g D)

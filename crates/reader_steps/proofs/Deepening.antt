@@ -9,18 +9,17 @@ use Rattle.container_depths.specs.Opening.{depths_of, level}
 use Rattle.container_depths.specs.declared.ContainerDepths.{ContainerDepths}
 use Rattle.reader_basic.specs.Answers.{Done}
 use Rattle.reader_basic.specs.Parts.{Within, Inside}
-use Rattle.reader_basic.specs.declared.Answer.{Answer}
+use Rattle.meaning.specs.Calls.{Counts}
 use Rattle.reader_basic.specs.declared.Context.{Context}
 use Rattle.reader_basic.proofs.Answers.{answer, refusing}
-use Rattle.reader_steps.specs.Openings.{Deeper, Opens}
-use Rattle.reader_steps.specs.declared.opening.Inner.{Inner}
+use Rattle.reader_steps.specs.Openings.{Inner, Deeper, Opens}
 
 -- an answer by what is known of it
-pub told : {o : Outcome} {end len n : ℕ} {l l' : List ℕ} {r s : Answer} → r ≡ s → Done o end len n l l' s → Done o end len n l l' r
-told {o} {end} {len} {n} {l} {l'} e d = subst⁻¹ (λ (x : Answer). Done o end len n l l' x) e d
+pub told : {o : Outcome} {end len n : ℕ} {l l' : List ℕ} {r s : Counts} → r ≡ s → Done o end len n l l' s → Done o end len n l l' r
+told {o} {end} {len} {n} {l} {l'} e d = subst⁻¹ (λ (x : Counts). Done o end len n l l' x) e d
 
 -- an answer and a slice that came by one way or another
-pub arrived : {o : Outcome} {end len n : ℕ} {l l' l'' : List ℕ} {r s : Answer} → l' ≡ l'' → r ≡ s → Done o end len n l l'' s → Done o end len n l l' r
+pub arrived : {o : Outcome} {end len n : ℕ} {l l' l'' : List ℕ} {r s : Counts} → l' ≡ l'' → r ≡ s → Done o end len n l l'' s → Done o end len n l l' r
 arrived e f d = rw (e, f) d
 
 pub few_variants : {len place position : ℕ} {d : ContainerDepths} → Within len place position d → d.variant ≤ 64

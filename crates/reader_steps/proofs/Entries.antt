@@ -12,14 +12,13 @@ use Rattle.meaning.specs.Padding.{Aligns}
 use Rattle.meaning.proofs.OffsetSteps.{own_width}
 use Rattle.de.specs.Parts.{padding_at}
 use Rattle.framing_offset_size.specs.Widths.{last_offset_in}
-use Rattle.utils.specs.declared.Checked as leafs
+use Rattle.utils.specs.Checks as leafs
 use Rattle.reader_basic.specs.Answers.{Done, Between}
-use Rattle.reader_steps.specs.Children.{key_end, key_ends, ends_at, ends_missing}
-use Rattle.reader_steps.specs.declared.ends.Ends.{Ends}
+use Rattle.reader_steps.specs.Children.{Ends, key_end, key_ends, ends_at, ends_missing}
 use Rattle.signature.specs.Trees.{tree_at}
 use Rattle.reader_steps.specs.Places.{value_at, value_in, step_in, fixed_key_in, text_key_in, Repeated}
 use Rattle.reader_basic.specs.Parts.{key_reader, Inside}
-use Rattle.reader_basic.specs.declared.Answer.{Answer}
+use Rattle.meaning.specs.Calls.{Counts}
 use Rattle.reader_basic.specs.declared.Context.{Context}
 use Rattle.container_depths.specs.Opening.{depths_of}
 use Rattle.signature.specs.declared.items.Item.{Item}
@@ -34,7 +33,7 @@ unfolding child
 child_before R place part j e h = rw (lt-leb j e h)
 
 -- so the end of a child that is done is not before its place
-pub child_ordered : (R : ℕ → List ℕ → Outcome) (place : ℕ) (part : List ℕ) (j e : ℕ) {end len n : ℕ} {l l' : List ℕ} {r : Answer}
+pub child_ordered : (R : ℕ → List ℕ → Outcome) (place : ℕ) (part : List ℕ) (j e : ℕ) {end len n : ℕ} {l l' : List ℕ} {r : Counts}
     → Done (child R place part j e) end len n l l' r → r.refusal ≡ 0 → j ≤ e
 child_ordered R place part j e {r = r} d z = go (leb j e) refl
   where
@@ -45,27 +44,27 @@ child_ordered R place part j e {r = r} d z = go (leb j e) refl
         absurd (omega arith)
 
 -- what the padding at the end of what is fixed answers, from the answer of its last child
-abbrev pub Padded : ℕ → ℕ → ℕ → List ℕ → ℕ → Answer → Answer → Type 0
+abbrev pub Padded : ℕ → ℕ → ℕ → List ℕ → ℕ → Counts → Counts → Type 0
 Padded position a place part j r s =
     (o : Outcome) (end len n : ℕ) (l l' : List ℕ) → len ≡ length part - j → Done o end len n l l' r → Done (end_padding position true a place part j o) len len n l l' s
 
 -- what an answer is with so many bytes passed behind it
-abbrev pub Passed : Answer → ℕ → Answer → Type 0
+abbrev pub Passed : Counts → ℕ → Counts → Type 0
 Passed r more s =
     (o : Outcome) (end end' len n : ℕ) (l l' : List ℕ) → (r.refusal ≡ 0 → r.used + more ≤ end) → end ≤ len → Done o end' len n l l' r → Done (chain o (passing more)) end len n l l' s
 
 -- ---- a key that is fixed, and the value
 
-module _ (position a : ℕ) (fx : Bool) (key value : Reader) (d : Depths) (place : ℕ) (part : List ℕ) (b j e n : ℕ) (l l₁ : List ℕ) (k : Answer)
+module _ (position a : ℕ) (fx : Bool) (key value : Reader) (d : Depths) (place : ℕ) (part : List ℕ) (b j e n : ℕ) (l l₁ : List ℕ) (k : Counts)
     (c : Done (child (key d) place part j e) (e - j) (length part - j) n l l₁ k) where
   pub fixed_key_stop : (k.refusal ≡ 0 → ⊥) → Done (fixed_key position a fx key value d place part b j e) (e - j) (length part - j) n l l₁ k
   unfolding fixed_key
   fixed_key_stop z =
       stopped (e - j) (e - j) (length part - j) (length part - j) n l l₁ (child (key d) place part j e) (further (value_from position a fx key value d place part b e) j) k z (omega arith) c
 
-  module _ (z : k.refusal ≡ 0) (l' : List ℕ) (v : Answer)
+  module _ (z : k.refusal ≡ 0) (l' : List ℕ) (v : Counts)
       (w : Done (child (value d) place part (j + k.used) e) (e - (j + k.used)) (length part - (j + k.used)) k.count l₁ l' v) where
-    pub fixed_key_padded : (s : Answer) → fx ≡ true → e ≡ length part → Padded position a place part (j + k.used) v s
+    pub fixed_key_padded : (s : Counts) → fx ≡ true → e ≡ length part → Padded position a place part (j + k.used) v s
         → Done (fixed_key position a fx key value d place part b j e) (e - j) (length part - j) n l l' (answer s.refusal (k.used + s.used) s.count)
     unfolding fixed_key value_from
     fixed_key_padded s h i p =
@@ -168,7 +167,7 @@ module _ (part : List ℕ) (b j e : ℕ) (o : Ends) (q : o ≡ key_ends part b j
             rw (p, f) (refusing 3 (place + j) (e - j) (length part - j) n l (λ o. omega arith))
 
 module _ (position a : ℕ) (fx : Bool) (key value : Reader) (d : Depths) (place : ℕ) {part : List ℕ} {b j e : ℕ} {o : Ends} (t : KeyThere part b j e o) (n : ℕ) (l : List ℕ) (i : e ≤ b) (g : b ≤ length part)
-    (l₁ : List ℕ) (k : Answer) (c : Done (child (key d) place part j o.child) (o.child - j) (length part - j) n l l₁ k) where
+    (l₁ : List ℕ) (k : Counts) (c : Done (child (key d) place part j o.child) (o.child - j) (length part - j) n l l₁ k) where
   text_key_is : text_key position a fx key value d place part b j e ≡ chain (child (key d) place part j o.child) (further (value_before position a fx key value d place part b e o.width) j)
   unfolding text_key key_to
   text_key_is =
@@ -189,7 +188,7 @@ module _ (position a : ℕ) (fx : Bool) (key value : Reader) (d : Depths) (place
         (ended_refused (e - j) (o.child - j) (length part - j) (length part - j) n 3 (place + (j + k.used)) l l₁ (child (key d) place part j o.child)
         (further (value_before position a fx key value d place part b e o.width) j) k z x (λ o. omega arith) c.fits c)
 
-    pub text_key_value : j + k.used + o.width ≤ e → (l' : List ℕ) (v r : Answer)
+    pub text_key_value : j + k.used + o.width ≤ e → (l' : List ℕ) (v r : Counts)
         → Done (child (value d) place part (j + k.used) (e - o.width)) (e - o.width - (j + k.used)) (length part - (j + k.used)) k.count l₁ l' v → Passed v o.width r
         → Between (text_key position a fx key value d place part b j e) part j e n l l' (answer r.refusal (k.used + r.used) r.count)
     unfolding value_before
@@ -206,7 +205,7 @@ module _ (position a : ℕ) (fx : Bool) (key value : Reader) (d : Depths) (place
 -- ---- a step: a child, or an entry behind its padding
 
 -- an entry that is refused where it ends in its own padding, or ends behind it
-behind_padding_lem : (part : List ℕ) (j e u n : ℕ) (l l' : List ℕ) (o : Outcome) (r : Answer) → u ≤ length part - j → (e < j + u → o.refusal ≡ 3)
+behind_padding_lem : (part : List ℕ) (j e u n : ℕ) (l l' : List ℕ) (o : Outcome) (r : Counts) → u ≤ length part - j → (e < j + u → o.refusal ≡ 3)
     → Done o (e - (j + u)) (length part - (j + u)) n l l' r → Done (after u [] o) (e - j) (length part - j) n l l' (answer r.refusal (u + r.used) r.count)
 behind_padding_lem part j e u n l l' o r h i d = go (leb (j + u) e) refl
   where
@@ -229,7 +228,7 @@ module _ (position a : ℕ) (fk fx : Bool) (key value : Reader) (d : Depths) (pl
   unfolding entry_step read_entry chain
   entry_missing z = rw (pads.missing z) (rw (ne_eqb p.refusal 0 z) (refusing p.refusal pads.place (e - j) (length part - j) n l z))
 
-  module _ (z : p.refusal ≡ 0) (l' : List ℕ) (r : Answer) where
+  module _ (z : p.refusal ≡ 0) (l' : List ℕ) (r : Counts) where
     entry_behind : (e < j + p.value → (entry_from position a fx key value d place part b fk e (j + p.value)).refusal ≡ 3)
         → Done (entry_from position a fx key value d place part b fk e (j + p.value)) (e - (j + p.value)) (length part - (j + p.value)) n l l' r
         → Done (entry_step position a fk fx key value d place part b j e) (e - j) (length part - j) n l l' (answer r.refusal (p.value + r.used) r.count)
@@ -249,16 +248,16 @@ module _ (position a : ℕ) (fk fx : Bool) (key value : Reader) (d : Depths) (pl
         entry_behind (λ i. rw k (rw (lt-leb (j + p.value) e i))) (rw k c)
 
 -- by a test
-picked : (q : Bool) (s t : Step) (d : Depths) (place : ℕ) (part : List ℕ) (b j e end len n : ℕ) (l l' : List ℕ) (r : Answer) → q ≡ true
+picked : (q : Bool) (s t : Step) (d : Depths) (place : ℕ) (part : List ℕ) (b j e end len n : ℕ) (l l' : List ℕ) (r : Counts) → q ≡ true
     → Done (s d place part b j e) end len n l l' r → Done (pick q s t d place part b j e) end len n l l' r
 picked q s t d place part b j e end len n l l' r h c = rw h c
 
-other : (q : Bool) (s t : Step) (d : Depths) (place : ℕ) (part : List ℕ) (b j e end len n : ℕ) (l l' : List ℕ) (r : Answer) → q ≡ false
+other : (q : Bool) (s t : Step) (d : Depths) (place : ℕ) (part : List ℕ) (b j e end len n : ℕ) (l l' : List ℕ) (r : Counts) → q ≡ false
     → Done (t d place part b j e) end len n l l' r → Done (pick q s t d place part b j e) end len n l l' r
 other q s t d place part b j e end len n l l' r h c = rw h c
 
 -- an element of an array is a child
-pub step_child : (c : Context) (text : List ℕ) (i : Item) (place : ℕ) (part : List ℕ) (b j e n : ℕ) (l l' : List ℕ) (r : Answer) → i.entry ≡ false
+pub step_child : (c : Context) (text : List ℕ) (i : Item) (place : ℕ) (part : List ℕ) (b j e n : ℕ) (l l' : List ℕ) (r : Counts) → i.entry ≡ false
     → Between (child (value_in c (tree_at text i.child.at)) place part j e) part j e n l l' r → Between (step_in c text i place part b j e) part j e n l l' r
 unfolding child_step
 step_child c text i place part b j e n l l' r h g =
@@ -292,7 +291,7 @@ module _ {c : Context} {text shapes : List ℕ} {i : Item} {place : ℕ} {part :
   entry_within = let w = (pads_at c.position place j i.alignment part p s.repeated.aligned near s.starts s.padding).fits in let x = s.starts in omega arith
 
   module _ (b e n : ℕ) (l : List ℕ) where
-    as_entry : (l' : List ℕ) (r : Answer) → Between (entry_step c.position i.alignment i.keyed i.fixed keys values (depths_of c.depths) place part b j e) part j e n l l' r
+    as_entry : (l' : List ℕ) (r : Counts) → Between (entry_step c.position i.alignment i.keyed i.fixed keys values (depths_of c.depths) place part b j e) part j e n l l' r
         → Between (step_in c text i place part b j e) part j e n l l' r
     as_entry l' r g =
         picked i.entry (entry_step c.position i.alignment i.keyed i.fixed keys values) (child_step values) (depths_of c.depths) place part b j e (e - j) (length part - j) n l l' r s.entry g
@@ -301,7 +300,7 @@ module _ {c : Context} {text shapes : List ℕ} {i : Item} {place : ℕ} {part :
     step_unpadded z =
         as_entry l _ (entry_missing c.position i.alignment i.keyed i.fixed keys values (depths_of c.depths) place part b j e n l p s.repeated.aligned near s.starts s.padding z)
 
-    module _ (z : p.refusal ≡ 0) (l' : List ℕ) (r : Answer) where
+    module _ (z : p.refusal ≡ 0) (l' : List ℕ) (r : Counts) where
       pub step_keyed : i.keyed ≡ true → Between (fixed_key_in c text i place part b (j + p.value) e) part (j + p.value) e n l l' r
           → Between (step_in c text i place part b j e) part j e n l l' (answer r.refusal (p.value + r.used) r.count)
       step_keyed k g =

@@ -20,7 +20,7 @@ use Rattle.signature.proofs.Dispatch.{is_number, is_maybe}
 use Rattle.signature.proofs.ItemLaws.{number_held, entry_of, element_of, opens}
 use Rattle.reader_basic.specs.Answers.{Done}
 use Rattle.reader_basic.specs.Parts.{KeyAligned, key_reader}
-use Rattle.reader_basic.specs.declared.Answer.{Answer}
+use Rattle.meaning.specs.Calls.{Counts}
 use Rattle.meaning.specs.Choice.{pick}
 use Rattle.meaning.specs.Outcome.{Outcome}
 use Rattle.meaning.specs.Reading.{read_text}
@@ -152,7 +152,7 @@ item_at l t s d first i e = rw e (opens (letter_at l (s.at + 1)) (λ h. entry (e
         (same_item (item_in l t s).child o.entry o.same_key refl o.same_alignment o.same_fixed refl)
 
 -- arrays of numbers, as what is repeated in them
-module _ (text : List ℕ) (i : Item) (c w : ℕ) (q : NumberStep text i c w) (position : ℕ) (big : Bool) (nested : ℕ) (d : Depths) (place : ℕ) (part : List ℕ) (b lead end len n : ℕ) (l l' : List ℕ) (r : Answer) where
+module _ (text : List ℕ) (i : Item) (c w : ℕ) (q : NumberStep text i c w) (position : ℕ) (big : Bool) (nested : ℕ) (d : Depths) (place : ℕ) (part : List ℕ) (b lead end len n : ℕ) (l l' : List ℕ) (r : Counts) where
   pub plain_numbers : i.fixed ≡ true → ((d : Depths) (b : ℕ) → Done (elements (length part) (child_step (read_number position big c w) d place part b) (length part) lead) end len n l l' r)
       → Done (elements (length part) (item_step position big nested text i d place part b) (length part) lead) end len n l l' r
   plain_numbers f g = subst⁻¹ (λ (s : Step). Done (elements (length part) (s d place part b) (length part) lead) end len n l l' r) (q.plain f position big nested) (g d b)
@@ -163,7 +163,7 @@ module _ (text : List ℕ) (i : Item) (c w : ℕ) (q : NumberStep text i c w) (p
   held_numbers ends more f g = subst⁻¹ (λ (s : Step). Done (chain (elements_to (s d place part b) lead ends lead) (passing more)) end len n l l' r) (q.held f position big nested) g
 
 -- the elements are texts
-pub held_texts : (c : Context) (x shapes : List ℕ) (i : Item) (k : ℕ) → Repeated x shapes i → Text k ≡ element_kind i → (t : OffsetTable) (place : ℕ) (part : List ℕ) (lead end len n : ℕ) (l l' : List ℕ) (r : Answer)
+pub held_texts : (c : Context) (x shapes : List ℕ) (i : Item) (k : ℕ) → Repeated x shapes i → Text k ≡ element_kind i → (t : OffsetTable) (place : ℕ) (part : List ℕ) (lead end len n : ℕ) (l l' : List ℕ) (r : Counts)
     → ((d : Depths) → Done (elements_by (child_step (read_text k) d place part (lead + t.start)) t part lead) end len n l l' r) → Done (framed_of c x i t place part lead) end len n l l' r
 held_texts c x shapes i k w e t place part lead end len n l l' r g = go i.entry refl e
   where

@@ -15,18 +15,17 @@ use Rattle.signature.specs.declared.Letter.TheVariants.{Maybe}
 use Rattle.signature.proofs.TreeLaws.{maybe_tree}
 use Rattle.events.specs.Slices.{next_event, put}
 use Rattle.reader_basic.specs.Answers.{Done, From}
-use Rattle.reader_basic.specs.declared.Answer.{Answer}
+use Rattle.meaning.specs.Calls.{Counts}
 use Rattle.reader_basic.specs.declared.Context.{Context}
 use Rattle.meaning.proofs.Lists.{within_default}
 use Rattle.reader_basic.proofs.Answers.{answer, single, after_event, stopped, ended, ended_refused}
-use Rattle.reader_steps.specs.Openings.{Deeper, Opens}
-use Rattle.reader_steps.specs.declared.opening.Inner.{Inner}
+use Rattle.reader_steps.specs.Openings.{Inner, Deeper, Opens}
 use Rattle.reader_steps.specs.Places.{reader_of, body_in, value_at, value_in, inside_of}
 use Rattle.reader_steps.proofs.Deepening.{too_deep, within_open, same_inside}
 
 -- ---- the byte at the end
 
-module _ (o : Outcome) (part : List ℕ) (lead place n : ℕ) (l l' : List ℕ) (r : Answer) (g : Done o (length part - 1 - lead) (length part - lead) n l l' r) where
+module _ (o : Outcome) (part : List ℕ) (lead place n : ℕ) (l l' : List ℕ) (r : Counts) (g : Done o (length part - 1 - lead) (length part - lead) n l l' r) where
   pub end_byte_stop : (r.refusal ≡ 0 → ⊥) → From (chain o (end_byte place part lead)) part lead n l l' r
   end_byte_stop y = stopped _ _ _ _ n l l' o (end_byte place part lead) r y (omega arith) g
 
@@ -68,7 +67,7 @@ module _ {text : List ℕ} {at : ℕ} (t : Typed text at) (e : letter_at text at
 
     -- what it holds, of a type that stands at x, and is fixed or not
     module _ {c' : Context} (d : Deeper Depth.maybe c c') {m : ℕ} {l₁ : List ℕ} (p : m ≡ next_event n) (q : l₁ ≡ put l n (event 109 (place + lead) 0)) {x : ℕ} (there : x ≡ at + 1)
-        {b : Bool} (f : b ≡ fixed (tree_at text x)) (r : Answer) (l' : List ℕ) where
+        {b : Bool} (f : b ≡ fixed (tree_at text x)) (r : Counts) (l' : List ℕ) where
       as_read : From (after 0 (present (place + lead) ∷ []) (pick b (child (value_in c' (tree_at text x)) place part lead (length part))
           (chain (child (value_in c' (tree_at text x)) place part lead (length part - 1)) (end_byte place part lead)))) part lead n l l' r
           → From (inside_of c (tree_at text at) place part lead) part lead n l l' r

@@ -8,7 +8,7 @@ use Rattle.meaning.specs.Padding.{Aligns}
 use Rattle.meaning.proofs.TypeLaws.{number_aligned as aligned_number}
 use Rattle.container_depths.specs.Opening.{depths_of}
 use Rattle.de.specs.Parts.{padding_at}
-use Rattle.utils.specs.declared.Checked as leafs
+use Rattle.utils.specs.Checks as leafs
 use Rattle.container_depths.specs.declared.ContainerDepths.{ContainerDepths}
 use Rattle.signature.specs.Places.{letter_at}
 use Rattle.signature.specs.declared.Letter.TheVariants.{Text, Variant}
@@ -19,7 +19,7 @@ use Rattle.signature.proofs.Dispatch.{is_text_lem, is_variant}
 use Rattle.reader_basic.specs.Answers.{Done}
 use Rattle.reader_steps.specs.Places.{Contains, reader_of, body_in}
 use Rattle.reader_basic.specs.Parts.{Within}
-use Rattle.reader_basic.specs.declared.Answer.{Answer}
+use Rattle.meaning.specs.Calls.{Counts}
 use Rattle.reader_basic.proofs.Answers.{answer, both, stopped}
 use Rattle.reader_basic.proofs.Leaves.{Pads, pads_first, pads_done}
 use Rattle.reader_steps.proofs.Deepening.{few_variants}
@@ -81,7 +81,7 @@ module _ (text shapes : List ℕ) (s : Shape) (part : List ℕ) (place position 
       let e = container_pads.none_used z in
       stopped (length part) (length part) (length part) (length part) n l l _ (body_in position big d.variant (tree_at text s.at) d place part) (answer p.refusal 0 n) z (omega arith) (rw e at g))
 
-  pub container_on : (l' : List ℕ) (r : Answer) → p.refusal ≡ 0 → Done (body_in position big d.variant (tree_at text s.at) d place part p.value) (length part - p.value) (length part - p.value) n l l' r
+  pub container_on : (l' : List ℕ) (r : Counts) → p.refusal ≡ 0 → Done (body_in position big d.variant (tree_at text s.at) d place part p.value) (length part - p.value) (length part - p.value) n l l' r
       → Done (reader_of position big d.variant (tree_at text s.at) (depths_of d) place part) (length part) (length part) n l l' (answer r.refusal (p.value + r.used) r.count)
   container_on l' r z g =
       let f = container_pads.fits in
@@ -94,7 +94,7 @@ module _ (text shapes : List ℕ) (s : Shape) (part : List ℕ) (place position 
 pub reads_variant : (signature : List ℕ) (at : ℕ) → Typed signature at → letter_at signature at ≡ Variant → tree_at signature at ≡ variant
 reads_variant signature at t e = (is_variant signature at _ _ t.found e).0
 
-pub body_variant : (signature : List ℕ) (at position : ℕ) (big : Bool) (d : ContainerDepths) (k : ℕ) (part : List ℕ) (lead end len n : ℕ) (l l' : List ℕ) (r : Answer) → tree_at signature at ≡ variant
+pub body_variant : (signature : List ℕ) (at position : ℕ) (big : Bool) (d : ContainerDepths) (k : ℕ) (part : List ℕ) (lead end len n : ℕ) (l l' : List ℕ) (r : Counts) → tree_at signature at ≡ variant
     → Done (body_in position big d.variant variant d k part lead) end len n l l' r → Done (body_in position big d.variant (tree_at signature at) d k part lead) end len n l l' r
 body_variant signature at position big d k part lead end len n l l' r e g = rw e g
 

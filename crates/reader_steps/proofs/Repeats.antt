@@ -16,7 +16,7 @@ use Rattle.signature.proofs.Dispatch.{is_array}
 use Rattle.signature.proofs.TreeLaws.{typed_by}
 use Rattle.signature.proofs.ItemLaws.{item_entry, item_element, opens}
 use Rattle.reader_basic.specs.Answers.{Between}
-use Rattle.reader_basic.specs.declared.Answer.{Answer}
+use Rattle.meaning.specs.Calls.{Counts}
 use Rattle.reader_basic.specs.declared.Context.{Context}
 use Rattle.reader_steps.specs.Codes.{Held}
 use Rattle.reader_steps.specs.Places.{value_in, step_in, element_kind, item_by, item_of, Repeated, ItemAt}
@@ -128,7 +128,7 @@ module _ (l t : List ℕ) (at : ℕ) {b x : Bool} (h : b ≡ x) where
   pub fixed_as : {f : Bool} → (item_by b l t at).fixed ≡ f → (item_by x l t at).fixed ≡ f
   fixed_as {f} r = subst (λ (y : Bool). (item_by y l t at).fixed ≡ f) h r
 
-module _ (c : Context) (l t : List ℕ) (at : ℕ) (b : Bool) (place : ℕ) (part : List ℕ) (s j e n : ℕ) (o o' : List ℕ) (r : Answer) where
+module _ (c : Context) (l t : List ℕ) (at : ℕ) (b : Bool) (place : ℕ) (part : List ℕ) (s j e n : ℕ) (o o' : List ℕ) (r : Counts) where
   pub step_entry : b ≡ true → Between (step_in c l (item_by true l t at) place part s j e) part j e n o o' r → Between (step_in c l (item_by b l t at) place part s j e) part j e n o o' r
   step_entry h g = subst⁻¹ (λ (x : Bool). Between (step_in c l (item_by x l t at) place part s j e) part j e n o o' r) h g
 

@@ -1,5 +1,5 @@
 -- What rides along in one number: taken apart, and with one more container open. Assumes nothing.
-use Rattle.std.proofs.Common.{◌≡◌, ℕ, ◌+◌, ◌*◌, ◌/◌, ◌%◌, ◌<◌, ◌≤◌, Bool, true, false, List, length, sym, subst, arith}
+use Rattle.std.proofs.Common.{◌≡◌, ℕ, ◌+◌, ◌*◌, ◌/◌, ◌%◌, ◌<◌, ◌≤◌, Bool, true, false, List, length, sym, subst, arith, leb, leb-true, leb-false, refl}
 use mathlib.Core.Path.{subst⁻¹}
 use Rattle.meaning.specs.Depths as Depth
 use Rattle.meaning.specs.Depths.{Depths, Opened, depths, total, depth_refusal, opened}
@@ -10,11 +10,14 @@ use Rattle.framing_offsets.specs.declared.OffsetTable.{OffsetTable}
 use Rattle.container_depths.specs.Opening.{depths_of}
 use Rattle.reader_basic.specs.Answers.{Done}
 use Rattle.reader_basic.specs.Parts.{Inside, number_by, reading_by, elements_by}
-use Rattle.reader_basic.specs.declared.Answer.{Answer}
+use Rattle.meaning.specs.Calls.{Counts}
 use Rattle.reader_steps.specs.Places.{reader_of, value_in}
 use Rattle.reader_basic.specs.declared.Context.{Context}
 use Rattle.reader_steps.specs.Rides.{open_in, context_of, Begins}
-use Rattle.reader_steps.specs.Openings.{Deeper, Opens}
+use Rattle.reader_steps.specs.Openings.{Deeper, Opens, inner, inside}
+use Rattle.std.specs.Prelude.{Ok, Err}
+use Rattle.meaning.specs.Choice.{pick}
+use Rattle.meaning.specs.declared.refusals.Refusal.TheVariants.{ContainersTooDeep}
 
 -- ---- numbers
 
@@ -102,7 +105,7 @@ moved x r k e z =
     let counts : (r + 4294967296 * k) / 4294967296 ≡ r / 4294967296 + k = omega arith in
     record { position = omega arith; big = rw order; depths = rw counts e; shallow = rw (counts, e) z }
 
-refuses : (x : Opened) (r k : ℕ) → k ≡ depth_refusal (opened x (depths_of (context_of r).depths)) → (k ≡ 0 → ⊥) → Opens x (context_of r) (record { refusal = k; ride = r })
+refuses : (x : Opened) (r k : ℕ) → k ≡ depth_refusal (opened x (depths_of (context_of r).depths)) → (k ≡ 0 → ⊥) → Opens x (context_of r) (record { refusal = k; ride = 0 })
 refuses x r k e z = record { refusal = e; deeper = λ q. absurd (z q) }
 
 opens : (x : Opened) (r r' : ℕ) → 0 ≡ depth_refusal (opened x (depths_of (context_of r).depths)) → Deeper x (context_of r) (context_of r') → Opens x (context_of r) (record { refusal = 0; ride = r' })
@@ -116,7 +119,7 @@ module _ (r : ℕ) (w : Shallow r) where
   abbrev counts : ℕ
   counts = r / 4294967296
 
-  pub maybe_full : 64 ≤ total (depths_of (context_of r).depths) → Opens Depth.maybe (context_of r) (record { refusal = 12; ride = r })
+  pub maybe_full : 64 ≤ total (depths_of (context_of r).depths) → Opens Depth.maybe (context_of r) (record { refusal = 12; ride = 0 })
   unfolding context_of
   maybe_full h = refuses Depth.maybe r 12 (sym (limit.over_total _ _ _ _ w.structure w.array (omega arith))) (λ q. omega arith)
 
@@ -127,7 +130,7 @@ module _ (r : ℕ) (w : Shallow r) where
       opens Depth.maybe r (r + 72057594037927936) (sym z)
       (moved Depth.maybe r 16777216 (more_fourth counts (each_small _ _ _ _ w.total).1.1.1) z)
 
-  pub variant_full : 64 ≤ total (depths_of (context_of r).depths) → Opens Depth.variant (context_of r) (record { refusal = 12; ride = r })
+  pub variant_full : 64 ≤ total (depths_of (context_of r).depths) → Opens Depth.variant (context_of r) (record { refusal = 12; ride = 0 })
   unfolding context_of
   variant_full h = refuses Depth.variant r 12 (sym (limit.over_total _ _ _ _ w.structure w.array (omega arith))) (λ q. omega arith)
 
@@ -138,11 +141,11 @@ module _ (r : ℕ) (w : Shallow r) where
       opens Depth.variant r (r + 281474976710656) (sym z)
       (moved Depth.variant r 65536 (more_third counts (each_small _ _ _ _ w.total).1.1.0) z)
 
-  pub array_over : 32 ≤ r / 1099511627776 % 256 → Opens Depth.array (context_of r) (record { refusal = 11; ride = r })
+  pub array_over : 32 ≤ r / 1099511627776 % 256 → Opens Depth.array (context_of r) (record { refusal = 11; ride = 0 })
   unfolding context_of
   array_over h = refuses Depth.array r 11 (sym (limit.over_array _ _ _ _ w.structure (omega arith))) (λ q. omega arith)
 
-  pub array_full : r / 1099511627776 % 256 < 32 → 64 ≤ total (depths_of (context_of r).depths) → Opens Depth.array (context_of r) (record { refusal = 12; ride = r })
+  pub array_full : r / 1099511627776 % 256 < 32 → 64 ≤ total (depths_of (context_of r).depths) → Opens Depth.array (context_of r) (record { refusal = 12; ride = 0 })
   unfolding context_of
   array_full g h = refuses Depth.array r 12 (sym (limit.over_total _ _ _ _ w.structure (omega arith) (omega arith))) (λ q. omega arith)
 
@@ -153,11 +156,11 @@ module _ (r : ℕ) (w : Shallow r) where
       opens Depth.array r (r + 1099511627776) (sym z)
       (moved Depth.array r 256 (more_second counts (each_small _ _ _ _ w.total).1.0) z)
 
-  pub structure_over : 32 ≤ r / 4294967296 % 256 → Opens Depth.structure (context_of r) (record { refusal = 10; ride = r })
+  pub structure_over : 32 ≤ r / 4294967296 % 256 → Opens Depth.structure (context_of r) (record { refusal = 10; ride = 0 })
   unfolding context_of
   structure_over h = refuses Depth.structure r 10 (sym (limit.over_structure _ _ _ _ (omega arith))) (λ q. omega arith)
 
-  pub structure_full : r / 4294967296 % 256 < 32 → 64 ≤ total (depths_of (context_of r).depths) → Opens Depth.structure (context_of r) (record { refusal = 12; ride = r })
+  pub structure_full : r / 4294967296 % 256 < 32 → 64 ≤ total (depths_of (context_of r).depths) → Opens Depth.structure (context_of r) (record { refusal = 12; ride = 0 })
   unfolding context_of
   structure_full g h = refuses Depth.structure r 12 (sym (limit.over_total _ _ _ _ (omega arith) w.array (omega arith))) (λ q. omega arith)
 
@@ -168,12 +171,21 @@ module _ (r : ℕ) (w : Shallow r) where
       opens Depth.structure r (r + 4294967296) (sym z)
       (moved Depth.structure r 1 (more_first counts (each_small _ _ _ _ w.total).0) z)
 
+-- one more where fewer are open than may be
+pub opens_by : {x : Opened} (r one : ℕ) → (64 ≤ total (depths_of (context_of r).depths) → Opens x (context_of r) (record { refusal = 12; ride = 0 }))
+    → (total (depths_of (context_of r).depths) < 64 → Opens x (context_of r) (record { refusal = 0; ride = r + one })) → Opens x (context_of r) (inner (inside r one))
+opens_by {x} r one f g = go (leb 64 (total (depths_of (context_of r).depths))) refl
+  where
+    go : (b : Bool) → leb 64 (total (depths_of (context_of r).depths)) ≡ b → Opens x (context_of r) (inner (pick b (Err ContainersTooDeep) (Ok (r + one))))
+    go true h = f (leb-true 64 _ h)
+    go false h = g (leb-false 64 _ h)
+
 -- ---- a context and a position that were taken from a number
 
 pub inside_as : {k c : Context} {len place : ℕ} → k ≡ c → Inside len place c → Inside len place k
 inside_as {len = len} {place} e w = subst⁻¹ (λ (x : Context). Inside len place x) e w
 
-module _ {k c : Context} (e : k ≡ c) (code w place : ℕ) (part : List ℕ) {end len n : ℕ} {l l' : List ℕ} {r : Answer} where
+module _ {k c : Context} (e : k ≡ c) (code w place : ℕ) (part : List ℕ) {end len n : ℕ} {l l' : List ℕ} {r : Counts} where
   pub number_as : ((d : Depths) → Done (number_by k code w d place part) end len n l l' r) → (d : Depths) → Done (number_by c code w d place part) end len n l l' r
   number_as g d = subst (λ (x : Context). Done (number_by x code w d place part) end len n l l' r) e (g d)
 
@@ -181,14 +193,14 @@ module _ {k c : Context} (e : k ≡ c) (code w place : ℕ) (part : List ℕ) {e
       → Done (elements_by (child_step (reading_by c code w) (depths_of c.depths) place part b) t part lead) end len n l l' r
   readings_as lead b t g = subst (λ (x : Context). Done (elements_by (child_step (reading_by x code w) (depths_of x.depths) place part b) t part lead) end len n l l' r) e g
 
-pub numbers_as : {k c : Context} → k ≡ c → (code w place : ℕ) (part : List ℕ) (lead : ℕ) {end len n : ℕ} {l l' : List ℕ} {r : Answer}
+pub numbers_as : {k c : Context} → k ≡ c → (code w place : ℕ) (part : List ℕ) (lead : ℕ) {end len n : ℕ} {l l' : List ℕ} {r : Counts}
     → ((d : Depths) (b : ℕ) → Done (elements (length part) (child_step (number_by k code w) d place part b) (length part) lead) end len n l l' r)
     → (d : Depths) (b : ℕ) → Done (elements (length part) (child_step (number_by c code w) d place part b) (length part) lead) end len n l l' r
 numbers_as e code w place part lead {end} {len} {n} {l} {l'} {r} g d b =
     subst (λ (x : Context). Done (elements (length part) (child_step (number_by x code w) d place part b) (length part) lead) end len n l l' r) e (g d b)
 
 -- a reading at the position and in the order that a number begins with
-pub begun : {position : ℕ} {big : Bool} {ride : ℕ} → Begins position big ride → (t : Tree) (place : ℕ) (part : List ℕ) {end len n : ℕ} {l l' : List ℕ} {r : Answer}
+pub begun : {position : ℕ} {big : Bool} {ride : ℕ} → Begins position big ride → (t : Tree) (place : ℕ) (part : List ℕ) {end len n : ℕ} {l l' : List ℕ} {r : Counts}
     → Done (value_in (context_of ride) t place part) end len n l l' r → Done (reader_of position big (context_of ride).depths.variant t (depths_of (context_of ride).depths) place part) end len n l l' r
 begun {position} {big} {ride} b t place part {end} {len} {n} {l} {l'} {r} d =
     subst (λ (x : Bool). Done (reader_of position x (context_of ride).depths.variant t (depths_of (context_of ride).depths) place part) end len n l l' r) b.order

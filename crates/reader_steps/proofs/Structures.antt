@@ -12,7 +12,6 @@ use Rattle.meaning.specs.Outcome.{Outcome, done, refused, after, chain, passing,
 use Rattle.meaning.specs.Reading.{child, further, end_padding, offset_stands, field_offset, fields_in, read_tree, read_variant, reading, structure_body, structure_in}
 use Rattle.meaning.proofs.OffsetLaws.{encoded_width_1, encoded_width_2, encoded_width_4}
 use Rattle.utils.specs.Checks as leaf
-use Rattle.utils.specs.declared.Checked as leafs
 use Rattle.signature.specs.Places.{letter_at}
 use Rattle.signature.specs.Shapes.{Shaped, shape_in}
 use Rattle.signature.specs.declared.Letter.TheVariants.{End, OpenStructure, CloseStructure}
@@ -22,13 +21,11 @@ use Rattle.signature.proofs.Letters.{letter_end}
 use Rattle.signature.proofs.TreeLaws.{LastField, NextField, last_field_of, next_field_of, structure_tree, structure_fixed, structure_alignment}
 use Rattle.events.specs.Slices.{next_event, put}
 use Rattle.reader_basic.specs.Answers.{Done, From, Between}
-use Rattle.reader_steps.specs.Openings.{Deeper, Opens}
-use Rattle.reader_steps.specs.Children.{ends_at, ends_missing, field_ends}
-use Rattle.reader_steps.specs.declared.ends.Ends.{Ends}
-use Rattle.reader_steps.specs.declared.opening.Inner.{Inner}
+use Rattle.reader_steps.specs.Openings.{Inner, Deeper, Opens}
+use Rattle.reader_steps.specs.Children.{Ends, ends_at, ends_missing, field_ends}
 use Rattle.reader_steps.specs.Places.{reader_of, readers_of, body_in, inside_of, fields_of}
 use Rattle.reader_basic.specs.Parts.{offset_answer}
-use Rattle.reader_basic.specs.declared.Answer.{Answer}
+use Rattle.meaning.specs.Calls.{Counts}
 use Rattle.reader_basic.specs.declared.Context.{Context}
 use Rattle.reader_basic.proofs.Answers.{answer, refusing, stopped, after_event}
 use Rattle.reader_basic.proofs.Rests.{Rest, rest_all, rest_on, rest_as, rest_chain, rest_end}
@@ -62,7 +59,7 @@ module _ (position : ℕ) (big : Bool) (nested : ℕ) (h : nested ≤ 64) (fx : 
 -- ---- behind the last field
 
 -- nothing is passed
-pass_none : (o : Outcome) (end len n : ℕ) (l l' : List ℕ) (r : Answer) (k : ℕ) → k ≡ 0 → Done o end len n l l' r → Done (chain o (passing k)) end len n l l' r
+pass_none : (o : Outcome) (end len n : ℕ) (l l' : List ℕ) (r : Counts) (k : ℕ) → k ≡ 0 → Done o end len n l l' r → Done (chain o (passing k)) end len n l l' r
 unfolding chain
 pass_none o end len n l l' r k e d = go (eqb o.refusal 0) refl
   where
@@ -78,7 +75,7 @@ pass_none o end len n l l' r k e d = go (eqb o.refusal 0) refl
     go false q = d
 
 -- the structure is fixed: padding; or it is not: the table, which the last field ends before
-module _ (read : ℕ → List ℕ → Outcome) (position : ℕ) (fx : Bool) (a place : ℕ) (part : List ℕ) (j end n : ℕ) (l l' : List ℕ) (r s : Answer)
+module _ (read : ℕ → List ℕ → Outcome) (position : ℕ) (fx : Bool) (a place : ℕ) (part : List ℕ) (j end n : ℕ) (l l' : List ℕ) (r s : Counts)
     (c : Between (child read place part j end) part j end n l l' r) where
   pub closed_by_padding : fx ≡ true → end ≡ length part → Padded position a place part j r s
       → From (chain (end_padding position fx a place part j (child read place part j end)) (passing (length part - end))) part j n l l' s
@@ -127,13 +124,13 @@ fields_begin position big nested text at fx a place part lead w d n l g e h = re
 }
 
 -- an offset that stands, and one that does not
-pub record OffsetThere (lead w end : ℕ) (part : List ℕ) (o : leafs.Checked) : Type 0 where
+pub record OffsetThere (lead w end : ℕ) (part : List ℕ) (o : leaf.Checked) : Type 0 where
   pub stands : offset_stands lead w end ≡ true
   pub is : o.value ≡ field_offset lead w end part
   pub start : lead ≤ end
   pub room : w ≤ end
 
-module _ (lead w end : ℕ) (part : List ℕ) (o : leafs.Checked) (q : o ≡ offset_answer lead w end part) where
+module _ (lead w end : ℕ) (part : List ℕ) (o : leaf.Checked) (q : o ≡ offset_answer lead w end part) where
   pub offset_missing : (o.refusal ≡ 0 → ⊥) → offset_stands lead w end ≡ false
   unfolding offset_answer
   offset_missing z = go (offset_stands lead w end) (ap (λ x. x.refusal) q)
@@ -179,7 +176,7 @@ power_most (suc (suc (suc zero))) h = omega arith
 power_most (suc (suc (suc (suc zero)))) h = omega arith
 power_most (suc (suc (suc (suc (suc w))))) h = absurd (omega arith)
 
-pub offset_small : (lead w end : ℕ) (part : List ℕ) (o : leafs.Checked) → ((i : ℕ) → get_or part i 0 < 256) → w ≤ 4 → OffsetThere lead w end part o → o.value < 4294967296
+pub offset_small : (lead w end : ℕ) (part : List ℕ) (o : leaf.Checked) → ((i : ℕ) → get_or part i 0 < 256) → w ≤ 4 → OffsetThere lead w end part o → o.value < 4294967296
 unfolding field_offset
 offset_small lead w end part o b h s = rw s.is (go (eqb end lead))
   where
@@ -203,7 +200,7 @@ module _ (lead w end : ℕ) (part : List ℕ) (fx : Bool) where
   unfolding field_ends
   ends_fixed h = rw h
 
-  module _ (v : ℕ) (y : v ≡ w) (o : leafs.Checked) (q : o ≡ offset_answer lead v end part) (h : fx ≡ false) where
+  module _ (v : ℕ) (y : v ≡ w) (o : leaf.Checked) (q : o ≡ offset_answer lead v end part) (h : fx ≡ false) where
     pub ends_missing_lem : (o.refusal ≡ 0 → ⊥) → ends_missing o.refusal ≡ field_ends lead w fx end part
     unfolding field_ends
     ends_missing_lem z =
@@ -235,7 +232,7 @@ others false q h = let z : ◌≡◌ {A = ℕ} 0 1 = cc in absurd (omega arith)
 module _ {position : ℕ} {big : Bool} {nested : ℕ} {text : List ℕ} {at : ℕ} {fx : Bool} {a place : ℕ} {part : List ℕ} {lead w : ℕ} {d : Depths} {n : ℕ} {l : List ℕ} {i end u m : ℕ} {l₁ : List ℕ}
     (e : FieldsLeft position big nested text at fx a place part lead w d n l i end u m l₁) (k : nested ≤ 64) {shapes : List ℕ} {f : Shape} where
   -- through the last field
-  pub fields_last : (l₂ : List ℕ) (r : Answer) → LastField text shapes i f
+  pub fields_last : (l₂ : List ℕ) (r : Counts) → LastField text shapes i f
       → Done (chain (end_padding position fx a place part (lead + u) (child (reader_of position big nested (tree_at text f.at) d) place part (lead + u) end)) (passing (length part - end)))
       (length part - (lead + u)) (length part - (lead + u)) m l₁ l₂ r
       → Done (fields_in position fx a place part lead w d (readers_of position big nested (fields_at text at)) (length part) lead) (length part - lead) (length part - lead) n l l₂
@@ -315,7 +312,7 @@ module _ {position : ℕ} {big : Bool} {nested : ℕ} {text : List ℕ} {at : �
               absurd (omega arith)
 
     -- the field is read: refused, or done and the others are left
-    module _ {stop end' : ℕ} (t : Turn position big nested text fx a place part lead w d i end (lead + u) f stop end') (l₂ : List ℕ) (r : Answer)
+    module _ {stop end' : ℕ} (t : Turn position big nested text fx a place part lead w d i end (lead + u) f stop end') (l₂ : List ℕ) (r : Counts)
         (c : Done (child (reader_of position big nested (tree_at text f.at) d) place part (lead + u) stop) (stop - (lead + u)) (length part - (lead + u)) m l₁ l₂ r) where
       pub fields_stop : (r.refusal ≡ 0 → ⊥)
           → Done (fields_in position fx a place part lead w d (readers_of position big nested (fields_at text at)) (length part) lead) (length part - lead) (length part - lead) n l l₂
@@ -378,7 +375,7 @@ module _ {text shapes : List ℕ} {s : Shape} (t : Described text shapes s) (e :
   unfolding body_in structure_in
   structure_deep o z = rw (structure_tree t e) (too_deep (place + lead) _ _ _ n l o z)
 
-  pub structure_on : {c' : Context} → Deeper Depth.structure c c' → (m : ℕ) (l₁ l' : List ℕ) (a : Answer) → m ≡ next_event n → l₁ ≡ put l n (event 40 (place + lead) 0)
+  pub structure_on : {c' : Context} → Deeper Depth.structure c c' → (m : ℕ) (l₁ l' : List ℕ) (a : Counts) → m ≡ next_event n → l₁ ≡ put l n (event 40 (place + lead) 0)
       → From (chain (fields_of c' text s place part lead) (closing_at (place + lead))) part lead m l₁ l' a
       → From (inside_of c (tree_at text s.at) place part lead) part lead n l l' a
   unfolding body_in structure_in structure_body enclosed
@@ -396,7 +393,7 @@ module _ {text shapes : List ℕ} {s : Shape} (t : Described text shapes s) (e :
       (after_event _ _ n m l l₁ l' (opening 40 (place + lead)) _ a p q g))
 
   -- a refusal among the fields closes nothing
-  pub structure_stop : {c' : Context} → Deeper Depth.structure c c' → (m : ℕ) (l₁ l' : List ℕ) (a b : Answer) → m ≡ next_event n → l₁ ≡ put l n (event 40 (place + lead) 0) → a ≡ b → (b.refusal ≡ 0 → ⊥)
+  pub structure_stop : {c' : Context} → Deeper Depth.structure c c' → (m : ℕ) (l₁ l' : List ℕ) (a b : Counts) → m ≡ next_event n → l₁ ≡ put l n (event 40 (place + lead) 0) → a ≡ b → (b.refusal ≡ 0 → ⊥)
       → From (fields_of c' text s place part lead) part lead m l₁ l' b → From (inside_of c (tree_at text s.at) place part lead) part lead n l l' a
   structure_stop {c'} d m l₁ l' a b p q e z g =
       let len = length part - lead in

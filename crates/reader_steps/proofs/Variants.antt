@@ -1,6 +1,8 @@
 -- A law for each way out of the reader of variants. Assumes nothing.
 use Rattle.std.proofs.Common.{◌≡◌, ℕ, ◌+◌, ◌-◌, ◌≤◌, Bool, true, false, eqb, List, [], ◌∷◌, ◌++◌, length, drop, sym, refl, ap, ◌∙◌, append_assoc, arith, drop_of_length-le, eq-eqb, ne_eqb, eqb-true}
 use mathlib.Core.Option.{some}
+use Rattle.std.specs.Bool.{then_some}
+use Rattle.std.specs.Prelude.{IfSome}
 use Rattle.meaning.specs.Choice.{pick}
 use Rattle.meaning.specs.Depths as Depth
 use Rattle.meaning.specs.Depths.{Depths}
@@ -23,12 +25,11 @@ use Rattle.signature.proofs.Letters.{Key, key_at}
 use Rattle.events.specs.Slices.{next_event, put, put_all, advance}
 use Rattle.reader_basic.specs.Answers.{Done, From}
 use Rattle.reader_basic.specs.Parts.{key_reader}
-use Rattle.reader_basic.specs.declared.Answer.{Answer}
+use Rattle.meaning.specs.Calls.{Counts}
 use Rattle.reader_basic.specs.declared.Context.{Context}
 use Rattle.reader_basic.proofs.Answers.{answer, refusing, single, after_event, both, stopped, ended}
-use Rattle.reader_steps.specs.Openings.{Deeper, Opens}
-use Rattle.reader_steps.specs.Children.{only_letter, HoldsBasic}
-use Rattle.reader_steps.specs.declared.opening.Inner.{Inner}
+use Rattle.reader_steps.specs.Openings.{Inner, Deeper, Opens}
+use Rattle.reader_steps.specs.Children.{OnlyBasic, only_letter, HoldsBasic}
 use Rattle.reader_steps.specs.Places.{reader_of, body_in, value_at, value_in, inside_of, variant_tree}
 use Rattle.reader_steps.proofs.Deepening.{too_deep, within_open, same_inside}
 use Rattle.reader_steps.proofs.Readers.{reading_basic}
@@ -69,7 +70,7 @@ module _ (at from : ℕ) (letters : List ℕ) (n m : ℕ) (l l₁ : List ℕ) (p
 
 -- ---- the last event
 
-module _ (o : Outcome) (part : List ℕ) (lead place end n : ℕ) (l l₁ : List ℕ) (r : Answer) (h : Done o end (length part - lead) n l l₁ r) where
+module _ (o : Outcome) (part : List ℕ) (lead place end n : ℕ) (l l₁ : List ℕ) (r : Counts) (h : Done o end (length part - lead) n l l₁ r) where
   pub variant_stop : (r.refusal ≡ 0 → ⊥) → From (chain (chain o (remaining (length part - lead))) (closing_at (place + lead))) part lead n l l₁ r
   variant_stop z =
       let len = length part - lead in
@@ -100,7 +101,7 @@ module _ (part : List ℕ) (lead place : ℕ) (c : Context) (n : ℕ) (l : List 
   unfolding body_in variant_in
   variant_none z = rw (eq-eqb (separator (drop lead part)) 0 (sym hs ∙ z)) (refusing 8 (place + lead) _ _ n l (λ w. omega arith))
 
-  module _ (z : s ≡ 0 → ⊥) (l₁ : List ℕ) (h : Answer) (f : Done (front (place + lead) (place + (lead + s)) letters) 0 0 n l l₁ h) where
+  module _ (z : s ≡ 0 → ⊥) (l₁ : List ℕ) (h : Counts) (f : Done (front (place + lead) (place + (lead + s)) letters) 0 0 n l l₁ h) where
     variant_is : inside_of c variant_tree place part lead ≡ chain (chain (front (place + lead) (place + (lead + s)) letters) typed) (closing_at (place + lead))
     unfolding body_in variant_in variant_body enclosed
     variant_is =
@@ -127,7 +128,7 @@ module _ (part : List ℕ) (lead place : ℕ) (c : Context) (n : ℕ) (l : List 
           go false e w = w
 
       -- what is behind it answers the whole
-      on : (l' : List ℕ) (r : Answer) → From (chain (typed 0) (closing_at (place + lead))) part lead h.count l₁ l' r → From (inside_of c variant_tree place part lead) part lead n l l' r
+      on : (l' : List ℕ) (r : Counts) → From (chain (typed 0) (closing_at (place + lead))) part lead h.count l₁ l' r → From (inside_of c variant_tree place part lead) part lead n l l' r
       unfolding text_as chain
       on l' r g =
           let u : h.used ≡ 0 = (let w = f.fits in omega arith) in
@@ -171,7 +172,7 @@ module _ (part : List ℕ) (lead place : ℕ) (c : Context) (n : ℕ) (l : List 
               (within_open d (place + lead) (variant_value (λ u. reading c.position c.big (64 - c.depths.variant) u) (depths_of c.depths) place part lead s T)
               ∙ ap (λ (x : Reader). chain (child (x (depths_of c'.depths)) place part lead (lead + (s - 1))) (remaining (length part - lead))) read_inside)
 
-          pub variant_closed : (read : ℕ → List ℕ → Outcome) (stop : ℕ) → value_in c' T ≡ read → stop ≡ lead + (s - 1) → (l' : List ℕ) (r : Answer)
+          pub variant_closed : (read : ℕ → List ℕ → Outcome) (stop : ℕ) → value_in c' T ≡ read → stop ≡ lead + (s - 1) → (l' : List ℕ) (r : Counts)
               → From (chain (chain (child read place part lead stop) (remaining (length part - lead))) (closing_at (place + lead))) part lead h.count l₁ l' r
               → From (inside_of c variant_tree place part lead) part lead n l l' r
           variant_closed read stop e i l' r g = on l' r (rw (valued, e, ← i) g)
@@ -263,7 +264,7 @@ module _ (part : List ℕ) (lead place : ℕ) (c : Context) (n : ℕ) (l : List 
   pub basic_deep : {r : Inner} → Opens Depth.variant c r → (r.refusal ≡ 0 → ⊥) → From (inside_of c variant_tree place part lead) part lead n l l₂ (answer r.refusal 0 g)
   basic_deep o w = variant_deep part lead place c n l nul refl some_nul l₂ (answer 0 0 g) first refl (basic held.it) held.type o w
 
-  pub basic_closed : {c' : Context} → Deeper Depth.variant c c' → c.depths.variant ≤ 64 → (l' : List ℕ) (r : Answer)
+  pub basic_closed : {c' : Context} → Deeper Depth.variant c c' → c.depths.variant ≤ 64 → (l' : List ℕ) (r : Counts)
       → From (chain (chain (child (key_reader c'.position c'.big kind (depths_of c'.depths)) place part lead (from - 1)) (remaining (length part - lead))) (closing_at (place + lead))) part lead g l₂ l' r
       → From (inside_of c variant_tree place part lead) part lead n l l' r
   basic_closed {c'} d v l' r w =
@@ -286,3 +287,8 @@ holds_basic part lead s kind e z h k b = record { type = ap (λ (x : ℕ). lead 
 
 pub same_value : (c : Context) (t u : List ℕ) (x : ℕ) → t ≡ u → x ≡ 0 → value_in c (tree_at u 0) ≡ value_in c (tree_at t x)
 same_value c t u x e f = rw (e, f)
+
+-- a character, where a test says that it is one
+pub only_by : (l : List ℕ) (c : ℕ) (b : Bool) → (b ≡ true → OnlyBasic l c) → IfSome (then_some b c) (OnlyBasic l)
+only_by l c true f = f refl
+only_by l c false f = tt

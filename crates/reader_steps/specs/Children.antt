@@ -1,5 +1,5 @@
 -- Where children end by an offset; a variant of one letter. Assumes nothing: these are definitions.
-use Rattle.std.specs.Prelude.{◌≡◌, ℕ, ◌+◌, ◌-◌, ◌<◌, ◌≤◌, Bool, ◌&&◌, List, length, take, drop, ◌==◌, ◌≢◌, nat_le}
+use Rattle.std.specs.Prelude.{◌≡◌, ℕ, ◌+◌, ◌-◌, ◌<◌, ◌≤◌, Bool, ◌&&◌, List, length, take, drop, ◌==◌, ◌≢◌, nat_le, Result, Ok, Err}
 use Rattle.meaning.specs.Choice.{pick}
 use Rattle.meaning.specs.Offsets.{encoded_width, last_offset}
 use Rattle.meaning.specs.Reading.{offset_stands, field_offset, separator}
@@ -8,13 +8,25 @@ use Rattle.signature.specs.Places.{letter_at, letter_of}
 use Rattle.signature.specs.Steps.{key_alignment}
 use Rattle.signature.specs.declared.Letter.{Letter}
 use Rattle.signature.specs.declared.Letter.TheVariants.{End}
-use Rattle.reader_steps.specs.declared.ends.Ends.{Ends}
+use Rattle.meaning.specs.Refused.{number_of}
+use Rattle.meaning.specs.declared.refusals.Refusal.{Refusal}
+use Rattle.reader_steps.specs.declared.ends.Ends as found
+
+-- where a child ends by an offset, and the offset's width; or that none stands there
+pub record Ends : Type 0 where
+  pub refusal : ℕ
+  pub child : ℕ
+  pub width : ℕ
 
 abbrev pub ends_at : ℕ → ℕ → Ends
 ends_at e w = record { refusal = 0; child = e; width = w }
 
 abbrev pub ends_missing : ℕ → Ends
 ends_missing k = record { refusal = k; child = 0; width = 0 }
+
+abbrev pub ends_in : Result found.Ends Refusal → Ends
+ends_in (Ok e) = ends_at e.child e.width
+ends_in (Err r) = ends_missing (number_of r)
 
 -- where the key of an entry from j to e ends, by the offset at the entry's end
 abbrev pub key_end : List ℕ → ℕ → ℕ → ℕ
@@ -32,9 +44,9 @@ field_ends n w fx e l =
 unfoldable pub only_letter : List ℕ → Letter
 only_letter l = pick (length l == 1) (letter_at l 0) End
 
--- a character that is not 0 is that of a text that has one alone, of a basic type
+-- a character is that of a text that has one alone, of a basic type
 abbrev pub OnlyBasic : List ℕ → ℕ → Type 0
-OnlyBasic l c = (c ≢ 0) → (letter_of c ≡ only_letter l) × (key_alignment (letter_of c) ≢ 0)
+OnlyBasic l c = (letter_of c ≡ only_letter l) × (key_alignment (letter_of c) ≢ 0)
 
 -- a variant behind n bytes of padding whose type, at a place, is one basic letter
 pub record HoldsBasic (l : List ℕ) (n from : ℕ) (kind : Letter) : Type 0 where

@@ -21,10 +21,7 @@ pub fn ride_of(position: usize, big: bool) -> usize
     requires { position ≤ largest_frame }
     ensures { Begins position big result }
 {
-    if big {
-        return position + 2147483648;
-    }
-    position
+    if big { position + 2147483648 } else { position }
 }
 
 fn depths_of(counts: usize) -> ContainerDepths

@@ -5,113 +5,81 @@
 
 mod edit;
 mod frame;
+mod length;
+mod stop;
 mod write;
 
-ghost use Rattle.std.specs.Prelude.{◌≡◌, ◌≤◌, length, IfOk};
-
 use lines::{front, gather};
-use replay_text::print::Step;
-use replay_text::{print, words};
+use replay_text::print::Answers;
 use std::env::{Env, FillError};
 use std::io;
 use std::io::Read;
+use stop::Stop;
 
-// How many bytes of the present line are kept, the number of that line, and whether all lines before it were understood.
+// How many bytes of the present line are kept, and the number of that line.
 #[derive(Clone, Copy)]
-pub struct Progress {
+struct Progress {
     kept: usize,
     number: u64,
-    going: bool,
 }
 
 // The answer to a line. A line of writing or of editing has its name in front.
-fn answer(
-    to: &impl Print,
+fn answer<P: Print>(
+    answers: &mut Answers<P>,
     line: &[u8],
     frame: &mut [u8],
     room: &mut [u64; 221184],
-    out: &mut [u8; 65536],
-    at: usize,
-) -> io::Result<Step>
-    requires { (length frame.old ≡ 131072) × (at ≤ 65536) }
-    ensures { IfOk result (λ s. s.at ≤ 65536) }
-{
-    let written = words::named(line, b"write: ");
-    if 0 < written {
-        return write::answer(to, &line[written..], frame, room, out, at);
+) -> Result<(), Stop> {
+    if let Some(question) = line.strip_prefix(b"write: ") {
+        return write::answer(answers, question, frame, room);
     }
-    let edited = words::named(line, b"edit: ");
-    if 0 < edited {
-        return edit::answer(to, &line[edited..], frame, room, out, at);
+    if let Some(question) = line.strip_prefix(b"edit: ") {
+        return edit::answer(answers, question, frame, room);
     }
-    frame::answer(to, line, frame, room, out, at)
+    frame::answer(answers, line, frame, room)
 }
 
-// What goes before a line that is not understood is answered all the same.
-fn stopped(to: &impl Print, out: &[u8; 65536], at: usize, number: u64) -> io::Result<Progress>
-    requires { at ≤ 65536 }
-{
-    print::flush(to, out, at)?;
-    Ok(Progress {
-        kept: 0,
-        number,
-        going: false,
-    })
-}
-
-// A block is answered, and its last bytes begin the next line.
-fn answered(
-    to: &impl Print,
-    out: &[u8; 65536],
-    at: usize,
-    number: u64,
-    kept: usize,
-) -> io::Result<Progress>
-    requires { at ≤ 65536 }
-{
-    print::flush(to, out, at)?;
-    Ok(Progress {
-        kept,
-        number,
-        going: true,
-    })
-}
-
-// The answers to the lines that end in a block.
-fn answer_block(
-    to: &impl Print,
+// The answers to the lines that end in a block; its last bytes begin the next line.
+fn answer_block<P: Print>(
+    answers: &mut Answers<P>,
     block: &[u8],
     line: &mut [u8],
     frame: &mut [u8],
     room: &mut [u64; 221184],
-    before: Progress,
-) -> io::Result<Progress>
-    requires { length frame.old ≡ 131072 }
-{
-    let mut out = [0u8; 65536];
-    let mut at = 0;
-    let mut kept = before.kept;
-    let mut number = before.number;
-    let mut from = 0;
-    while from < block.len() {
-        let gathered = gather(&block[from..], line, kept);
-        kept = gathered.kept;
-        if line.len() < kept {
-            return stopped(to, &out, at, number);
+    progress: &mut Progress,
+) -> Result<(), Stop> {
+    for part in block.split_inclusive(|byte| *byte == b'\n') {
+        let gathered = gather(part, line, progress.kept);
+        progress.kept = gathered.kept;
+        if line.len() < gathered.kept {
+            return Err(Stop::Unclear);
         }
-        if !gathered.ended {
-            return answered(to, &out, at, number, kept);
+        if gathered.ended {
+            answer(answers, front(line, gathered.kept), frame, room)?;
+            progress.number = progress.number.wrapping_add(1);
+            progress.kept = 0;
         }
-        from += gathered.passed;
-        let step = answer(to, front(line, kept), frame, room, &mut out, at)?;
-        at = step.at;
-        if !step.understood {
-            return stopped(to, &out, at, number);
-        }
-        number = number.wrapping_add(1);
-        kept = 0;
     }
-    answered(to, &out, at, number, kept)
+    Ok(())
+}
+
+// Answers a block, and writes the answers: what goes before a line that is not understood is answered all the same. Says whether all
+// lines were understood.
+fn write_block<P: Print>(
+    answers: &mut Answers<P>,
+    block: &[u8],
+    line: &mut [u8],
+    frame: &mut [u8],
+    room: &mut [u64; 221184],
+    progress: &mut Progress,
+) -> io::Result<bool> {
+    let understood = match answer_block(answers, block, line, frame, room, progress) {
+        Ok(()) => true,
+        Err(Stop::Unclear) => false,
+        Err(Stop::Output(error)) => return Err(error),
+    };
+    answers.flush()?;
+    Ok(understood)
 }
 
 fn complain(rt: &impl Eprint, number: u64) -> io::Result<()> {
@@ -120,51 +88,33 @@ fn complain(rt: &impl Eprint, number: u64) -> io::Result<()> {
     )
 }
 
-// The answer to a last line that has no line end.
-fn answer_rest(
-    rt: &(impl Print + Eprint),
-    line: &mut [u8],
-    frame: &mut [u8],
-    room: &mut [u64; 221184],
-    before: Progress,
-) -> io::Result<()>
-    requires { length frame.old ≡ 131072 }
-{
-    if before.kept == 0 {
-        return Ok(());
-    }
-    let end = [b'\n'; 1];
-    let after = answer_block(rt, &end, line, frame, room, before)?;
-    if !after.going {
-        return complain(rt, after.number);
-    }
-    Ok(())
-}
-
-// Answers the input up to its end, or to a line that is not understood. A run ends sooner only where it cannot read or write.
+// Answers the input up to its end, or to a line that is not understood. A run ends sooner only where it cannot read or write. A last line
+// that has no line end is answered as if it had one.
 fn answer_all(
     rt: &(impl Input + Print + Eprint),
     line: &mut [u8],
     frame: &mut [u8],
     room: &mut [u64; 221184],
-) -> io::Result<()>
-    requires { length frame.old ≡ 131072 }
-{
+) -> io::Result<()> {
     let mut input = rt.reader();
-    let mut progress = Progress {
-        kept: 0,
-        number: 1,
-        going: true,
-    };
+    let mut answers = Answers::new(rt);
+    let mut progress = Progress { kept: 0, number: 1 };
     for _ in 0..u64::MAX {
         let mut block = [0u8; 65536];
         let n = input.read(&mut block)?;
-        if n == 0 {
-            return answer_rest(rt, line, frame, room, progress);
+        if n == 0 && progress.kept == 0 {
+            return Ok(());
         }
-        progress = answer_block(rt, &block[..n], line, frame, room, progress)?;
-        if !progress.going {
+        let part = if n == 0 {
+            b"\n".as_slice()
+        } else {
+            &block[..n]
+        };
+        if !write_block(&mut answers, part, line, frame, room, &mut progress)? {
             return complain(rt, progress.number);
+        }
+        if n == 0 {
+            return Ok(());
         }
     }
     Ok(())

@@ -1,184 +1,104 @@
 // The answers, put into a block of 65,536 bytes, which is written when it is full. Where the output does not take it, its error is given on, the
 // only one that there is; of the block nothing is promised then, as nothing is otherwise.
-ghost use Rattle.std.specs.Prelude.{◌+◌, ◌≤◌, ◌<◌, length, IfOk};
+ghost use Rattle.std.specs.Prelude.{◌≡◌, ◌+◌, ◌≤◌, OnOk};
 
 use numerals::put_decimal;
 use std::io;
 
-// Whether a line was understood, and how many bytes of the block are filled.
-#[derive(Clone, Copy)]
-pub struct Step {
-    pub understood: bool,
-    pub at: usize,
+// The answers that wait to be written, and the output.
+#[derive(Drop)]
+pub struct Answers<'a, P: Print> {
+    to: &'a P,
+    block: [u8; 65536],
+    filled: usize,
+    ghost within: { filled ≤ 65536 },
 }
 
-pub fn understood(at: usize) -> Step
-    ensures { result.at ≤ at }
-{
-    Step {
-        understood: true,
-        at,
+impl<'a, P: Print> Answers<'a, P> {
+    pub fn new(to: &'a P) -> Answers<'a, P> {
+        Answers {
+            to,
+            block: [0u8; 65536],
+            filled: 0,
+        }
     }
-}
 
-pub fn not_understood(at: usize) -> Step
-    ensures { result.at ≤ at }
-{
-    Step {
-        understood: false,
-        at,
+    // Writes what is there.
+    pub fn flush(&mut self) -> io::Result<()>
+        ensures { OnOk result (self.new.filled ≡ 0) }
+    {
+        self.to.write_all(&self.block[..self.filled])?;
+        self.filled = 0;
+        Ok(())
     }
-}
 
-fn write(to: &impl Print, out: &[u8], at: usize) -> io::Result<()>
-    requires { at ≤ length out.now }
-{
-    to.write_all(&out[..at])
-}
-
-// Writes what is there.
-pub fn flush(to: &impl Print, out: &[u8; 65536], at: usize) -> io::Result<()>
-    requires { at ≤ 65536 }
-{
-    write(to, out, at)
-}
-
-// Where the next bytes go, with room for 64 of them.
-fn with_room(to: &impl Print, out: &[u8; 65536], at: usize) -> io::Result<usize>
-    requires { at ≤ 65536 }
-    ensures { IfOk result (λ n. n + 64 ≤ 65536) }
-{
-    if at <= 65472 {
-        return Ok(at);
+    // Room for 64 bytes.
+    fn make_room(&mut self) -> io::Result<()>
+        ensures { OnOk result (self.new.filled + 64 ≤ 65536) }
+    {
+        if 65472 < self.filled {
+            self.flush()?;
+        }
+        Ok(())
     }
-    flush(to, out, at)?;
-    Ok(0)
-}
 
-// A number and a byte behind it.
-fn number(out: &mut [u8; 65536], at: usize, value: u64, behind: u8) -> usize
-    requires { at ≤ 65536 }
-    ensures { result ≤ 65536 }
-{
-    put_decimal(value, behind, out, at)
+    // A number and a byte behind it.
+    fn number(&mut self, value: u64, behind: u8) {
+        self.filled = put_decimal(value, behind, &mut self.block, self.filled);
+    }
+
+    // The refusal and a length, and a blank behind each.
+    pub fn refusal_and_length(&mut self, refusal: u8, length: usize) -> io::Result<()> {
+        self.make_room()?;
+        self.number(u64::from(refusal), b' ');
+        self.number(length as u64, b' ');
+        Ok(())
+    }
+
+    // The refusal, the bytes used and the number of events, and the byte behind them.
+    pub fn counts(&mut self, refusal: u8, used: usize, count: usize, behind: u8) -> io::Result<()> {
+        self.refusal_and_length(refusal, used)?;
+        self.number(count as u64, behind);
+        Ok(())
+    }
+
+    // The first `count` events, or all that there is room for: three numbers each, and the byte behind them.
+    pub fn events(&mut self, room: &[u64; 221184], count: usize) -> io::Result<()> {
+        for (i, event) in room.chunks_exact(3).take(count).enumerate() {
+            self.make_room()?;
+            self.number(event[0], b':');
+            self.number(event[1], b':');
+            self.number(event[2], behind(i + 1, count));
+        }
+        Ok(())
+    }
+
+    fn byte(&mut self, value: u8) -> io::Result<()> {
+        self.make_room()?;
+        self.block[self.filled] = value;
+        self.filled += 1;
+        Ok(())
+    }
+
+    // Bytes in hexadecimal, `-` for none, and the line's end.
+    pub fn bytes(&mut self, bytes: &[u8]) -> io::Result<()> {
+        if bytes.is_empty() {
+            self.byte(b'-')?;
+        }
+        for byte in bytes {
+            self.byte(digit(*byte / 16))?;
+            self.byte(digit(*byte))?;
+        }
+        self.byte(b'\n')
+    }
 }
 
 // What stands behind so many events of an answer: a blank, or the line's end behind the last.
 pub fn behind(events: usize, count: usize) -> u8 {
-    if events < count {
-        return b' ';
-    }
-    b'\n'
-}
-
-// The refusal and a length, and a blank behind each.
-pub fn refusal_and_length(
-    to: &impl Print,
-    out: &mut [u8; 65536],
-    at: usize,
-    refusal: u8,
-    length: usize,
-) -> io::Result<usize>
-    requires { at ≤ 65536 }
-    ensures { IfOk result (λ n. n ≤ 65536) }
-{
-    let start = with_room(to, out, at)?;
-    let first = number(out, start, refusal as u64, b' ');
-    Ok(number(out, first, length as u64, b' '))
-}
-
-// The refusal, the bytes used and the number of events, and the byte behind them.
-pub fn counts(
-    to: &impl Print,
-    out: &mut [u8; 65536],
-    at: usize,
-    refusal: u8,
-    used: usize,
-    count: usize,
-    behind: u8,
-) -> io::Result<usize>
-    requires { at ≤ 65536 }
-    ensures { IfOk result (λ n. n ≤ 65536) }
-{
-    let next = refusal_and_length(to, out, at, refusal, used)?;
-    Ok(number(out, next, count as u64, behind))
-}
-
-// An event, three numbers, and the byte behind it.
-fn event(
-    to: &impl Print,
-    out: &mut [u8; 65536],
-    at: usize,
-    room: &[u64; 221184],
-    i: usize,
-    behind: u8,
-) -> io::Result<usize>
-    requires { (at ≤ 65536) × (i < 73728) }
-    ensures { IfOk result (λ n. n ≤ 65536) }
-{
-    let start = with_room(to, out, at)?;
-    let first = 3 * i;
-    let kind = number(out, start, room[first], b':');
-    let place = number(out, kind, room[first + 1], b':');
-    Ok(number(out, place, room[first + 2], behind))
-}
-
-// The first `count` events, or all that there is room for.
-pub fn events(
-    to: &impl Print,
-    out: &mut [u8; 65536],
-    at: usize,
-    room: &[u64; 221184],
-    count: usize,
-) -> io::Result<usize>
-    requires { at ≤ 65536 }
-    ensures { IfOk result (λ n. n ≤ 65536) }
-{
-    let mut next = at;
-    let mut i = 0;
-    while i < 73728 {
-        if count <= i {
-            return Ok(next);
-        }
-        next = event(to, out, next, room, i, behind(i + 1, count))?;
-        i += 1;
-    }
-    Ok(next)
-}
-
-fn byte(to: &impl Print, out: &mut [u8; 65536], at: usize, value: u8) -> io::Result<usize>
-    requires { at ≤ 65536 }
-    ensures { IfOk result (λ n. n ≤ 65536) }
-{
-    let start = with_room(to, out, at)?;
-    out[start] = value;
-    Ok(start + 1)
+    if events < count { b' ' } else { b'\n' }
 }
 
 // The last hexadecimal digit of a value.
 fn digit(value: u8) -> u8 {
-    let last = value % 16;
-    if last < 10 {
-        return b'0' + last;
-    }
-    87 + last
-}
-
-// Bytes in hexadecimal, `-` for none, and the line's end.
-pub fn bytes(to: &impl Print, out: &mut [u8; 65536], at: usize, bytes: &[u8]) -> io::Result<usize>
-    requires { at ≤ 65536 }
-    ensures { IfOk result (λ n. n ≤ 65536) }
-{
-    if bytes.len() == 0 {
-        let none = byte(to, out, at, b'-')?;
-        return byte(to, out, none, b'\n');
-    }
-    let mut next = at;
-    let mut i = 0;
-    while i < bytes.len() {
-        next = byte(to, out, next, digit(bytes[i] / 16))?;
-        next = byte(to, out, next, digit(bytes[i]))?;
-        i += 1;
-    }
-    byte(to, out, next, b'\n')
+    b"0123456789abcdef"[usize::from(value % 16)]
 }

@@ -1,132 +1,71 @@
 // The words of a question, and the numbers and the bytes that they spell.
-ghost use Rattle.std.specs.Prelude.{◌≡◌, ◌≤◌, length};
+ghost use Rattle.std.specs.Prelude.{◌≡◌, ◌≤◌, length, take, drop, IfSome};
+ghost use Rattle.lines.specs.Words.{place};
 
 use lines::find;
 use numerals::decimal;
 
-// The type and the byte order in front of a question: the length of the type, and where the words behind them stand.
+// The type and the byte order in front of a question, and the words behind them.
 #[derive(Clone, Copy)]
-pub struct Head {
-    pub understood: bool,
-    pub signature: usize,
+pub struct Head<'a> {
+    pub signature: &'a [u8],
     pub big: bool,
-    pub rest: usize,
+    pub rest: &'a [u8],
 }
 
-// Whether a word spells bytes, and how many.
-#[derive(Clone, Copy)]
-pub struct Spelt {
-    pub understood: bool,
-    pub value: usize,
-}
-
-fn nothing() -> Spelt
-    ensures { result.value ≤ 0 }
+// The first word of a text, and what stands behind it: nothing, or a blank and more.
+pub fn first_word(text: &[u8]) -> (&[u8], &[u8])
+    ensures word { result.0.now ≡ take (place 32 text.now) text.now }
+    ensures behind { result.1.now ≡ drop (place 32 text.now) text.now }
 {
-    Spelt {
-        understood: false,
-        value: 0,
-    }
+    text.split_at(find(text, b' '))
 }
 
-fn headless() -> Head
-    ensures { (result.signature ≤ 0) × (result.rest ≤ 0) }
+pub fn understand(line: &[u8]) -> Option<Head<'_>>
+    ensures { IfSome result (λ h. (length h.signature.now ≤ length line.now) × (length h.rest.now ≤ length line.now)) }
 {
-    Head {
-        understood: false,
-        signature: 0,
-        big: false,
-        rest: 0,
+    let (signature, behind) = first_word(line);
+    if let Some(rest) = behind.strip_prefix(b" b ") {
+        return Some(Head {
+            signature,
+            big: true,
+            rest,
+        });
     }
-}
-
-// The length of a name, if the line begins with it, or 0.
-pub fn named(line: &[u8], name: &[u8]) -> usize
-    ensures { result ≤ length line.now }
-{
-    if line.len() < name.len() {
-        return 0;
-    }
-    let mut i = 0;
-    while i < name.len() {
-        if line[i] != name[i] {
-            return 0;
-        }
-        i += 1;
-    }
-    i
-}
-
-// A byte order, and the blank behind it.
-fn ordered(order: u8, next: u8) -> bool {
-    if next != b' ' {
-        return false;
-    }
-    if order == b'l' {
-        return true;
-    }
-    order == b'b'
-}
-
-pub fn understand(line: &[u8]) -> Head
-    ensures { (result.signature ≤ length line.now) × (result.rest ≤ length line.now) }
-{
-    let signature = find(line, b' ');
-    if line.len() - signature < 3 {
-        return headless();
-    }
-    let order = line[signature + 1];
-    if !ordered(order, line[signature + 2]) {
-        return headless();
-    }
-    Head {
-        understood: true,
+    let rest = behind.strip_prefix(b" l ")?;
+    Some(Head {
         signature,
-        big: order == b'b',
-        rest: signature + 3,
-    }
+        big: false,
+        rest,
+    })
 }
 
 // The bytes that a word spells, put at the front of a frame: pairs of digits, or `-` for none.
-pub fn bytes(word: &[u8], frame: &mut [u8]) -> Spelt
-    requires { length frame.old ≡ 131072 }
-    ensures { result.value ≤ 131072 }
+pub fn bytes<'a>(word: &[u8], frame: &'a mut [u8]) -> Option<&'a mut [u8]>
+    ensures { IfSome result (λ b. length b.now ≤ length frame.old) }
 {
-    if word.len() == 0 {
-        return nothing();
-    }
-    if word.len() == 1 {
-        return Spelt {
-            understood: word[0] == b'-',
-            value: 0,
-        };
-    }
-    let spelt = numerals::bytes(word, frame);
-    Spelt {
-        understood: spelt.understood,
-        value: spelt.count,
+    match word {
+        b"" => None,
+        b"-" => Some(&mut frame[..0]),
+        _ => {
+            let count = numerals::bytes(word, frame)?;
+            Some(&mut frame[..count])
+        }
     }
 }
 
-// The numbers of a text, each with a blank before it, put into a row: how many there are, or 0 if it is not understood.
-pub fn numbers(text: &[u8], row: &mut [u64; 221184]) -> usize
-    ensures { result ≤ 221184 }
+// The numbers of a text, each with a blank before it, put into a row.
+pub fn numbers<'a>(text: &[u8], row: &'a mut [u64; 221184]) -> Option<&'a [u64]>
+    ensures { IfSome result (λ r. length r.now ≤ 221184) }
 {
     let mut count = 0;
-    let mut blank = 0;
-    while blank < text.len() {
-        let start = blank + 1;
-        let end = start + find(&text[start..], b' ');
-        let number = decimal(&text[start..end]);
-        if !number.understood {
-            return 0;
+    for word in text.split(|byte| *byte == b' ').skip(1) {
+        let number = decimal(word)?;
+        if row.len() <= count {
+            return None;
         }
-        if 221184 <= count {
-            return 0;
-        }
-        row[count] = number.value;
+        row[count] = number;
         count += 1;
-        blank = end;
     }
-    count
+    Some(&row[..count])
 }

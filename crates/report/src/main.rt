@@ -3,25 +3,23 @@
 // arguments and input are read and output written, block by block.
 #![tactic(auto)]
 
-use numerals::{Number, decimal};
-use reporting::print::print;
-use reporting::states::{State, finish, fresh, take};
+use numerals::decimal;
+use reporting::states::Report;
 use std::env::{Env, FillError};
 use std::io;
 use std::io::Read;
 
 // A second that stands in the arguments; one of more than 64 bytes is none.
-fn second_given(rt: &impl Env, i: usize) -> Number {
+fn second_given(rt: &impl Env, i: usize) -> Option<u64> {
     let mut word = [0u8; 64];
     let n = rt.arg(i, &mut word).unwrap_or(0);
     decimal(&word[..n])
 }
 
 // Writes the report, for which there is room: 66 lines of 192 bytes.
-fn write_report(rt: &(impl Print + Eprint), state: State, figures: &[u64; 512]) -> io::Result<()> {
+fn write_report(rt: &(impl Print + Eprint), report: &Report) -> io::Result<()> {
     let mut out = [0u8; 12672];
-    let printed = print(state, figures, 0, &mut out);
-    let written = printed.written;
+    let written = report.print(0, &mut out).written;
     if written == 0 {
         return rt.eprintln("report: 20, more than 2678400 lines; no report");
     }
@@ -34,19 +32,17 @@ fn write_report(rt: &(impl Print + Eprint), state: State, figures: &[u64; 512]) 
 // Reports standard input, to its end.
 fn report_input(rt: &(impl Input + Print + Eprint), first: u64, last: u64) -> io::Result<()> {
     let mut input = rt.reader();
-    let mut frame = [0u8; 16384];
-    let mut figures = [0u64; 512];
-    let mut state = fresh(first, last);
+    let mut report = Report::new(first, last);
     for _ in 0..u64::MAX {
         let mut block = [0u8; 65536];
         let Ok(n) = input.read(&mut block) else {
             return rt.eprintln("report: cannot read the input");
         };
         if n == 0 {
-            let end = finish(state, &frame, &mut figures);
-            return write_report(rt, end, &figures);
+            report.finish();
+            return write_report(rt, &report);
         }
-        state = take(state, &mut frame, &mut figures, &block[..n]);
+        report.take(&block[..n]);
     }
     Ok(())
 }
@@ -65,13 +61,8 @@ fn main(rt: HostRuntime) -> io::Result<()> {
     if !has_argument(&rt, 2) || has_argument(&rt, 3) {
         return wrong_arguments(&rt);
     }
-    let first = second_given(&rt, 1);
-    let last = second_given(&rt, 2);
-    if !first.understood {
+    let (Some(first), Some(last)) = (second_given(&rt, 1), second_given(&rt, 2)) else {
         return wrong_arguments(&rt);
-    }
-    if !last.understood {
-        return wrong_arguments(&rt);
-    }
-    report_input(&rt, first.value, last.value)
+    };
+    report_input(&rt, first, last)
 }

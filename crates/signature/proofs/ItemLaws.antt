@@ -2,11 +2,9 @@
 use mathlib.Core.Path.{◌≡◌, refl, sym, ap, ◌∙◌}
 use mathlib.Core.Logic.{◌⊎◌, inl, inr}
 use mathlib.Core.List.{List}
-use mathlib.Core.Bool.{Bool, true, false, ◌&&◌, false≢true}
+use mathlib.Core.Bool.{Bool, true, false, false≢true}
 use Prim.Native.Nat.{ℕ, ◌+◌, ◌≤◌, ◌<◌}
 use native.Mathlib.Omega.{arith}
-use types.Run.{OneOf}
-use denote.Enum.Declared.{tag_of}
 use lib.ListN.{drop}
 use borrow.Author.Tests.{le-leb, lt-leb}
 use Rattle.meaning.specs.Types.{fixed, alignment}
@@ -19,28 +17,12 @@ use Rattle.signature.specs.Items.{held_number, opens_entry, entry_item, element_
 use Rattle.signature.specs.declared.Letter.{Letter}
 use Rattle.signature.specs.declared.Letter.TheVariants.{End, Bad, Boolean, Number, Text, Variant, Maybe, Array, OpenStructure, CloseStructure, OpenEntry, CloseEntry}
 use Rattle.signature.specs.declared.shapes.Shape.{Shape}
-use Rattle.signature.specs.declared.items.Item.{Item}
-use Rattle.signature.specs.contracts.Letter.{the_type}
 use Rattle.signature.proofs.Letters.{others, apart_from}
 use Rattle.signature.proofs.Dispatch.{is_array, is_dictionary}
 use Rattle.signature.proofs.TreeLaws.{tree_by_lem, described_by, described_alignment, described_fixed}
 use Rattle.signature.proofs.Children.{key_fixed_lem}
 
 -- ---- by a letter
-
-pub held_kind : (k b : Letter) → OneOf (others Maybe) (tag_of the_type k) → k ≡ held_number k b
-held_kind End b h = refl
-held_kind Bad b h = refl
-held_kind Boolean b h = refl
-held_kind (Number c w) b h = refl
-held_kind (Text c) b h = refl
-held_kind Variant b h = refl
-held_kind Maybe b h = absurd (apart_from Maybe Maybe h refl)
-held_kind Array b h = refl
-held_kind OpenStructure b h = refl
-held_kind CloseStructure b h = refl
-held_kind OpenEntry b h = refl
-held_kind CloseEntry b h = refl
 
 opens_none : (k : Letter) → (k ≡ OpenEntry → ⊥) → opens_entry k ≡ false
 opens_none End h = refl
@@ -94,14 +76,6 @@ number_held OpenEntry b c w h = inl h
 number_held CloseEntry b c w h = inl h
 
 -- ---- the ways out
-
-pub entry_made : (a : ℕ) (key : Letter) (value : Shape) (x f : Bool) → x ≡ key_fixed key → f ≡ (x && value.fixed)
-    → ◌≡◌ {A = Item} (record { entry = true; child = value; key = key; keyed = x; alignment = a; fixed = f; number = End }) (entry_item a key value)
-entry_made a key value x f hx hf = rw (hf, hx)
-
-pub element_made : (a : ℕ) (element : Shape) (behind n : Letter) → n ≡ held_number element.kind behind
-    → ◌≡◌ {A = Item} (record { entry = false; child = element; key = End; keyed = false; alignment = a; fixed = element.fixed; number = n }) (element_item a element behind)
-element_made a element behind n h = rw h
 
 module _ (l t : List ℕ) (s : Shape) where
   pub item_far : 255 < s.at → (u : Shape) → u ≡ unpacked 0 End 0 → element_item 0 u End ≡ item_in l t s

@@ -20,7 +20,7 @@ use Rattle.meaning.specs.TypeText.{type_text, basic_among, basic_of, Found, basi
 use Rattle.meaning.proofs.TypeLaws.{number_positive}
 use Rattle.meaning.proofs.TypeTextLaws.{basic_of_lem, first_type_none, first_type_cons, first_type_type_text}
 use Rattle.signature.specs.Places.{basic_kind, letter_by, letter_of, letter_in, letter_at, child_of, no_child, child_by, child_at, type_at, ClosesAt}
-use Rattle.signature.specs.Steps.{key_alignment, key_fixed}
+use Rattle.signature.specs.Steps.{key_alignment}
 use Rattle.signature.specs.Places.{Child}
 use Rattle.signature.specs.declared.Letter.{Letter}
 use Rattle.signature.specs.contracts.Letter.{the_type}
@@ -182,20 +182,6 @@ no_alignment OpenStructure w = refl
 no_alignment CloseStructure w = refl
 no_alignment OpenEntry w = refl
 no_alignment CloseEntry w = refl
-
-pub not_fixed : (k : Letter) → OneOf (0 ∷ 1 ∷ 4 ∷ 5 ∷ 6 ∷ 7 ∷ 8 ∷ 9 ∷ 10 ∷ 11 ∷ []) (tag_of the_type k) → false ≡ key_fixed k
-not_fixed End w = refl
-not_fixed Bad w = refl
-not_fixed Boolean w = absurd (miss (0 ∷ 1 ∷ 4 ∷ 5 ∷ 6 ∷ 7 ∷ 8 ∷ 9 ∷ 10 ∷ 11 ∷ []) 2 tt w)
-not_fixed (Number c n) w = absurd (miss (0 ∷ 1 ∷ 4 ∷ 5 ∷ 6 ∷ 7 ∷ 8 ∷ 9 ∷ 10 ∷ 11 ∷ []) 3 tt w)
-not_fixed (Text c) w = refl
-not_fixed Variant w = refl
-not_fixed Maybe w = refl
-not_fixed Array w = refl
-not_fixed OpenStructure w = refl
-not_fixed CloseStructure w = refl
-not_fixed OpenEntry w = refl
-not_fixed CloseEntry w = refl
 
 -- a key stands at a place, or none
 pub record Key (l : List ℕ) (at : ℕ) : Type 0 where

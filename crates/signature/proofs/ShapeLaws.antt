@@ -3,7 +3,7 @@ use mathlib.Core.Path.{◌≡◌, refl, sym, ap, ◌∙◌}
 use mathlib.Core.List.{List, [], ◌∷◌}
 use mathlib.Core.Option.{some}
 use mathlib.Core.Bool.{Bool, true, false, ◌&&◌}
-use Prim.Native.Nat.{ℕ, zero, suc, ◌+◌, ◌*◌, ◌-◌, ◌/◌, ◌%◌, ◌≤◌, ◌<◌, max}
+use Prim.Native.Nat.{ℕ, ◌+◌, ◌*◌, ◌-◌, ◌/◌, ◌%◌, ◌≤◌, ◌<◌, max}
 use native.Mathlib.Omega.{arith}
 use lib.Dec.{leb, eqb}
 use types.Run.{OneOf, miss}
@@ -25,7 +25,7 @@ use Rattle.signature.specs.contracts.Letter.{the_type}
 use Rattle.signature.proofs.Letters.{letter_end, letter_some, mark, cut, key_at, alone, lone_child, child_lone}
 use Rattle.signature.proofs.Children.{held_by, dictionary_by, child_maybe, child_array, child_dictionary, child_found, Stands, entry_whole, Fielding, fields_begin, fields_missing, fields_next, fields_last, key_alignment_lem}
 use Rattle.signature.proofs.Answers.{judge_missing, judge_found, judged_type, child_long}
-use Rattle.signature.specs.Shapes.{packed, shape_of, shape_at, Filled, Shaped, Answered, unpacked, shape_in, shape, ShapedFrom}
+use Rattle.signature.specs.Shapes.{packed, shape_of, shape_at, Filled, Shaped, Answered, shape_in, shape, ShapedFrom}
 use Rattle.signature.specs.declared.shapes.Shape.{Shape}
 
 -- ---- a shape taken apart
@@ -378,21 +378,9 @@ answered_table l t x y r s p q = go (leb (length l) 255) (leb (length l) (length
 
 -- ---- a look
 
-pub same_shape : (at : ℕ) (k j : Letter) (n m a b : ℕ) (f g : Bool) → k ≡ j → n ≡ m → a ≡ b → f ≡ g
+same_shape : (at : ℕ) (k j : Letter) (n m a b : ℕ) (f g : Bool) → k ≡ j → n ≡ m → a ≡ b → f ≡ g
     → ◌≡◌ {A = Shape} (record { at = at; kind = k; next = n; alignment = a; fixed = f }) (record { at = at; kind = j; next = m; alignment = b; fixed = g })
 same_shape at k j n m a b f g hk hn ha hf = rw (hk, hn, ha, hf)
-
--- past the table's end nothing stands
-get_d_past : (t : List ℕ) (at d : ℕ) → length t ≤ at → get_or t at d ≡ d
-get_d_past [] at d n = refl
-get_d_past (x ∷ t) zero d n = absurd (omega arith)
-get_d_past (x ∷ t) (suc at) d n = get_d_past t at d (omega arith)
-
-pub look_past : (t : List ℕ) (at : ℕ) (k j : Letter) → k ≡ j → length t ≤ at → unpacked at k 0 ≡ unpacked at j (get_or t at 0)
-look_past t at k j h n = rw (h, get_d_past t at 0 n)
-
-pub look_here : (at s : ℕ) (k : Letter) {j : Letter} → k ≡ j → unpacked at k s ≡ unpacked at j s
-look_here at s k h = rw h
 
 -- a type that stands at a place of a text is what the text's table says of that place
 pub looked : (l t : List ℕ) (at : ℕ) → Shaped l t → (child_at l at).found ≡ true → shape_in l t at ≡ shape at (child_at l at)

@@ -16,8 +16,6 @@ use Rattle.signature.proofs.shapes.alignment_of.Kinds as alignment_of_kinds
 use Rattle.signature.proofs.shapes.alignment_of.Reads as alignment_of
 use Rattle.signature.proofs.shapes.fixed_of.Kinds as fixed_of_kinds
 use Rattle.signature.proofs.shapes.fixed_of.Reads as fixed_of
-use Rattle.signature.proofs.shapes.both.Kinds as both_kinds
-use Rattle.signature.proofs.shapes.both.Reads as both
 use Rattle.signature.proofs.items.item_of.Kinds as item_of_kinds
 use Rattle.signature.proofs.items.item_of.Reads as item_of
 
@@ -41,9 +39,6 @@ alignment_of_unique κs a z z' w w' p q = (p ∙ sym q, refl)
 
 pub fixed_of_unique : OneAnswer fixed_of_kinds.ps fixed_of_kinds.r fixed_of.Learnt
 fixed_of_unique κs a z z' w w' p q = (p ∙ sym q, refl)
-
-pub both_unique : OneAnswer both_kinds.ps both_kinds.r both.Learnt
-both_unique κs a z z' w w' p q = (p ∙ sym q, refl)
 
 pub item_of_unique : OneAnswer item_of_kinds.ps item_of_kinds.r item_of.Learnt
 item_of_unique κs a z z' w w' p q = (p ∙ sym q, refl)

@@ -2,12 +2,13 @@
 ghost use Rattle.std.specs.Prelude.{◌≡◌};
 ghost use Rattle.signature.specs.Items.{held_number, entry_item, element_item, item_in};
 
-use crate::shapes::{Shape, both, shape_in, unpack};
+use crate::shapes::{Shape, shape_in, unpack};
 use crate::{Letter, key_fixed, letter_at};
 use meaning::limits::LONGEST_TYPE;
 
 // The element's shape, or the entry's value's; the entry's key and whether that is fixed; the alignment, and whether it is fixed; the
-// letter of the number that an element is, or holds in a maybe.
+// letter of the number that an element is, or holds in a maybe. It is one struct for both, since what walks over an array or a dictionary keeps it and
+// reads child, alignment and fixed of either: two structs in an enum would be opened at each of these reads.
 #[derive(Clone, Copy)]
 pub struct Item {
     pub entry: bool,
@@ -23,17 +24,14 @@ pub struct Item {
 fn held_number(kind: Letter, behind: Letter) -> Letter
     ensures { result ≡ held_number kind behind }
 {
-    match kind {
-        Letter::Maybe => behind,
-        _ => kind,
-    }
+    if kind == Letter::Maybe { behind } else { kind }
 }
 
 fn entry_item(alignment: usize, key: Letter, value: Shape) -> Item
     ensures { result ≡ entry_item alignment key value }
 {
     let keyed = key_fixed(key);
-    let fixed = both(keyed, value.fixed);
+    let fixed = keyed && value.fixed;
     Item {
         entry: true,
         child: value,

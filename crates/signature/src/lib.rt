@@ -9,8 +9,9 @@ ghost use Rattle.std.specs.Prelude.{◌≡◌};
 ghost use Rattle.signature.specs.Places.{letter_at, letter_of, ClosesAt};
 ghost use Rattle.signature.specs.Steps.{key_fixed};
 
-// What a letter of a type text is. A number has its code and its width, a text its code.
-#[derive(Clone, Copy)]
+// What a letter of a type text is. A number has its code and its width, a text its code. That there is none, at the end or for another character, is
+// among them, since callers tell it apart in the same `match`: an Option around each would be opened at every look and say no more.
+#[derive(Clone, Copy, Debug, PartialEq, Eq)]
 pub enum Letter {
     End,
     Bad,
@@ -27,6 +28,7 @@ pub enum Letter {
 }
 
 // Of a character.
+#[tactic(auto, unfolding(crate::specs::Places::letter_by, meaning::specs::TypeText::basic_among))]
 pub fn letter_of(code: u8) -> Letter
     ensures { result ≡ letter_of code }
 {
@@ -49,31 +51,26 @@ pub fn letter_of(code: u8) -> Letter
 }
 
 // The letter at a place.
+#[tactic(auto, using(crate::proofs::Letters::letter_end, crate::proofs::Letters::letter_some))]
 pub fn letter_at(text: &[u8], at: usize) -> Letter
     ensures { result ≡ letter_at text.now at }
 {
-    if text.len() <= at {
-        return Letter::End;
+    match text.get(at) {
+        Some(code) => letter_of(*code),
+        None => Letter::End,
     }
-    letter_of(text[at])
 }
 
 // Whether a structure's type ends at a place.
+#[tactic(auto, using(crate::proofs::Letters::closes_past, crate::proofs::Letters::closes_by))]
 pub fn closes_at(text: &[u8], at: usize) -> bool
     ensures { ClosesAt text.now at result }
 {
-    if text.len() <= at {
-        return false;
-    }
-    text[at] == b')'
+    at < text.len() && text[at] == b')'
 }
 
 pub(crate) fn key_fixed(key: Letter) -> bool
     ensures { result ≡ key_fixed key }
 {
-    match key {
-        Letter::Boolean => true,
-        Letter::Number { code: _, width: _ } => true,
-        _ => false,
-    }
+    matches!(key, Letter::Boolean | Letter::Number { .. })
 }

@@ -1,8 +1,8 @@
 // The shape of a type: what a look into the table beside a type text says of the type at a place.
 //
 // The table has a number for each place of the text: the place behind the type that begins there, its alignment and whether it is
-// fixed; 0 where none begins.
-ghost use Rattle.std.specs.Prelude.{◌≡◌, ◌&&◌, ◌%◌, ◌/◌, leb};
+// fixed; 0 where none begins. Memory is fixed, and a table stands on the stack of each variant: so a shape is one number there, and not a struct.
+ghost use Rattle.std.specs.Prelude.{◌≡◌, ◌%◌, ◌/◌, leb};
 ghost use Rattle.signature.specs.Shapes.{unpacked, shape_in};
 
 use crate::{Letter, letter_at};
@@ -21,28 +21,19 @@ pub struct Shape {
 pub fn next_of(s: u16) -> usize
     ensures { result ≡ s / 32 }
 {
-    (s / 32) as usize
+    usize::from(s / 32)
 }
 
 pub fn alignment_of(s: u16) -> usize
     ensures { result ≡ s % 16 }
 {
-    (s % 16) as usize
+    usize::from(s % 16)
 }
 
 pub fn fixed_of(s: u16) -> bool
     ensures { result ≡ leb 16 (s % 32) }
 {
     16 <= s % 32
-}
-
-pub fn both(a: bool, b: bool) -> bool
-    ensures { result ≡ a && b }
-{
-    if a {
-        return b;
-    }
-    false
 }
 
 pub(crate) fn unpack(at: usize, kind: Letter, s: u16) -> Shape
@@ -61,9 +52,6 @@ pub(crate) fn unpack(at: usize, kind: Letter, s: u16) -> Shape
 pub fn shape_in(text: &[u8], shapes: &[u16], at: usize) -> Shape
     ensures { result ≡ shape_in text.now shapes.now at }
 {
-    let kind = letter_at(text, at);
-    if shapes.len() <= at {
-        return unpack(at, kind, 0);
-    }
-    unpack(at, kind, shapes[at])
+    let shape = shapes.get(at).copied().unwrap_or(0);
+    unpack(at, letter_at(text, at), shape)
 }

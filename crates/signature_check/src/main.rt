@@ -19,30 +19,29 @@ pub struct Progress {
 
 fn verdict(line: &[u8], kept: usize) -> u8 {
     if signature_table::judge(front(line, kept)) {
-        return b'1';
+        b'1'
+    } else {
+        b'0'
     }
-    b'0'
 }
 
-// The answers to the lines that end in a block.
+// The answers to the lines that end in a block. Each program that reads lines has such a loop: one function for all would take the
+// program's memories and errors through a closure, and be no plainer.
 fn judge_block(block: &[u8], line: &mut [u8], before: usize, out: &mut [u8]) -> Progress
     requires { (length block.now ≤ 4096) × (length out.old ≡ 8192) }
     ensures { result.written ≤ 8192 }
 {
     let mut kept = before;
     let mut written = 0;
-    let mut from = 0;
-    while from < block.len() {
-        let gathered = gather(&block[from..], line, kept);
+    for part in block.split_inclusive(|byte| *byte == b'\n') {
+        let gathered = gather(part, line, kept);
         kept = gathered.kept;
-        if !gathered.ended {
-            return Progress { kept, written };
+        if gathered.ended {
+            out[written] = verdict(line, kept);
+            out[written + 1] = b'\n';
+            written += 2;
+            kept = 0;
         }
-        from += gathered.passed;
-        out[written] = verdict(line, kept);
-        out[written + 1] = b'\n';
-        written += 2;
-        kept = 0;
     }
     Progress { kept, written }
 }

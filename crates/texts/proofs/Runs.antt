@@ -1,31 +1,27 @@
 -- Runs of letters of one byte, and a text judged letter by letter. Assumes nothing.
 use mathlib.Core.Path.{◌≡◌, refl, sym, ◌∙◌}
 use mathlib.Core.List.{List, [], ◌∷◌}
-use mathlib.Core.Bool.{Bool, true, false}
 use Prim.Native.Nat.{ℕ, zero, suc, ◌+◌, ◌-◌, ◌≤◌, ◌<◌}
 use native.Mathlib.Omega.{arith}
 use lib.ListN.{length, drop, get_or}
-use lib.Dec.{ltb}
-use borrow.Author.Tests.{ltb-true, ltb-false}
 use Rattle.meaning.specs.Texts.{no_nul, Wanted, wanted, letter, following, after_byte, utf8_from, utf8, text_refusal}
 use Rattle.meaning.proofs.TextSteps.{nul_next, utf8_next, following_ascii, following_two, following_three, after_letter, after_inside, text_whole}
-use Rattle.texts.specs.Letters.{Plain, PlainIf, PlainByte, PlainBytesIf, Two, Three}
-
-pub false_is : false ≡ true → ⊥
-false_is t = let z : ◌≡◌ {A = ℕ} 0 1 = cc in omega arith
+use Rattle.texts.specs.Letters.{Plain, PlainByte, Two, Three}
+use Rattle.std.specs.List.{All, AllWithin}
+use Rattle.std.proofs.Common.{get_or-drop, get_or-take, length-take, length-drop, take}
+use Rattle.std.proofs.lemmas.List.Elements.{All-get_or}
 
 pub plain_begin : (l : List ℕ) (i : ℕ) → i ≤ length l → Plain l i i
 plain_begin l i h = record { from = omega arith; to = h; nul = refl; letters = refl }
 
-pub plain_next : (l : List ℕ) (i j : ℕ) → Plain l i j → j < length l → (1 ≤ get_or l j 0) × (get_or l j 0 ≤ 127) → Plain l i (j + 1)
-plain_next l i j p h a =
+pub plain_next : (l : List ℕ) (i j : ℕ) → Plain l i j → j < length l → 1 ≤ get_or l j 0 → get_or l j 0 ≤ 127 → Plain l i (j + 1)
+plain_next l i j p h low high =
     let f = p.from in
-    let low = a.0 in
     record {
       from = omega arith;
       to = omega arith;
       nul = p.nul ∙ nul_next l j h (λ z. omega arith);
-      letters = p.letters ∙ utf8_next l j h letter ∙ rw (after_letter letter (get_or l j 0) refl ∙ following_ascii (get_or l j 0) a.1);
+      letters = p.letters ∙ utf8_next l j h letter ∙ rw (after_letter letter (get_or l j 0) refl ∙ following_ascii (get_or l j 0) high);
     }
 
 -- one run behind another
@@ -35,55 +31,36 @@ plain_on l i j k p q =
     let g = q.from in
     record { from = omega arith; to = q.to; nul = p.nul ∙ q.nul; letters = p.letters ∙ q.letters }
 
-pub plain_false : (l : List ℕ) (i j : ℕ) → PlainIf false l i j
-plain_false l i j t = absurd (false_is t)
+-- bytes of what is left from i on are bytes of the whole
+pub bytes_rest : (l : List ℕ) (i n : ℕ) → AllWithin PlainByte (drop i l) 0 n → AllWithin PlainByte l i (i + n)
+bytes_rest l i n a k d low high =
+    let e : i + (k - i) ≡ k = omega arith in
+    let p : PlainByte (get_or (drop i l) (k - i) d) = a (k - i) d (omega arith) (omega arith) in
+    grind (arith, get_or-drop)
 
--- bytes that are letters by themselves: one, and two halves of the same number
-pub bytes_one : (l : List ℕ) (i : ℕ) {b : Bool} → (b ≡ true → PlainByte (get_or l i 0)) → PlainBytesIf b l i (i + 1)
-bytes_one l i e t k low high =
-    let same : k ≡ i = omega arith in
-    rw same (e t)
-
-pub bytes_halves : (l : List ℕ) (i w : ℕ) {b c : Bool} → PlainBytesIf b l i (i + w) → PlainBytesIf c l (i + w) (i + w + w) → b ≡ true → PlainBytesIf c l i (i + (w + w))
-bytes_halves l i w p q t u k low high = go (ltb k (i + w)) refl
-  where
-    go : (x : Bool) → ltb k (i + w) ≡ x → PlainByte (get_or l k 0)
-    go true e = p t k low (ltb-true _ _ e)
-    go false e = q u k (ltb-false _ _ e) (omega arith)
+pub bytes_all : (l : List ℕ) (i n : ℕ) → i + n ≤ length l → All PlainByte (take n (drop i l)) → AllWithin PlainByte l i (i + n)
+bytes_all l i n h a = bytes_rest l i n (λ k d low high.
+    let p = All-get_or PlainByte (take n (drop i l)) k d (simp (length-take, length-drop) (omega arith)) a in
+    grind (arith, get_or-take))
 
 -- such bytes are a run
-bytes_count : (l : List ℕ) (i n : ℕ) → i + n ≤ length l → ((k : ℕ) → i ≤ k → k < i + n → PlainByte (get_or l k 0)) → Plain l i (i + n)
-bytes_count l i zero h a =
+pub bytes_run : (l : List ℕ) (i n : ℕ) → i + n ≤ length l → AllWithin PlainByte l i (i + n) → Plain l i (i + n)
+bytes_run l i zero h a =
     let e : i + 0 ≡ i = omega arith in
     rw e (plain_begin l i (omega arith))
-bytes_count l i (suc n) h a =
+bytes_run l i (suc n) h a =
     let e : i + suc n ≡ i + n + 1 = omega arith in
-    rw e (plain_next l i (i + n) (bytes_count l i n (omega arith) (λ k low high. a k low (omega arith))) (omega arith) (a (i + n) (omega arith) (omega arith)))
-
-pub bytes_run : (l : List ℕ) (i n : ℕ) {b : Bool} → i + n ≤ length l → PlainBytesIf b l i (i + n) → PlainIf b l i (i + n)
-bytes_run l i n h a t = bytes_count l i n h (a t)
+    rw e (plain_next l i (i + n) (bytes_run l i n (omega arith) (λ k d low high. a k d low (omega arith))) (omega arith) (a (i + n) 0 (omega arith) (omega arith)).0 (a (i + n) 0 (omega arith) (omega arith)).1)
 
 -- to the end: the last w bytes, and in front of them w bytes that may overlap
-pub bytes_last : (l : List ℕ) (i w : ℕ) {b : Bool} → w ≤ length l → i ≤ length l → length l ≤ i + w → PlainBytesIf b l (length l - w) (length l - w + w) → PlainIf b l i (length l)
-bytes_last l i w hw hi he a t =
+pub bytes_last : (l : List ℕ) (i w : ℕ) → w ≤ length l → i ≤ length l → length l ≤ i + w → AllWithin PlainByte l (length l - w) (length l - w + w) → Plain l i (length l)
+bytes_last l i w hw hi he a =
     let e : i + (length l - i) ≡ length l = omega arith in
-    rw e at (bytes_count l i (length l - i) (omega arith) (λ k low high. a t k (omega arith) (omega arith)))
+    rw e at (bytes_run l i (length l - i) (omega arith) (λ k d low high. a k d (omega arith) (omega arith)))
 
-pub bytes_ends : (l : List ℕ) (w : ℕ) {b c : Bool} → w ≤ length l → length l ≤ w + w → PlainBytesIf b l 0 (0 + w) → PlainBytesIf c l (length l - w) (length l - w + w) → b ≡ true → PlainIf c l 0 (length l)
-bytes_ends l w hw he p q t u =
-    plain_on l 0 (0 + w) (length l) (bytes_count l 0 w (omega arith) (p t)) (bytes_last l (0 + w) w hw (omega arith) (omega arith) q u)
-
-pub plain_one : (l : List ℕ) {b : Bool} → length l ≡ 1 → (b ≡ true → PlainByte (get_or l 0 0)) → PlainIf b l 0 (length l)
-plain_one l e a t = rw e (plain_next l 0 0 (plain_begin l 0 (omega arith)) (omega arith) (a t))
-
-pub plain_none : (l : List ℕ) → length l ≡ 0 → Plain l 0 (length l)
-plain_none l e = rw e (plain_begin l 0 (omega arith))
-
--- two letters of three bytes
-pub plain_six : (l : List ℕ) (i j : ℕ) → Plain l i (j + 3) → Plain l (j + 3) (j + 3 + 3) → Plain l i (j + 6)
-plain_six l i j p q =
-    let e : j + 3 + 3 ≡ j + 6 = omega arith in
-    rw e at (plain_on l i (j + 3) (j + 3 + 3) p q)
+pub bytes_ends : (l : List ℕ) (w : ℕ) → w ≤ length l → length l ≤ w + w → AllWithin PlainByte l 0 (0 + w) → AllWithin PlainByte l (length l - w) (length l - w + w) → Plain l 0 (length l)
+bytes_ends l w hw he p q =
+    plain_on l 0 (0 + w) (length l) (bytes_run l 0 w (omega arith) p) (bytes_last l (0 + w) w hw (omega arith) (omega arith) q)
 
 -- between two letters only the count counts
 pub letter_ends : (s : Wanted) (l : List ℕ) → s.count ≡ 0 → utf8_from s l ≡ utf8_from letter l

@@ -1,5 +1,6 @@
 -- What a letter still wants, as code holds it, and runs of letters of one byte. Assumes nothing: these are definitions.
-use Rattle.std.specs.Prelude.{◌≡◌, List, Bool, true, ℕ, ◌≤◌, ◌<◌, length, drop, get_or}
+use Rattle.std.specs.Prelude.{◌≡◌, List, Bool, true, ℕ, ◌≤◌, length, drop}
+use Rattle.std.specs.List.{AllWithin}
 use Rattle.meaning.specs.Texts as texts
 use Rattle.texts.specs.declared.Wanted.{Wanted}
 
@@ -21,7 +22,11 @@ abbrev pub PlainByte : ℕ → Type 0
 PlainByte b = (1 ≤ b) × (b ≤ 127)
 
 abbrev pub PlainBytesIf : Bool → List ℕ → ℕ → ℕ → Type 0
-PlainBytesIf b l i j = b ≡ true → (k : ℕ) → i ≤ k → k < j → PlainByte (get_or l k 0)
+PlainBytesIf b l i j = b ≡ true → AllWithin PlainByte l i j
+
+-- a byte stands inside a letter
+abbrev pub InsideByte : ℕ → Type 0
+InsideByte b = (128 ≤ b) × (b ≤ 191)
 
 -- letters of two and of three bytes, in the ranges that most have
 pub record Two (a b : ℕ) : Type 0 where

@@ -21,7 +21,7 @@ use Rattle.signature.proofs.Answers.{judged_none}
 use Rattle.signature.proofs.TreeLaws.{front}
 use Rattle.writer_store.specs.Stores.{puts}
 use Rattle.writer_basic.specs.Wrote.{Done, Shallow}
-use Rattle.writer_basic.specs.declared.Answer.{Answer}
+use Rattle.writer_basic.specs.Wrote.{Answer}
 use Rattle.writer_store.proofs.Puts.{puts_room}
 use Rattle.writer_cycle.specs.Places.{value_of}
 use Rattle.writer.specs.Answers.{frame_of, MadeFrame, SaysFrame, WroteFrame, Judged, faulty, left, long, full, good}

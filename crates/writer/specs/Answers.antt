@@ -1,5 +1,5 @@
 -- What a write answers, and what a walk over a whole frame does. Assumes nothing: these are definitions.
-use Rattle.std.specs.Prelude.{◌≡◌, List, Bool, ℕ, ◌≤◌, ◌<◌, min, length, take, drop}
+use Rattle.std.specs.Prelude.{◌≡◌, List, Bool, ℕ, ◌≤◌, ◌<◌, min, length, take, drop, Result, Ok, Err}
 use Rattle.meaning.specs.Depths.{none_open}
 use Rattle.meaning.specs.Limits.{largest_frame, most_variants}
 use Rattle.meaning.specs.Refusals.{no_value, over_limit, room_too_small}
@@ -9,11 +9,14 @@ use Rattle.meaning_writing.specs.Emitting.{emit}
 use Rattle.signature.specs.Trees.{tree_at}
 use Rattle.writer_store.specs.Stores.{cap}
 use Rattle.writer_basic.specs.Wrote.{Faulted}
-use Rattle.writer_basic.specs.declared.Answer.{Answer}
-use Rattle.writer.specs.declared.Written.{Written}
+use Rattle.writer_basic.specs.Wrote.{Answer}
+use Rattle.meaning.specs.Refused.{number_of}
+use Rattle.meaning.specs.declared.refusals.Refusal.{Refusal}
 
-abbrev pub answer_of : Written → WriteAnswer
-answer_of r = write_answer r.refusal r.length
+-- the frame's length, or a refusal, which has length 0
+abbrev pub answer_of : Result ℕ Refusal → WriteAnswer
+answer_of (Ok n) = write_answer 0 n
+answer_of (Err r) = write_answer (number_of r) 0
 
 -- what a whole frame of a type is written as
 abbrev pub frame_of : List ℕ → Bool → List ℕ → List ℕ → Built Piece

@@ -5,36 +5,37 @@
 
 ghost use Rattle.std.specs.Prelude.{◌≡◌, true, ◌≤◌, length};
 ghost use Rattle.meaning.specs.Limits.{largest_frame};
+ghost use Rattle.meaning.specs.Refused.{refusal_in};
 ghost use Rattle.meaning_writing.specs.Writing.{write as write_of, write_slice};
 ghost use Rattle.signature.specs.Places.{is_type};
 ghost use Rattle.signature.specs.Shapes.{Shaped};
+ghost use Rattle.writer_basic.specs.Wrote.{done, answer_in};
 ghost use Rattle.writer.specs.Answers.{answer_of, frame_of, WroteFrame, Judged};
 
 use container_depths::ContainerDepths;
 use meaning::limits::{LARGEST_FRAME, LONGEST_TYPE};
-use meaning::refusals::{NO_VALUE, OVER_LIMIT, ROOM_TOO_SMALL, TYPE_REFUSED};
+use meaning::refusals::Refusal;
 use signature::shapes::shape_in;
 use signature_table::shapes_of;
-use writer_basic::{Answer, Context, Spot};
+use writer_basic::{Context, Spot, Wrote};
 use writer_cycle::value;
 use writer_store::copy_all;
 
-// What a write answers: the refusal's number, 0 if done, and the frame's length.
-#[derive(Clone, Copy)]
-pub struct Written {
-    pub refusal: u8,
-    pub length: usize,
-}
-
 // Writes the value that the events spell at the front of the output, where all is well and there is room for it. An event is three
-// numbers: kind, place, payload; place and payload of a text are where it stands among the texts, and its length.
-pub fn write(signature: &[u8], big: bool, events: &[u64], texts: &[u8], out: &mut [u8]) -> Written
+// numbers: kind, place, payload; place and payload of a text are where it stands among the texts, and its length. Answers the frame's length.
+pub fn write(
+    signature: &[u8],
+    big: bool,
+    events: &[u64],
+    texts: &[u8],
+    out: &mut [u8],
+) -> Result<usize, Refusal>
     ensures answer { answer_of result ≡ write_of signature.now big events.now texts.now out.old }
     ensures slice { out.new ≡ write_slice signature.now big events.now texts.now out.old }
 {
     let mut shapes = [0u16; LONGEST_TYPE];
     if !shapes_of(signature, &mut shapes) {
-        return unwritten(TYPE_REFUSED);
+        return Err(Refusal::TypeRefused);
     }
     if in_one_walk(events.len(), texts.len()) {
         let mut held = [0u8; 2048];
@@ -46,10 +47,7 @@ pub fn write(signature: &[u8], big: bool, events: &[u64], texts: &[u8], out: &mu
 
 // Whether a value is written in one walk: one of few events and short texts, whose frame is likely to be short enough to hold.
 fn in_one_walk(numbers: usize, texts: usize) -> bool {
-    if 3072 < numbers {
-        return false;
-    }
-    texts <= 2048
+    numbers <= 3072 && texts <= 2048
 }
 
 // Writes a value by a walk into a slice that is held, which may have no length, and by another where the frame is longer than that.
@@ -61,50 +59,36 @@ fn write_by_walks(
     texts: &[u8],
     held: &mut [u8],
     out: &mut [u8],
-) -> Written
+) -> Result<usize, Refusal>
     requires { (is_type signature.now ≡ true) × Shaped signature.now shapes.now × (length held.old ≤ largest_frame) }
     ensures answer { answer_of result ≡ write_of signature.now big events.now texts.now out.old }
     ensures slice { out.new ≡ write_slice signature.now big events.now texts.now out.old }
 {
-    let walked = whole(signature, shapes, big, events, texts, held);
-    let refusal = refusal_of(walked, events.len(), out.len());
+    let walked = whole(signature, shapes, big, events, texts, held)?;
+    judge(walked, events.len(), out.len())?;
     let length = walked.size;
-    if refusal != 0 {
-        return unwritten(refusal);
-    }
     if held.len() < length {
-        whole(signature, shapes, big, events, texts, &mut out[..length]);
-        return Written { refusal: 0, length };
+        let _ = whole(signature, shapes, big, events, texts, &mut out[..length]);
+        return Ok(length);
     }
     copy_all(out, 0, &held[..length]);
-    Written { refusal: 0, length }
+    Ok(length)
 }
 
-// What a walk over so many numbers is refused for, where the output has so much room; 0 if for nothing.
-fn refusal_of(walked: Answer, numbers: usize, room: usize) -> u8
-    ensures { Judged walked numbers room result }
+// What a walk over so many numbers that is done is refused for all the same, where the output has so much room.
+fn judge(walked: Wrote, numbers: usize, room: usize) -> Result<(), Refusal>
+    ensures { Judged (done walked) numbers room (refusal_in result) }
 {
-    let refusal = walked.refusal;
-    if refusal != 0 {
-        return refusal;
-    }
     if walked.next < numbers {
-        return NO_VALUE;
+        return Err(Refusal::NoValue);
     }
     if LARGEST_FRAME < walked.size {
-        return OVER_LIMIT;
+        return Err(Refusal::OverLimit);
     }
     if room < walked.size {
-        return ROOM_TOO_SMALL;
+        return Err(Refusal::RoomTooSmall);
     }
-    0
-}
-
-// Every refusal has length 0.
-fn unwritten(refusal: u8) -> Written
-    ensures { result ≡ record { refusal = refusal; length = 0 } }
-{
-    Written { refusal, length: 0 }
+    Ok(())
 }
 
 // One walk, by the type's shapes, into an output that need not have room.
@@ -115,9 +99,9 @@ fn whole(
     events: &[u64],
     texts: &[u8],
     out: &mut [u8],
-) -> Answer
+) -> Result<Wrote, Refusal>
     requires { (is_type signature.now ≡ true) × Shaped signature.now shapes.now }
-    ensures { WroteFrame (frame_of signature.now big events.now texts.now) events.now out.old out.new result }
+    ensures { WroteFrame (frame_of signature.now big events.now texts.now) events.now out.old out.new (answer_in result) }
 {
     let mut ends = [0u16; 128];
     let depths = ContainerDepths::new();

@@ -1,15 +1,14 @@
 -- Answers: what one says of what it answers, and a law for each way out of the values that take one event. Assumes nothing.
-use Prim.Native.Nat.{ℕ, zero, suc, ◌+◌, ◌-◌, ◌≤◌, ◌<◌, ◌^◌, min}
+use Prim.Native.Nat.{ℕ, zero, suc, ◌+◌, ◌≤◌, ◌<◌, ◌^◌, min}
 use mathlib.Core.Path.{◌≡◌, refl, sym, ap, ◌∙◌}
 use mathlib.Core.List.{List, [], ◌∷◌, ◌++◌}
-use mathlib.Core.Bool.{Bool, true, false, false≢true}
+use mathlib.Core.Bool.{Bool, true, false}
 use native.Mathlib.Omega.{arith}
 use lib.Dec.{ltb, eqb}
 use lib.ListN.{length, take, drop, get_or, length-append}
 use borrow.Author.Tests.{eq-eqb, ne_eqb, le-leb, lt-leb}
 use Rattle.meaning.specs.Depths.{Depths}
 use Rattle.meaning.specs.Numbers.{bytes, ordered}
-use Rattle.meaning.specs.Texts.{text_refusal}
 use Rattle.meaning.specs.Types.{Number as NumberType, Text as TextType, byte, int16, uint16, int32, uint32, int64, uint64, double, Basic, bool, number, text, number_width}
 use Rattle.meaning.specs.Letters.{number_letter, text_letter}
 use Rattle.meaning.specs.Written.{Piece, bit, basic_piece}
@@ -18,7 +17,6 @@ use Rattle.meaning_writing.specs.Emitting.{emit_basic}
 use Rattle.meaning.specs.Padding.{Aligns}
 use Rattle.meaning.proofs.PaddingLaws.{by_alignment}
 use Rattle.meaning.proofs.TypeLaws.{number_aligned}
-use Rattle.meaning_writing.specs.EventsAt.{NotPlain, TextAt, short, other, carrying, outside, viewed}
 use Rattle.meaning_writing.proofs.WritingSteps.{at_end, at_event, on_text_at, on_text_not, unrefused_none, unrefused_fault, mapped_built, mapped_fault}
 use Rattle.meaning.proofs.NumberLaws.{length_bytes}
 use Rattle.signature.specs.Places.{basic_kind}
@@ -28,70 +26,21 @@ use Rattle.signature.specs.contracts.Letter.{the_type}
 use types.Run.{OneOf, miss}
 use denote.Enum.Declared.{tag_of}
 use Rattle.writer_store.specs.Stores.{cap, sum, puts}
-use Rattle.writer_basic.specs.Wrote.{Opens, Taken, Untaken, unseen, unsound, Viewed, key_basic, IsKey, Made, Says, Done}
-use Rattle.writer_basic.specs.declared.Answer.{Answer}
-use Rattle.writer_basic.specs.declared.basic.View.{View}
+use Rattle.writer_basic.specs.Wrote.{Carries, Absent, too_short, other_kind, Taken, Untaken, unseen, unsound, key_basic, IsKey, Made, Says, Done}
+use Rattle.std.specs.Prelude.{Result, Ok, Err, IsErr, IsErrAnd}
+use Rattle.writer_basic.specs.Wrote.{Answer, answer_in}
+use Rattle.writer_basic.specs.declared.Wrote.{Wrote}
+use Rattle.meaning.specs.Refused.{number_of}
+use Rattle.meaning.specs.declared.refusals.Refusal.{Refusal}
 use Rattle.writer_ends.proofs.EndLaws.{puts_stored}
 
 abbrev pub answer : ℕ → ℕ → ℕ → Answer
 answer k n u = record { refusal = k; next = n; size = u }
 
-abbrev pub view : ℕ → ℕ → ℕ → View
-view k a b = record { refusal = k; start = a; end = b }
-
 -- ---- events
 
-never : {P : Type 0} → true ≡ false → P
-never e = absurd (false≢true (sym e))
-
-opens_not : {kind : ℕ} {ns : List ℕ} {i : ℕ} → NotPlain kind ns i → Opens kind ns i false
-opens_not h = record { here = λ e. absurd (false≢true e); not = λ e. h }
-
-pub opens_short : {kind : ℕ} {ns : List ℕ} {i : ℕ} → length ns < i + 3 → Opens kind ns i false
-opens_short h = opens_not (short h)
-
-pub opens_other : {kind : ℕ} {ns : List ℕ} {i : ℕ} → i + 3 ≤ length ns → (get_or ns i 0 ≡ kind → ⊥) → Opens kind ns i false
-opens_other h g = opens_not (other h g)
-
-pub opens_carrying : {kind : ℕ} {ns : List ℕ} {i : ℕ} → i + 3 ≤ length ns → get_or ns i 0 ≡ kind → (get_or ns (i + 2) 0 ≡ 0 → ⊥) → Opens kind ns i false
-opens_carrying h e g = opens_not (carrying h e g)
-
-pub opens_true : {kind : ℕ} {ns : List ℕ} {i : ℕ} → i + 3 ≤ length ns → get_or ns i 0 ≡ kind → get_or ns (i + 2) 0 ≡ 0 → Opens kind ns i true
-opens_true h e g = record { here = λ _. record { whole = h; kind_is = e; carries = g }; not = λ z. never z }
-
--- the text that an event views
-module _ (texts : List ℕ) (kind : ℕ) (ns : List ℕ) (i : ℕ) where
-  viewed_not : (n : ℕ) → Untaken texts kind ns i n → (n ≡ 0 → ⊥) → Viewed texts kind ns i (view n 0 0)
-  viewed_not n u z = record { taken = λ e. absurd (z e); refused = λ _. u }
-
-  pub viewed_short : length ns < i + 3 → Viewed texts kind ns i (view 17 0 0)
-  viewed_short h = viewed_not 17 (unseen (short h) refl) (λ e. omega arith)
-
-  pub viewed_other : i + 3 ≤ length ns → (get_or ns i 0 ≡ kind → ⊥) → Viewed texts kind ns i (view 17 0 0)
-  viewed_other h g = viewed_not 17 (unseen (other h g) refl) (λ e. omega arith)
-
-  module _ (p n : ℕ) (hp : p ≡ get_or ns (i + 1) 0) (hn : n ≡ get_or ns (i + 2) 0) (h : i + 3 ≤ length ns) (e : get_or ns i 0 ≡ kind) where
-    pub viewed_outside : length texts < p + n → Viewed texts kind ns i (view 17 0 0)
-    viewed_outside g = viewed_not 17 (unseen (outside h e (omega arith)) refl) (λ e. omega arith)
-
-    module _ (g : p + n ≤ length texts) where
-      part_is : take (p + n - p) (drop p texts) ≡ viewed texts ns i
-      part_is = let q : p + n - p ≡ n = omega arith in rw (q, hp, hn)
-
-      stands : TextAt texts kind ns i
-      stands = record { whole = h; kind_is = e; contained = omega arith }
-
-      pub viewed_unsound : (k : ℕ) → k ≡ text_refusal (take (p + n - p) (drop p texts)) → (k ≡ 0 → ⊥) → Viewed texts kind ns i (view k 0 0)
-      viewed_unsound k q z = viewed_not k (unsound stands (q ∙ ap text_refusal part_is) z) z
-
-      pub viewed_right : (k : ℕ) → k ≡ text_refusal (take (p + n - p) (drop p texts)) → k ≡ 0 → Viewed texts kind ns i (view 0 p (p + n))
-      viewed_right k q z = record {
-        taken = λ _. record { at = stands; sound = sym (ap text_refusal part_is) ∙ sym q ∙ z; is = part_is; order = omega arith; inside = g };
-        refused = λ w. absurd (w refl);
-      }
-
 module _ {A : Type 0} {texts : List ℕ} {kind : ℕ} {ns : List ℕ} {i : ℕ} (f : List ℕ → List ℕ → Built A) where
-  pub taken_on : {from to : ℕ} → Taken texts kind ns i from to → on_text texts kind (drop i ns) f ≡ f (take (to - from) (drop from texts)) (drop (i + 3) ns)
+  pub taken_on : {text : List ℕ} → Taken texts kind ns i text → on_text texts kind (drop i ns) f ≡ f text (drop (i + 3) ns)
   taken_on t = on_text_at f t.at ∙ unrefused_none _ _ t.sound ∙ rw t.is
 
   pub untaken_fault : {n : ℕ} → Untaken texts kind ns i n → on_text texts kind (drop i ns) f ≡ fault n
@@ -101,6 +50,15 @@ module _ {A : Type 0} {texts : List ℕ} {kind : ℕ} {ns : List ℕ} {i : ℕ} 
 pub untaken_real : {texts : List ℕ} {kind : ℕ} {ns : List ℕ} {i n : ℕ} → Untaken texts kind ns i n → n ≡ 0 → ⊥
 untaken_real (unseen h e) y = omega arith
 untaken_real (unsound h e z) y = z y
+
+-- ---- a refusal is handed on
+
+pub handed : {A : Type 0} (r : Result A Refusal) (e : Refusal) → IsErr r × IsErrAnd r (λ x. x ≡ e) → r ≡ Err e
+handed (Ok a) e h = absurd h.1
+handed (Err x) e h = ap Err h.1
+
+pub refused_on : {x : Built Piece} {ns : List ℕ} {i start top : ℕ} {l l' s s' : List ℕ} (r : Result Wrote Refusal) (e : Refusal) → IsErr r × IsErrAnd r (λ x. x ≡ e) → Done x ns i start top l l' s s' (answer (number_of e) 0 0) → Done x ns i start top l l' s s' (answer_in r)
+refused_on r e h d = rw (handed r e h) d
 
 -- ---- what an answer says of what it answers
 
@@ -158,17 +116,14 @@ length_ordered true x = lib.ListN.length-reverse x
 length_ordered false x = refl
 
 module _ (texts : List ℕ) (big : Bool) (d : Depths) (ns : List ℕ) (i start top : ℕ) (l s : List ℕ) where
-  pub bool_short : (l' : List ℕ) → length ns < i + 3 → Done (emit_basic texts big bool d (drop i ns)) ns i start top l l' s s (answer 17 0 0)
-  unfolding emit_basic build_basic
-  bool_short l' h = wrong (mapped_fault _ _ 17 (at_end ns i _ h)) (λ e. omega arith)
-
-  pub bool_other : (l' : List ℕ) → i + 3 ≤ length ns → (get_or ns i 0 ≡ 98 → ⊥) → Done (emit_basic texts big bool d (drop i ns)) ns i start top l l' s s (answer 17 0 0)
+  pub bool_absent : {n : ℕ} (l' : List ℕ) → Absent 98 ns i n → Done (emit_basic texts big bool d (drop i ns)) ns i start top l l' s s (answer n 0 0)
   unfolding emit_basic build_basic when
-  bool_other l' h e = wrong (mapped_fault _ _ 17 (at_event ns i _ h ∙ rw (ne_eqb (get_or ns i 0) 98 e))) (λ e. omega arith)
+  bool_absent l' (too_short h e) = rw e (wrong (mapped_fault _ _ 17 (at_end ns i _ h)) (λ e. omega arith))
+  bool_absent l' (other_kind h g e) = rw e (wrong (mapped_fault _ _ 17 (at_event ns i _ h ∙ rw (ne_eqb (get_or ns i 0) 98 g))) (λ e. omega arith))
 
-  pub bool_large : (l' : List ℕ) → i + 3 ≤ length ns → get_or ns i 0 ≡ 98 → 1 < get_or ns (i + 2) 0 → Done (emit_basic texts big bool d (drop i ns)) ns i start top l l' s s (answer 17 0 0)
+  pub bool_large : {x : ℕ} (l' : List ℕ) → Carries 98 ns i x → 1 < x → Done (emit_basic texts big bool d (drop i ns)) ns i start top l l' s s (answer 17 0 0)
   unfolding emit_basic build_basic when
-  bool_large l' h e g = wrong (mapped_fault _ _ 17 (at_event ns i _ h ∙ rw (eq-eqb (get_or ns i 0) 98 e, lt-leb (get_or ns (i + 2) 0) 1 g))) (λ e. omega arith)
+  bool_large {x} l' c g = wrong (mapped_fault _ _ 17 (at_event ns i _ c.whole ∙ rw (eq-eqb (get_or ns i 0) 98 c.kind_is, ← c.is, lt-leb x 1 g))) (λ e. omega arith)
 
   bool_byte : (x : ℕ) → x ≤ 1 → bytes 1 x ≡ bit (eqb x 1) ∷ []
   unfolding bytes
@@ -176,29 +131,24 @@ module _ (texts : List ℕ) (big : Bool) (d : Depths) (ns : List ℕ) (i start t
   bool_byte (suc zero) h = refl
   bool_byte (suc (suc x)) h = absurd (omega arith)
 
-  pub bool_made : (l' : List ℕ) → i + 3 ≤ length ns → get_or ns i 0 ≡ 98 → get_or ns (i + 2) 0 ≤ 1 → l' ≡ puts l start (ordered false (bytes 1 (get_or ns (i + 2) 0)))
-      → Done (emit_basic texts big bool d (drop i ns)) ns i start top l l' s s (answer 0 (i + 3) 1)
+  pub bool_made : {x : ℕ} (l' : List ℕ) → Carries 98 ns i x → x ≤ 1 → l' ≡ puts l start (ordered false (bytes 1 x)) → Done (emit_basic texts big bool d (drop i ns)) ns i start top l l' s s (answer 0 (i + 3) 1)
   unfolding emit_basic build_basic when basic_piece
-  bool_made l' h e g p =
-      single (basic_piece big bool (eqb (get_or ns (i + 2) 0) 1)) ns i start top 1 l l' s
-      (mapped_built (basic_piece big bool) _ (eqb (get_or ns (i + 2) 0) 1) (drop (i + 3) ns) (at_event ns i _ h ∙ rw (eq-eqb (get_or ns i 0) 98 e, le-leb (get_or ns (i + 2) 0) 1 g))) h (omega arith)
-      (λ q. p ∙ ap (puts l start) (bool_byte (get_or ns (i + 2) 0) g))
+  bool_made {x} l' c g p =
+      single (basic_piece big bool (eqb x 1)) ns i start top 1 l l' s
+      (mapped_built (basic_piece big bool) _ (eqb x 1) (drop (i + 3) ns) (at_event ns i _ c.whole ∙ rw (eq-eqb (get_or ns i 0) 98 c.kind_is, ← c.is, le-leb x 1 g))) c.whole (omega arith)
+      (λ q. p ∙ ap (puts l start) (bool_byte x g))
 
-  module _ (n : NumberType) where
-    pub number_short : (l' : List ℕ) → length ns < i + 3 → Done (emit_basic texts big (number n) d (drop i ns)) ns i start top l l' s s (answer 17 0 0)
-    unfolding emit_basic build_basic
-    number_short l' h = wrong (mapped_fault _ _ 17 (at_end ns i _ h)) (λ e. omega arith)
-
-    pub number_other : (l' : List ℕ) → i + 3 ≤ length ns → (get_or ns i 0 ≡ number_letter n → ⊥) → Done (emit_basic texts big (number n) d (drop i ns)) ns i start top l l' s s (answer 17 0 0)
+  module _ (n : NumberType) (t : ℕ) (e : t ≡ number_letter n) where
+    pub number_absent : {k : ℕ} (l' : List ℕ) → Absent t ns i k → Done (emit_basic texts big (number n) d (drop i ns)) ns i start top l l' s s (answer k 0 0)
     unfolding emit_basic build_basic when
-    number_other l' h e = wrong (mapped_fault _ _ 17 (at_event ns i _ h ∙ rw (ne_eqb (get_or ns i 0) (number_letter n) e))) (λ e. omega arith)
+    number_absent l' (too_short h y) = rw y (wrong (mapped_fault _ _ 17 (at_end ns i _ h)) (λ e. omega arith))
+    number_absent l' (other_kind h g y) = rw y (wrong (mapped_fault _ _ 17 (at_event ns i _ h ∙ rw (ne_eqb (get_or ns i 0) (number_letter n) (λ z. g (z ∙ sym e))))) (λ e. omega arith))
 
-    pub number_large : (w : ℕ) (b : Bool) (l' : List ℕ) → w ≡ number_width n → i + 3 ≤ length ns → get_or ns i 0 ≡ number_letter n → b ≡ ltb (get_or ns (i + 2) 0) (256 ^ w) → b ≡ false
-        → Done (emit_basic texts big (number n) d (drop i ns)) ns i start top l l' s s (answer 17 0 0)
+    pub number_large : {x : ℕ} (w : ℕ) (b : Bool) (l' : List ℕ) → w ≡ number_width n → Carries t ns i x → b ≡ ltb x (256 ^ w) → b ≡ false → Done (emit_basic texts big (number n) d (drop i ns)) ns i start top l l' s s (answer 17 0 0)
     unfolding emit_basic build_basic when
-    number_large w b l' f h e x y =
-        let g : ltb (get_or ns (i + 2) 0) (256 ^ number_width n) ≡ false = ap (λ (v : ℕ). ltb (get_or ns (i + 2) 0) (256 ^ v)) (sym f) ∙ sym x ∙ y in
-        wrong (mapped_fault _ _ 17 (at_event ns i _ h ∙ rw (eq-eqb (get_or ns i 0) (number_letter n) e, g))) (λ e. omega arith)
+    number_large {x} w b l' f c q y =
+        let g : ltb x (256 ^ number_width n) ≡ false = ap (λ (v : ℕ). ltb x (256 ^ v)) (sym f) ∙ sym q ∙ y in
+        wrong (mapped_fault _ _ 17 (at_event ns i _ c.whole ∙ rw (eq-eqb (get_or ns i 0) (number_letter n) (c.kind_is ∙ e), ← c.is, g))) (λ e. omega arith)
 
     width_small : number_width n ≤ 8
     width_small = go n
@@ -213,14 +163,14 @@ module _ (texts : List ℕ) (big : Bool) (d : Depths) (ns : List ℕ) (i start t
         go uint64 = omega arith
         go double = omega arith
 
-    pub number_made : (w : ℕ) (b : Bool) (l' : List ℕ) → w ≡ number_width n → i + 3 ≤ length ns → get_or ns i 0 ≡ number_letter n → b ≡ ltb (get_or ns (i + 2) 0) (256 ^ w) → b ≡ true
-        → l' ≡ puts l start (ordered big (bytes w (get_or ns (i + 2) 0))) → Done (emit_basic texts big (number n) d (drop i ns)) ns i start top l l' s s (answer 0 (i + 3) w)
+    pub number_made : {x : ℕ} (w : ℕ) (b : Bool) (l' : List ℕ) → w ≡ number_width n → Carries t ns i x → b ≡ ltb x (256 ^ w) → b ≡ true → l' ≡ puts l start (ordered big (bytes w x))
+        → Done (emit_basic texts big (number n) d (drop i ns)) ns i start top l l' s s (answer 0 (i + 3) w)
     unfolding emit_basic build_basic when basic_piece
-    number_made w b l' f h e x y p =
-        let g : ltb (get_or ns (i + 2) 0) (256 ^ number_width n) ≡ true = ap (λ (v : ℕ). ltb (get_or ns (i + 2) 0) (256 ^ v)) (sym f) ∙ sym x ∙ y in
-        let q = length_ordered big (bytes (number_width n) (get_or ns (i + 2) 0)) ∙ length_bytes (number_width n) (get_or ns (i + 2) 0) in
-        single (basic_piece big (number n) (get_or ns (i + 2) 0)) ns i start top w l l' s
-        (mapped_built _ _ _ _ (at_event ns i _ h ∙ rw (eq-eqb (get_or ns i 0) (number_letter n) e, g))) h (omega (arith, q, width_small, f))
+    number_made {x} w b l' f c h y p =
+        let g : ltb x (256 ^ number_width n) ≡ true = ap (λ (v : ℕ). ltb x (256 ^ v)) (sym f) ∙ sym h ∙ y in
+        let q = length_ordered big (bytes (number_width n) x) ∙ length_bytes (number_width n) x in
+        single (basic_piece big (number n) x) ns i start top w l l' s
+        (mapped_built _ _ _ _ (at_event ns i _ c.whole ∙ rw (eq-eqb (get_or ns i 0) (number_letter n) (c.kind_is ∙ e), ← c.is, g))) c.whole (omega (arith, q, width_small, f))
         (λ z. p ∙ rw f)
 
 -- ---- texts
@@ -230,19 +180,13 @@ module _ (texts : List ℕ) (big : Bool) (d : Depths) (ns : List ℕ) (i start t
   unfolding emit_basic build_basic
   text_wrong t k l' e u = let v : Untaken texts (text_letter n) ns i k = rw e at u in wrong (mapped_fault _ _ k (untaken_fault _ v)) (untaken_real v)
 
-  pub text_made : (k from to u : ℕ) (l₁ : List ℕ) → k ≡ text_letter n → Taken texts k ns i from to
-      → (start + length (take (to - from) (drop from texts)) < length l → l₁ ≡ puts l start (take (to - from) (drop from texts) ++ (0 ∷ []))) → u ≡ sum 1 (to - from) → Done (emit_basic texts big (text n) d (drop i ns)) ns i start top l l₁ s s (answer 0 (i + 3) u)
+  pub text_made : (k u : ℕ) (part l₁ : List ℕ) → k ≡ text_letter n → Taken texts k ns i part → (start + length part < length l → l₁ ≡ puts l start (part ++ (0 ∷ []))) → u ≡ sum 1 (length part)
+      → Done (emit_basic texts big (text n) d (drop i ns)) ns i start top l l₁ s s (answer 0 (i + 3) u)
   unfolding emit_basic build_basic basic_piece
-  text_made k from to u l₁ x t₀ h hu =
-      let t : Taken texts (text_letter n) ns i from to = rw x at t₀ in
-      let m : length (take (to - from) (drop from texts)) ≡ to - from = part_length from to t.order t.inside in
-      let k = length-append (take (to - from) (drop from texts)) (0 ∷ []) in
-      single (basic_piece big (text n) (take (to - from) (drop from texts))) ns i start top u l l₁ s
-      (mapped_built _ _ _ _ (taken_on _ t)) t.at.whole (omega (arith, m, k))
-      (λ q. h (omega (arith, k)))
-    where
-      part_length : (a b : ℕ) → a ≤ b → b ≤ length texts → length (take (b - a) (drop a texts)) ≡ b - a
-      part_length a b x y = lib.Seq.length-take-le (b - a) (drop a texts) (rw (lib.ListN.length-drop a texts) (omega arith))
+  text_made k u part l₁ x t₀ h hu =
+      let t : Taken texts (text_letter n) ns i part = rw x at t₀ in
+      let k = length-append part (0 ∷ []) in
+      single (basic_piece big (text n) part) ns i start top u l l₁ s (mapped_built _ _ _ _ (taken_on _ t)) t.at.whole (omega (arith, k)) (λ q. h (omega (arith, k)))
 
 -- a place is as good where it is not capped
 pub done_near : {x : Built Piece} {ns : List ℕ} {i top : ℕ} {l l' s s' : List ℕ} {r : Answer} (base k : ℕ) → Done x ns i (base + k) top l l' s s' r → Done x ns i (sum base k) top l l' s s' r
@@ -287,21 +231,6 @@ aligns_small h = by_alignment (λ w. w ≤ 8) (omega arith) (omega arith) (omega
 pub key_as : (k k' : Letter) → k ≡ k' → IsKey k → IsKey k'
 key_as k k' e h = rw e at h
 
--- a letter that is neither a number's nor a text's is a bool's
-key_else : (key : Letter) → OneOf (0 ∷ 1 ∷ 2 ∷ 5 ∷ 6 ∷ 7 ∷ 8 ∷ 9 ∷ 10 ∷ 11 ∷ []) (tag_of the_type key) → key_basic key ≡ bool
-key_else End w = refl
-key_else Bad w = refl
-key_else Boolean w = refl
-key_else (Number c n) w = absurd (miss (0 ∷ 1 ∷ 2 ∷ 5 ∷ 6 ∷ 7 ∷ 8 ∷ 9 ∷ 10 ∷ 11 ∷ []) 3 tt w)
-key_else (Text c) w = absurd (miss (0 ∷ 1 ∷ 2 ∷ 5 ∷ 6 ∷ 7 ∷ 8 ∷ 9 ∷ 10 ∷ 11 ∷ []) 4 tt w)
-key_else Variant w = refl
-key_else Maybe w = refl
-key_else Array w = refl
-key_else OpenStructure w = refl
-key_else CloseStructure w = refl
-key_else OpenEntry w = refl
-key_else CloseEntry w = refl
-
 module _ (key : Letter) (texts : List ℕ) (big : Bool) (d : Depths) (ns : List ℕ) (i start top : ℕ) (l l' s : List ℕ) (r : Answer) where
   pub basic_number : (c w : ℕ) → key ≡ Number c w → IsKey key
       → ((n : NumberType) (texts : List ℕ) (d : Depths) (top : ℕ) (s : List ℕ) → c ≡ number_letter n → w ≡ number_width n → Done (emit_basic texts big (number n) d (drop i ns)) ns i start top l l' s s r)
@@ -312,8 +241,3 @@ module _ (key : Letter) (texts : List ℕ) (big : Bool) (d : Depths) (ns : List 
       → ((n : TextType) (big : Bool) (d : Depths) (top : ℕ) (s : List ℕ) → c ≡ text_letter n → Done (emit_basic texts big (text n) d (drop i ns)) ns i start top l l' s s r)
       → Done (emit_basic texts big (key_basic key) d (drop i ns)) ns i start top l l' s s r
   basic_text c e k f = rw e (key_text c (key_as key (Text c) e k) (λ b. Done (emit_basic texts big b d (drop i ns)) ns i start top l l' s s r) (λ n x. f n big d top s x))
-
-  pub basic_bool : OneOf (0 ∷ 1 ∷ 2 ∷ 5 ∷ 6 ∷ 7 ∷ 8 ∷ 9 ∷ 10 ∷ 11 ∷ []) (tag_of the_type key)
-      → ((texts : List ℕ) (big : Bool) (d : Depths) (top : ℕ) (s : List ℕ) → Done (emit_basic texts big bool d (drop i ns)) ns i start top l l' s s r)
-      → Done (emit_basic texts big (key_basic key) d (drop i ns)) ns i start top l l' s s r
-  basic_bool w f = rw (key_else key w) (f texts big d top s)

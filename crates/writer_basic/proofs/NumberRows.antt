@@ -25,11 +25,11 @@ use Rattle.meaning_writing.proofs.PieceLaws.{basic_alignment_lem as piece_alignm
 use Rattle.meaning.proofs.NumberLaws.{length_bytes}
 use Rattle.container_depths.specs.Opening.{depths_of, Raises}
 use Rattle.container_depths.specs.declared.ContainerDepths.{ContainerDepths}
-use Rattle.container_depths.specs.declared.Raised.{Raised}
+use Rattle.container_depths.specs.Opening.{Raised}
 use Rattle.signature.specs.declared.Letter.TheVariants.{Number, Text}
 use Rattle.writer_store.specs.Stores.{cap, sum}
 use Rattle.writer_basic.specs.Wrote.{key_basic, IsKey, Says, Done, marks_of, DoneAll, around_child}
-use Rattle.writer_basic.specs.declared.Answer.{Answer}
+use Rattle.writer_basic.specs.Wrote.{Answer}
 use Rattle.writer_ends.proofs.EndLaws.{kept_not}
 use Rattle.writer_basic.proofs.Answers.{made_of, Bounds, bounds, length_ordered, key_number, key_text, key_aligned, aligns_small, basic_number, basic_text}
 use Rattle.writer_basic.proofs.Openings.{maybe_on}
@@ -142,15 +142,6 @@ pub record NumbersLeft (c w : ℕ) (big : Bool) (ns : List ℕ) (i base : ℕ) (
   pub same : length l ≡ length l₀
 
 module _ (c w : ℕ) (key : IsKey (Number c w)) (big : Bool) (ns : List ℕ) (i base : ℕ) (l₀ : List ℕ) where
-  pub numbers_begin : i ≤ length ns → NumbersLeft c w big ns i base l₀ i 0 l₀
-  numbers_begin h = record {
-    even = by_alignment (λ w. 0 % w ≡ 0) refl refl refl refl (key_aligned c w key);
-    left = λ texts d top s. left_all true _ ns i base top l₀ s h;
-    within = h;
-    small = omega arith;
-    same = refl;
-  }
-
   module _ (e k : ℕ) (l : List ℕ) (v : NumbersLeft c w big ns i base l₀ e k l) (h : e + 3 ≤ length ns) (z : get_or ns e 0 ≡ 41 → ⊥) (start : ℕ) (l₂ : List ℕ) (r : Answer)
       (f : NumberSays c w big ns e start l l₂ r) where
     pub numbers_stop : (texts : List ℕ) (d : Depths) (top : ℕ) (s : List ℕ) → (r.refusal ≡ 0 → ⊥)

@@ -4,9 +4,9 @@ use mathlib.Core.List.{List}
 use mathlib.Core.Option.{none, some}
 use mathlib.Core.Bool.{Bool, true, false}
 use native.Mathlib.Omega.{arith}
-use Prim.Native.Nat.{ℕ, ◌+◌, ◌-◌, ◌≤◌}
+use Prim.Native.Nat.{ℕ, ◌+◌, ◌≤◌}
 use lib.Dec.{eqb}
-use lib.ListN.{length, take, drop, get_or, length-drop}
+use lib.ListN.{length, drop, get_or, length-drop}
 use borrow.Author.Tests.{eqb-true, eqb-false}
 use Rattle.meaning.specs.Depths as Depth
 use Rattle.meaning.specs.Depths.{Depths, Opened, opened}
@@ -20,12 +20,12 @@ use Rattle.meaning_writing.proofs.WritingSteps.{Shorter, on_plain_at, on_plain_n
 use Rattle.meaning.proofs.Bounds.{total_most}
 use Rattle.container_depths.specs.Opening.{depths_of, Raises}
 use Rattle.container_depths.specs.declared.ContainerDepths.{ContainerDepths}
-use Rattle.container_depths.specs.declared.Raised.{Raised}
+use Rattle.container_depths.specs.Opening.{Raised}
 use Rattle.container_depths.proofs.Levels.{raised_to, raised_shallow}
 use Rattle.writer_basic.specs.Wrote.{Taken, Untaken, Done, around_child, around_value}
 use Rattle.writer_basic.specs.declared.Context.{Context}
 use Rattle.writer_basic.specs.Wrote.{Shallow}
-use Rattle.writer_basic.specs.declared.Answer.{Answer}
+use Rattle.writer_basic.specs.Wrote.{Answer}
 use Rattle.writer_store.proofs.Puts.{puts_none}
 use Rattle.writer_basic.proofs.Answers.{answer, wrong, single, taken_on, untaken_fault, untaken_real}
 
@@ -131,18 +131,18 @@ module _ (texts : List ℕ) (big : Bool) (child : Tree → Builder Piece) (d : C
     unfolding emit_variant build_variant
     variant_text_lem n l' s' u = wrong (mapped_fault _ _ n (on_plain_at _ p ∙ untaken_fault _ u)) (untaken_real u)
 
-    module _ (from to : ℕ) (t : Taken texts 103 ns (i + 3) from to) where
-      pub variant_type_lem : (l' s' : List ℕ) → type_of (take (to - from) (drop from texts)) ≡ none → Done (emit_variant texts big child (depths_of d) (drop i ns)) ns i start top l l' s s' (answer 9 0 0)
+    module _ (part : List ℕ) (t : Taken texts 103 ns (i + 3) part) where
+      pub variant_type_lem : (l' s' : List ℕ) → type_of part ≡ none → Done (emit_variant texts big child (depths_of d) (drop i ns)) ns i start top l l' s s' (answer 9 0 0)
       unfolding emit_variant build_variant variant_by
       variant_type_lem l' s' e =
-          let k : variant_by child (depths_of d) (drop (i + 3 + 3) ns) (type_of (take (to - from) (drop from texts))) ≡ fault 9 = rw e in
+          let k : variant_by child (depths_of d) (drop (i + 3 + 3) ns) (type_of part) ≡ fault 9 = rw e in
           wrong (mapped_fault _ _ 9 (on_plain_at _ p ∙ taken_on _ t ∙ k)) (λ e. omega arith)
 
-      module _ (u : Tree) (e : type_of (take (to - from) (drop from texts)) ≡ some u) (r : Raised) (h : Raises (depths_of d) (opened Depth.variant (depths_of d)) r) where
+      module _ (u : Tree) (e : type_of part ≡ some u) (r : Raised) (h : Raises (depths_of d) (opened Depth.variant (depths_of d)) r) where
         pub variant_deep : (l' s' : List ℕ) → (r.refusal ≡ 0 → ⊥) → Done (emit_variant texts big child (depths_of d) (drop i ns)) ns i start top l l' s s' (answer r.refusal 0 0)
         unfolding emit_variant build_variant variant_by
         variant_deep l' s' z =
-            let k : variant_by child (depths_of d) (drop (i + 3 + 3) ns) (type_of (take (to - from) (drop from texts))) ≡ fault r.refusal = rw e (opened_not Depth.variant d r h _ z) in
+            let k : variant_by child (depths_of d) (drop (i + 3 + 3) ns) (type_of part) ≡ fault r.refusal = rw e (opened_not Depth.variant d r h _ z) in
             wrong (mapped_fault _ _ _ (on_plain_at _ p ∙ taken_on _ t ∙ k)) z
 
         pub variant_on : (l' s' : List ℕ) (q : Answer) → r.refusal ≡ 0 → Done (around_value u (child u (depths_of r.depths) (drop (i + 6) ns))) ns i start top l l' s s' q
@@ -152,7 +152,7 @@ module _ (texts : List ℕ) (big : Bool) (child : Tree → Builder Piece) (d : C
             let y : i + 3 + 3 ≡ i + 6 = omega arith in
             let k : variant_by child (depths_of d) (drop (i + 3 + 3) ns) (some u) ≡ sealed (mapped {B = (t : Tree) × Piece} (λ v. (u, v)) (child u (depths_of r.depths) (drop (i + 3 + 3) ns))) =
             (unfold variant_by in opened_in Depth.variant d r h _ z) in
-            let o : build_variant texts child (depths_of d) (drop i ns) ≡ variant_by child (depths_of d) (drop (i + 3 + 3) ns) (type_of (take (to - from) (drop from texts))) = (unfold build_variant in on_plain_at _ p ∙ taken_on _ t) in
+            let o : build_variant texts child (depths_of d) (drop i ns) ≡ variant_by child (depths_of d) (drop (i + 3 + 3) ns) (type_of part) = (unfold build_variant in on_plain_at _ p ∙ taken_on _ t) in
             let m : build_variant texts child (depths_of d) (drop i ns) ≡ variant_by child (depths_of d) (drop (i + 3 + 3) ns) (some u) = o ∙ ap (λ x. variant_by child (depths_of d) (drop (i + 3 + 3) ns) x) e in
             let n : build_variant texts child (depths_of d) (drop i ns) ≡ sealed (mapped {B = (t : Tree) × Piece} (λ v. (u, v)) (child u (depths_of r.depths) (drop (i + 6) ns))) = rw y at (m ∙ k) in
             rw n g

@@ -25,8 +25,8 @@ use Rattle.meaning.proofs.LayoutLaws.{length_back_table, length_table, length_en
 use Rattle.writer_store.specs.Stores.{cap, sum, puts}
 use Rattle.writer_ends.specs.Ends.{Stored, Room, TableRoom, TableFrom}
 use Rattle.writer_basic.specs.Wrote.{Opens, Done, marks_of, DoneAll, around_child, around_value, Structured}
-use Rattle.writer_basic.specs.declared.Answer.{Answer}
-use Rattle.writer_basic.specs.declared.Run.{Run}
+use Rattle.writer_basic.specs.Wrote.{Answer}
+use Rattle.writer_basic.specs.Wrote.{Run}
 use Rattle.writer_store.proofs.Puts.{puts_none, puts_cons}
 use Rattle.writer_ends.proofs.EndLaws.{puts_stored, stored_then, stored_forget, room_in, room_front, room_most}
 use Rattle.writer_basic.proofs.Answers.{answer, made_of, fault_of, wrong}
@@ -99,9 +99,6 @@ module _ (m : ℕ → List Piece → List ℕ) (x : Built (List Piece)) (ns : Li
 
 pub product : (m w : ℕ) → w ≤ 4 → m * w ≤ m * 4
 product m w h = mul-le-mul_left m h
-
-pub part_length : (texts : List ℕ) (a b : ℕ) → a ≤ b → b ≤ length texts → length (take (b - a) (drop a texts)) ≡ b - a
-part_length texts a b x y = length-take-le (b - a) (drop a texts) (rw (length-drop a texts) (omega arith))
 
 -- a width by what it has to hold
 width_by_lem : (b m : ℕ) (P : ℕ → Type 0) → (b + m ≤ 255 → P 1) → (255 < b + m → b + 2 * m ≤ 65535 → P 2) → (255 < b + m → 65535 < b + 2 * m → P 4) → (255 < b + m → 65535 < b + 2 * m → P 8) → P (written_width b m)

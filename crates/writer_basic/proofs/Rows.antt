@@ -14,11 +14,15 @@ use Rattle.meaning.proofs.LayoutLaws.{layout_cons, length_layout, layout_none}
 use Rattle.writer_store.specs.Stores.{cap, sum, puts}
 use Rattle.writer_ends.specs.Ends.{Stored, Room, Kept}
 use Rattle.writer_basic.specs.Wrote.{Made, Done, marks_of, MadeAll, SaysAll, DoneAll}
-use Rattle.writer_basic.specs.declared.Answer.{Answer}
-use Rattle.writer_basic.specs.declared.Run.{Run}
+use Rattle.writer_basic.specs.Wrote.{Answer}
+use Rattle.std.specs.Prelude.{Result, IsErr, IsErrAnd}
+use Rattle.meaning.specs.Refused.{number_of}
+use Rattle.meaning.specs.declared.refusals.Refusal.{Refusal}
+use Rattle.writer_basic.specs.Wrote.{Run, run_in}
+use Rattle.writer_basic.specs.declared.Row.{Row}
 use Rattle.writer_store.proofs.Puts.{length_puts, puts_none}
 use Rattle.writer_ends.proofs.EndLaws.{puts_stored, stored_none, stored_then, room_in}
-use Rattle.writer_basic.proofs.Answers.{made_of, fault_of}
+use Rattle.writer_basic.proofs.Answers.{handed, made_of, fault_of}
 
 abbrev pub run : ℕ → ℕ → ℕ → ℕ → Run
 run k n u m = record { refusal = k; next = n; size = u; count = m }
@@ -84,6 +88,10 @@ module _ {m : ℕ → List Piece → List ℕ} {ns : List ℕ} {i base top k j :
 
 pub wrongs : {m : ℕ → List Piece → List ℕ} {x : Built (List Piece)} {ns : List ℕ} {i base top k j : ℕ} {l l' s s' : List ℕ} {r : Run} → x ≡ fault r.refusal → (r.refusal ≡ 0 → ⊥) → DoneAll m x ns i base top k j l l' s s' r
 wrongs e z = rw e (record { says = record { refusal = refl; real = z } })
+
+pub stopped_on : {m : ℕ → List Piece → List ℕ} {x : Built (List Piece)} {ns : List ℕ} {i base top k j : ℕ} {l l' s s' : List ℕ} (r : Result Row Refusal) (e : Refusal) → IsErr r × IsErrAnd r (λ x. x ≡ e)
+    → DoneAll m x ns i base top k j l l' s s' (run (number_of e) 0 0 0) → DoneAll m x ns i base top k j l l' s s' (run_in r)
+stopped_on r e h d = rw (handed r e h) d
 
 pub record RowBounds (ns : List ℕ) (i n u v : ℕ) : Type 0 where
   pub small : u ≤ cap

@@ -5,9 +5,7 @@ use Rattle.meaning.specs.Types.{Tree}
 use Rattle.meaning.specs.TypeText.{type_text}
 use Rattle.meaning.specs.Written.{Piece, field_ends, array_piece}
 use Rattle.meaning_writing.specs.Writing.{Built, built, mapped, sealed}
-use Rattle.writer_basic.specs.Wrote.{Done, DoneAll, marks_of, around_child, around_value, Structured}
-use Rattle.writer_basic.specs.declared.Answer.{Answer}
-use Rattle.writer_basic.specs.declared.Run.{Run}
+use Rattle.writer_basic.specs.Wrote.{Answer, Run, Done, DoneAll, marks_of, around_child, around_value, Structured}
 
 -- a maybe round its child
 abbrev pub RoundChild : Bool → ℕ → List ℕ → List ℕ → Answer → Answer → Type 0

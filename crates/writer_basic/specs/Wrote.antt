@@ -1,8 +1,9 @@
 -- What the code's answers say of the definitions. Assumes nothing: these are definitions.
-use Rattle.std.specs.Prelude.{ℕ, ◌+◌, ◌-◌, ◌≤◌, ◌<◌, min, ◌≡◌, List, [], Bool, true, false, length, take, drop}
+use Rattle.std.specs.Prelude.{ℕ, ◌+◌, ◌≤◌, ◌<◌, min, ◌≡◌, List, [], Bool, true, false, length, drop, get_or, Result, Ok, Err}
 use Rattle.std.proofs.Math.Option.{Option, none, some}
 use Rattle.meaning.specs.Depths.{depth_refusal}
 use Rattle.meaning.specs.Refusals.{no_value}
+use Rattle.meaning.specs.Refused.{number_of}
 use Rattle.meaning.specs.Types.{Basic, bool, Tree, basic_alignment}
 use Rattle.meaning.specs.Texts.{text_refusal}
 use Rattle.meaning.specs.TypeText.{basic_of}
@@ -16,11 +17,11 @@ use Rattle.signature.specs.declared.Letter.{Letter}
 use Rattle.signature.specs.declared.Letter.TheVariants.{End, Bad, Boolean, Number, Text, Variant, Maybe, Array, OpenStructure, CloseStructure, OpenEntry, CloseEntry}
 use Rattle.writer_store.specs.Stores.{cap}
 use Rattle.writer_ends.specs.Ends.{Stored, Room}
-use Rattle.writer_basic.specs.declared.Answer.{Answer}
 use Rattle.writer_basic.specs.declared.Context.{Context}
-use Rattle.writer_basic.specs.declared.Run.{Run}
+use Rattle.writer_basic.specs.declared.Row.{Row}
 use Rattle.writer_basic.specs.declared.Spot.{Spot}
-use Rattle.writer_basic.specs.declared.basic.View.{View}
+use Rattle.writer_basic.specs.declared.Wrote.{Wrote}
+use Rattle.meaning.specs.declared.refusals.Refusal.{Refusal}
 
 -- ---- events
 
@@ -28,22 +29,30 @@ pub record Opens (kind : ℕ) (ns : List ℕ) (i : ℕ) (r : Bool) : Type 0 wher
   pub here : r ≡ true → PlainAt kind ns i
   pub not : r ≡ false → NotPlain kind ns i
 
--- the text that an event views stands from a place to another
-pub record Taken (texts : List ℕ) (kind : ℕ) (ns : List ℕ) (i from to : ℕ) : Type 0 where
+-- the event is of a kind and carries a number, or is not
+pub record Carries (kind : ℕ) (ns : List ℕ) (i x : ℕ) : Type 0 where
+  pub whole : i + 3 ≤ length ns
+  pub kind_is : get_or ns i 0 ≡ kind
+  pub is : x ≡ get_or ns (i + 2) 0
+
+pub data Absent (kind : ℕ) (ns : List ℕ) (i n : ℕ) : Type 0 where
+  too_short : length ns < i + 3 → n ≡ no_value → Absent kind ns i n
+  other_kind : i + 3 ≤ length ns → (get_or ns i 0 ≡ kind → ⊥) → n ≡ no_value → Absent kind ns i n
+
+abbrev pub Carried : ℕ → List ℕ → ℕ → Result ℕ Refusal → Type 0
+Carried kind ns i (Ok x) = Carries kind ns i x
+Carried kind ns i (Err r) = Absent kind ns i (number_of r)
+
+-- a text is what the event views
+pub record Taken (texts : List ℕ) (kind : ℕ) (ns : List ℕ) (i : ℕ) (text : List ℕ) : Type 0 where
   pub at : TextAt texts kind ns i
   pub sound : text_refusal (viewed texts ns i) ≡ 0
-  pub is : take (to - from) (drop from texts) ≡ viewed texts ns i
-  pub order : from ≤ to
-  pub inside : to ≤ length texts
+  pub is : text ≡ viewed texts ns i
 
 -- or it is refused
 pub data Untaken (texts : List ℕ) (kind : ℕ) (ns : List ℕ) (i n : ℕ) : Type 0 where
   unseen : NotText texts kind ns i → n ≡ no_value → Untaken texts kind ns i n
   unsound : TextAt texts kind ns i → n ≡ text_refusal (viewed texts ns i) → (n ≡ 0 → ⊥) → Untaken texts kind ns i n
-
-pub record Viewed (texts : List ℕ) (kind : ℕ) (ns : List ℕ) (i : ℕ) (r : View) : Type 0 where
-  pub taken : r.refusal ≡ 0 → Taken texts kind ns i r.start r.end
-  pub refused : (r.refusal ≡ 0 → ⊥) → Untaken texts kind ns i r.refusal
 
 -- the type of a value that takes one event, by its letter
 abbrev pub or_bool : Option Basic → Basic
@@ -68,6 +77,33 @@ pub record IsKey (k : Letter) : Type 0 where
   pub is : basic_kind (key_basic k) ≡ k
 
 -- ---- answers
+
+-- what the writing of a value comes to: the refusal's number, 0 if done; the number of the next event's first number; the bytes written
+pub record Answer : Type 0 where
+  pub refusal : ℕ
+  pub next : ℕ
+  pub size : ℕ
+
+-- the same of children in a row, and how many ends are kept of them
+pub record Run : Type 0 where
+  pub refusal : ℕ
+  pub next : ℕ
+  pub size : ℕ
+  pub count : ℕ
+
+abbrev pub done : Wrote → Answer
+done w = record { refusal = 0; next = w.next; size = w.size }
+
+abbrev pub answer_in : Result Wrote Refusal → Answer
+answer_in (Ok w) = done w
+answer_in (Err r) = record { refusal = number_of r; next = 0; size = 0 }
+
+abbrev pub ran : Row → Run
+ran w = record { refusal = 0; next = w.next; size = w.size; count = w.count }
+
+abbrev pub run_in : Result Row Refusal → Run
+run_in (Ok w) = ran w
+run_in (Err r) = record { refusal = number_of r; next = 0; size = 0; count = 0 }
 
 pub record Faulted (n k : ℕ) : Type 0 where
   pub refusal : k ≡ n

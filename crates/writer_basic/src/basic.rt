@@ -1,38 +1,35 @@
 // One event at a time: what stands at a place of the events, and the values that take one event.
-ghost use Rattle.std.specs.Prelude.{◌≡◌, List, Bool, ℕ, ◌+◌, ◌≤◌, ◌^◌, ltb, length, drop};
+ghost use Rattle.std.specs.Prelude.{◌≡◌, List, Bool, ℕ, ◌+◌, ◌≤◌, ◌^◌, ltb, length, drop, MatchResult};
 ghost use Rattle.meaning.specs.Depths.{Depths};
+ghost use Rattle.meaning.specs.Refused.{number_of};
 ghost use Rattle.meaning.specs.Types.{Number as NumberType, Text as TextType, bool, number as number_basic, text as text_basic, number_width};
 ghost use Rattle.meaning.specs.Letters.{number_letter, text_letter};
 ghost use Rattle.meaning.specs.Padding.{Aligns};
 ghost use Rattle.meaning_writing.specs.Emitting.{emit_basic};
 ghost use Rattle.writer_store.specs.Stores.{cap};
-ghost use Rattle.writer_basic.specs.Wrote.{Opens, Viewed, key_basic, IsKey, Done};
+ghost use Rattle.writer_basic.specs.Wrote.{answer_in, Opens, Carried, Taken, Untaken, key_basic, IsKey, Done};
 ghost use Rattle.signature.specs.Items.{item_kind};
 
-use crate::{Answer, refused, wrote};
+use crate::Wrote;
 use meaning::letters::{ARRAY_LETTER, BOOL_LETTER, DICTIONARY_LETTER};
-use meaning::refusals::NO_VALUE;
+use meaning::refusals::Refusal;
 use signature::Letter;
 use signature::items::Item;
-use texts::text_refusal;
+use texts::check;
 use writer_store::{add, number_bytes, put_text};
 
-// The text that an event views, or a refusal.
-#[derive(Clone, Copy)]
-pub struct View {
-    pub refusal: u8,
-    pub start: usize,
-    pub end: usize,
-}
-
-fn unseen(refusal: u8) -> View
-    ensures { result ≡ record { refusal = refusal; start = 0; end = 0 } }
+// What the event at i carries, where it is of a kind.
+fn carried(events: &[u64], i: usize, kind: u64) -> Result<u64, Refusal>
+    requires { i ≤ length events.now }
+    ensures { Carried kind events.now i result }
 {
-    View {
-        refusal,
-        start: 0,
-        end: 0,
+    if events.len() - i < 3 {
+        return Err(Refusal::NoValue);
     }
+    if events[i] != kind {
+        return Err(Refusal::NoValue);
+    }
+    Ok(events[i + 2])
 }
 
 // Whether the event at i is of a kind and carries 0.
@@ -40,77 +37,48 @@ pub fn plain_at(events: &[u64], i: usize, kind: u64) -> bool
     requires { i ≤ length events.now }
     ensures { Opens kind events.now i result }
 {
-    if events.len() - i < 3 {
-        return false;
+    match carried(events, i, kind) {
+        Ok(x) => x == 0,
+        Err(_) => false,
     }
-    if events[i] != kind {
-        return false;
-    }
-    if events[i + 2] != 0 {
-        return false;
-    }
-    true
-}
-
-fn place_of(x: u64) -> usize
-    ensures { result ≡ x }
-{
-    x as usize
-}
-
-fn code_of(code: u8) -> u64
-    ensures { result ≡ code }
-{
-    code as u64
 }
 
 // The text of a kind that the event at i views.
-pub fn text_at(events: &[u64], texts: &[u8], i: usize, kind: u64) -> View
+pub fn text_at<'a>(
+    events: &[u64],
+    texts: &'a [u8],
+    i: usize,
+    kind: u64,
+) -> Result<&'a [u8], Refusal>
     requires { i ≤ length events.now }
-    ensures { Viewed texts.now kind events.now i result }
+    ensures { MatchResult result (λ text. Taken texts.now kind events.now i text.now) (λ refusal. Untaken texts.now kind events.now i (number_of refusal)) }
 {
-    if events.len() - i < 3 {
-        return unseen(NO_VALUE);
-    }
-    if events[i] != kind {
-        return unseen(NO_VALUE);
-    }
-    let start = place_of(events[i + 1]);
-    let count = place_of(events[i + 2]);
+    let count = carried(events, i, kind)? as usize;
+    let start = events[i + 1] as usize;
     if texts.len() < count {
-        return unseen(NO_VALUE);
+        return Err(Refusal::NoValue);
     }
     if texts.len() - count < start {
-        return unseen(NO_VALUE);
+        return Err(Refusal::NoValue);
     }
-    let end = start + count;
-    let refusal = text_refusal(&texts[start..end]);
-    if refusal != 0 {
-        return unseen(refusal);
-    }
-    View {
-        refusal: 0,
-        start,
-        end,
-    }
+    let text = &texts[start..start + count];
+    check(text)?;
+    Ok(text)
 }
 
-pub fn boolean(events: &[u64], i: usize, out: &mut [u8], start: usize) -> Answer
+pub fn boolean(events: &[u64], i: usize, out: &mut [u8], start: usize) -> Result<Wrote, Refusal>
     requires { (i ≤ length events.now) × (start ≤ cap) }
-    ensures { (texts : List ℕ) (big : Bool) (d : Depths) (top : ℕ) (s : List ℕ) → Done (emit_basic texts big bool d (drop i events.now)) events.now i start top out.old out.new s s result }
+    ensures { (texts : List ℕ) (big : Bool) (d : Depths) (top : ℕ) (s : List ℕ) → Done (emit_basic texts big bool d (drop i events.now)) events.now i start top out.old out.new s s (answer_in result) }
 {
-    if events.len() - i < 3 {
-        return refused(NO_VALUE);
-    }
-    if events[i] != BOOL_LETTER {
-        return refused(NO_VALUE);
-    }
-    let x = events[i + 2];
+    let x = carried(events, i, BOOL_LETTER)?;
     if 1 < x {
-        return refused(NO_VALUE);
+        return Err(Refusal::NoValue);
     }
     number_bytes(out, start, 1, x, false);
-    wrote(i + 3, 1)
+    Ok(Wrote {
+        next: i + 3,
+        size: 1,
+    })
 }
 
 // Whether a number fits a width.
@@ -134,22 +102,19 @@ pub fn number(
     big: bool,
     out: &mut [u8],
     start: usize,
-) -> Answer
+) -> Result<Wrote, Refusal>
     requires { (i ≤ length events.now) × (start ≤ cap) × Aligns width }
-    ensures { (n : NumberType) (texts : List ℕ) (d : Depths) (top : ℕ) (s : List ℕ) → code ≡ number_letter n → width ≡ number_width n → Done (emit_basic texts big (number_basic n) d (drop i events.now)) events.now i start top out.old out.new s s result }
+    ensures { (n : NumberType) (texts : List ℕ) (d : Depths) (top : ℕ) (s : List ℕ) → code ≡ number_letter n → width ≡ number_width n → Done (emit_basic texts big (number_basic n) d (drop i events.now)) events.now i start top out.old out.new s s (answer_in result) }
 {
-    if events.len() - i < 3 {
-        return refused(NO_VALUE);
-    }
-    if events[i] != code_of(code) {
-        return refused(NO_VALUE);
-    }
-    let x = events[i + 2];
+    let x = carried(events, i, u64::from(code))?;
     if !suits(x, width) {
-        return refused(NO_VALUE);
+        return Err(Refusal::NoValue);
     }
     number_bytes(out, start, width, x, big);
-    wrote(i + 3, width)
+    Ok(Wrote {
+        next: i + 3,
+        size: width,
+    })
 }
 
 pub fn text_value(
@@ -159,20 +124,16 @@ pub fn text_value(
     code: u8,
     out: &mut [u8],
     start: usize,
-) -> Answer
+) -> Result<Wrote, Refusal>
     requires { (i ≤ length events.now) × (start ≤ cap + cap) }
-    ensures { (n : TextType) (big : Bool) (d : Depths) (top : ℕ) (s : List ℕ) → code ≡ text_letter n → Done (emit_basic texts.now big (text_basic n) d (drop i events.now)) events.now i start top out.old out.new s s result }
+    ensures { (n : TextType) (big : Bool) (d : Depths) (top : ℕ) (s : List ℕ) → code ≡ text_letter n → Done (emit_basic texts.now big (text_basic n) d (drop i events.now)) events.now i start top out.old out.new s s (answer_in result) }
 {
-    let view = text_at(events, texts, i, code_of(code));
-    let refusal = view.refusal;
-    let from = view.start;
-    let to = view.end;
-    if refusal != 0 {
-        return refused(refusal);
-    }
-    let count = to - from;
-    put_text(out, start, &texts[from..to]);
-    wrote(i + 3, add(1, count))
+    let text = text_at(events, texts, i, u64::from(code))?;
+    put_text(out, start, text);
+    Ok(Wrote {
+        next: i + 3,
+        size: add(1, text.len()),
+    })
 }
 
 // A value that takes one event, by the letter of its type.
@@ -184,9 +145,9 @@ pub fn basic_value(
     big: bool,
     out: &mut [u8],
     start: usize,
-) -> Answer
+) -> Result<Wrote, Refusal>
     requires { (i ≤ length events.now) × (start ≤ cap) × IsKey key }
-    ensures { (d : Depths) (top : ℕ) (s : List ℕ) → Done (emit_basic texts.now big (key_basic key) d (drop i events.now)) events.now i start top out.old out.new s s result }
+    ensures { (d : Depths) (top : ℕ) (s : List ℕ) → Done (emit_basic texts.now big (key_basic key) d (drop i events.now)) events.now i start top out.old out.new s s (answer_in result) }
 {
     match key {
         Letter::Number { code, width } => number(events, i, code, width, big, out, start),
@@ -199,8 +160,7 @@ pub fn basic_value(
 pub fn item_kind(item: Item) -> u64
     ensures { result ≡ item_kind item }
 {
-    let entry = item.entry;
-    if entry {
+    if item.entry {
         DICTIONARY_LETTER
     } else {
         ARRAY_LETTER

@@ -1,4 +1,5 @@
 // The small writers: what stands below the writers that call each other. Here: their answers, and what rides along.
+// Events and their texts, and the output and its ends, share no struct: every contract would have to name what stands in it at entry and exit.
 #![tactic(auto)]
 
 pub mod basic;
@@ -12,18 +13,16 @@ ghost use Rattle.writer_store.specs.Stores.{cap, sum};
 use container_depths::ContainerDepths;
 use writer_store::add;
 
-// The refusal's number, 0 if done; the number of the next event's first number; the bytes written.
+// What was written of a value: the number of the next event's first number, and how many bytes.
 #[derive(Clone, Copy)]
-pub struct Answer {
-    pub refusal: u8,
+pub struct Wrote {
     pub next: usize,
     pub size: usize,
 }
 
 // The same of children in a row, and how many ends are kept of them.
 #[derive(Clone, Copy)]
-pub struct Run {
-    pub refusal: u8,
+pub struct Row {
     pub next: usize,
     pub size: usize,
     pub count: usize,
@@ -42,48 +41,6 @@ pub struct Spot {
 pub struct Context {
     pub big: bool,
     pub depths: ContainerDepths,
-}
-
-pub fn refused(refusal: u8) -> Answer
-    ensures { result ≡ record { refusal = refusal; next = 0; size = 0 } }
-{
-    Answer {
-        refusal,
-        next: 0,
-        size: 0,
-    }
-}
-
-pub fn wrote(next: usize, size: usize) -> Answer
-    ensures { result ≡ record { refusal = 0; next = next; size = size } }
-{
-    Answer {
-        refusal: 0,
-        next,
-        size,
-    }
-}
-
-pub fn stopped(refusal: u8) -> Run
-    ensures { result ≡ record { refusal = refusal; next = 0; size = 0; count = 0 } }
-{
-    Run {
-        refusal,
-        next: 0,
-        size: 0,
-        count: 0,
-    }
-}
-
-pub fn ran(next: usize, size: usize, count: usize) -> Run
-    ensures { result ≡ record { refusal = 0; next = next; size = size; count = count } }
-{
-    Run {
-        refusal: 0,
-        next,
-        size,
-        count,
-    }
 }
 
 // Where a child is written whose first event's number is `next`: so many bytes behind the spot, and so many ends more are kept.

@@ -3,38 +3,46 @@ ghost use Rattle.std.specs.Prelude.{List, true, false, ℕ, ◌≤◌, length, d
 ghost use Rattle.meaning.specs.Depths.{Depths};
 ghost use Rattle.container_depths.specs.Opening.{depths_of};
 ghost use Rattle.writer_store.specs.Stores.{cap};
-ghost use Rattle.writer_basic.specs.Wrote.{IsKey, Done, RowAt, marks_of, key_of, reading_of, many_of, Placed};
+ghost use Rattle.writer_basic.specs.Wrote.{answer_in, run_in, IsKey, Done, RowAt, marks_of, key_of, reading_of, many_of, Placed};
 
 use crate::basic::{number, plain_at};
-use crate::{Answer, Context, Run, Spot, ran, refused, stopped, wrote};
+use crate::{Context, Row, Spot, Wrote};
 use meaning::letters::{CONTAINER_END, MAYBE_LETTER, NOTHING_LETTER};
-use meaning::refusals::NO_VALUE;
+use meaning::refusals::Refusal;
 use signature::Letter;
 use writer_ends::keep;
 use writer_store::{add, pad};
 
 // Numbers one behind another, up to an event that closes. Each is as long as its alignment, so that none is padded.
-pub fn numbers(code: u8, width: usize, events: &[u64], big: bool, spot: Spot, out: &mut [u8]) -> Run
+pub fn numbers(
+    code: u8,
+    width: usize,
+    events: &[u64],
+    big: bool,
+    spot: Spot,
+    out: &mut [u8],
+) -> Result<Row, Refusal>
     requires { IsKey (Letter.Number code width) × Placed (length events.now) spot }
-    ensures { (texts : List ℕ) (d : Depths) (s : List ℕ) → RowAt (marks_of true) (many_of (key_of texts big (Letter.Number code width) d)) events.now spot out.old out.new s s result }
+    ensures { (texts : List ℕ) (d : Depths) (s : List ℕ) → RowAt (marks_of true) (many_of (key_of texts big (Letter.Number code width) d)) events.now spot out.old out.new s s (run_in result) }
 {
-    let base = spot.start;
-    let mut e = spot.next;
-    let mut k: usize = 0;
-    while 3 <= events.len() - e {
-        if events[e] == CONTAINER_END {
-            return ran(e, k, 0);
+    let mut all = Wrote {
+        next: spot.next,
+        size: 0,
+    };
+    while 3 <= events.len() - all.next {
+        if events[all.next] == CONTAINER_END {
+            return Ok(Row {
+                next: all.next,
+                size: all.size,
+                count: 0,
+            });
         }
-        let start = add(base, k);
-        let r = number(events, e, code, width, big, out, start);
-        let refusal = r.refusal;
-        if refusal != 0 {
-            return stopped(refusal);
-        }
-        k = add(k, r.size);
-        e = r.next;
+        let start = add(spot.start, all.size);
+        let one = number(events, all.next, code, width, big, out, start)?;
+        all.size = add(all.size, one.size);
+        all.next = one.next;
     }
-    stopped(NO_VALUE)
+    Err(Refusal::NoValue)
 }
 
 // A reading: nothing, or a number in a maybe.
@@ -46,21 +54,20 @@ fn reading(
     context: Context,
     out: &mut [u8],
     start: usize,
-) -> Answer
+) -> Result<Wrote, Refusal>
     requires { (i ≤ length events.now) × (start ≤ cap) × IsKey (Letter.Number code width) }
-    ensures { (texts : List ℕ) (top : ℕ) (s : List ℕ) → Done (reading_of texts context.big (Letter.Number code width) (depths_of context.depths) (drop i events.now)) events.now i start top out.old out.new s s result }
+    ensures { (texts : List ℕ) (top : ℕ) (s : List ℕ) → Done (reading_of texts context.big (Letter.Number code width) (depths_of context.depths) (drop i events.now)) events.now i start top out.old out.new s s (answer_in result) }
 {
     if plain_at(events, i, NOTHING_LETTER) {
-        return wrote(i + 3, 0);
+        return Ok(Wrote {
+            next: i + 3,
+            size: 0,
+        });
     }
     if !plain_at(events, i, MAYBE_LETTER) {
-        return refused(NO_VALUE);
+        return Err(Refusal::NoValue);
     }
-    let raised = context.depths.inc_maybe();
-    let refusal = raised.refusal;
-    if refusal != 0 {
-        return refused(refusal);
-    }
+    context.depths.inc_maybe()?;
     number(events, i + 3, code, width, context.big, out, start)
 }
 
@@ -73,29 +80,25 @@ pub fn readings(
     spot: Spot,
     out: &mut [u8],
     ends: &mut [u16],
-) -> Run
+) -> Result<Row, Refusal>
     requires { IsKey (Letter.Number code width) × Placed (length events.now) spot }
-    ensures { (texts : List ℕ) → RowAt (marks_of false) (many_of (reading_of texts context.big (Letter.Number code width) (depths_of context.depths))) events.now spot out.old out.new ends.old ends.new result }
+    ensures { (texts : List ℕ) → RowAt (marks_of false) (many_of (reading_of texts context.big (Letter.Number code width) (depths_of context.depths))) events.now spot out.old out.new ends.old ends.new (run_in result) }
 {
-    let base = spot.start;
-    let top = spot.top;
-    let mut e = spot.next;
-    let mut k: usize = 0;
-    let mut j: usize = 0;
-    while 3 <= events.len() - e {
-        if events[e] == CONTAINER_END {
-            return ran(e, k, j);
+    let mut row = Row {
+        next: spot.next,
+        size: 0,
+        count: 0,
+    };
+    while 3 <= events.len() - row.next {
+        if events[row.next] == CONTAINER_END {
+            return Ok(row);
         }
-        let p = pad(out, base + k, k, width);
-        let start = add(base, k + p);
-        let r = reading(code, width, events, e, context, out, start);
-        let refusal = r.refusal;
-        if refusal != 0 {
-            return stopped(refusal);
-        }
-        k = add(k + p, r.size);
-        e = r.next;
-        j = keep(out, ends, top, j, k, false);
+        let padding = pad(out, spot.start + row.size, row.size, width);
+        let start = add(spot.start, row.size + padding);
+        let one = reading(code, width, events, row.next, context, out, start)?;
+        row.size = add(row.size + padding, one.size);
+        row.next = one.next;
+        row.count = keep(out, ends, spot.top, row.count, row.size, false);
     }
-    stopped(NO_VALUE)
+    Err(Refusal::NoValue)
 }

@@ -1,12 +1,12 @@
 // Arrays of texts. A text holds nothing further, so that the array is one loop of its own.
 ghost use Rattle.std.specs.Prelude.{Bool, false, length};
 ghost use Rattle.meaning.specs.Depths.{Depths};
-ghost use Rattle.writer_basic.specs.Wrote.{IsKey, RowAt, marks_of, key_of, many_of, Placed};
+ghost use Rattle.writer_basic.specs.Wrote.{run_in, IsKey, RowAt, marks_of, key_of, many_of, Placed};
 
 use crate::basic::text_value;
-use crate::{Run, Spot, ran, stopped};
+use crate::{Row, Spot};
 use meaning::letters::CONTAINER_END;
-use meaning::refusals::NO_VALUE;
+use meaning::refusals::Refusal;
 use signature::Letter;
 use writer_ends::keep;
 use writer_store::add;
@@ -19,27 +19,23 @@ pub fn texts(
     spot: Spot,
     out: &mut [u8],
     ends: &mut [u16],
-) -> Run
+) -> Result<Row, Refusal>
     requires { IsKey (Letter.Text code) × Placed (length events.now) spot }
-    ensures { (big : Bool) (d : Depths) → RowAt (marks_of false) (many_of (key_of texts.now big (Letter.Text code) d)) events.now spot out.old out.new ends.old ends.new result }
+    ensures { (big : Bool) (d : Depths) → RowAt (marks_of false) (many_of (key_of texts.now big (Letter.Text code) d)) events.now spot out.old out.new ends.old ends.new (run_in result) }
 {
-    let base = spot.start;
-    let top = spot.top;
-    let mut e = spot.next;
-    let mut k: usize = 0;
-    let mut j: usize = 0;
-    while 3 <= events.len() - e {
-        if events[e] == CONTAINER_END {
-            return ran(e, k, j);
+    let mut row = Row {
+        next: spot.next,
+        size: 0,
+        count: 0,
+    };
+    while 3 <= events.len() - row.next {
+        if events[row.next] == CONTAINER_END {
+            return Ok(row);
         }
-        let r = text_value(events, texts, e, code, out, base + k);
-        let refusal = r.refusal;
-        if refusal != 0 {
-            return stopped(refusal);
-        }
-        k = add(k, r.size);
-        e = r.next;
-        j = keep(out, ends, top, j, k, false);
+        let one = text_value(events, texts, row.next, code, out, spot.start + row.size)?;
+        row.size = add(row.size, one.size);
+        row.next = one.next;
+        row.count = keep(out, ends, spot.top, row.count, row.size, false);
     }
-    stopped(NO_VALUE)
+    Err(Refusal::NoValue)
 }

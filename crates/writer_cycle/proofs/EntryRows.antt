@@ -27,8 +27,8 @@ use Rattle.writer_basic.specs.Wrote.{key_basic, IsKey, Done, marks_of, MadeAll, 
 use Rattle.writer_cycle.proofs.ItemLaws.{emit_basic_lem, emit_maybe_lem, key_of, is_key}
 use Rattle.signature.specs.Trees.{tree_at}
 use Rattle.writer_cycle.specs.Places.{value_of, item_of, Repeated}
-use Rattle.writer_basic.specs.declared.Answer.{Answer}
-use Rattle.writer_basic.specs.declared.Run.{Run}
+use Rattle.writer_basic.specs.Wrote.{Answer}
+use Rattle.writer_basic.specs.Wrote.{Run}
 use Rattle.signature.specs.declared.items.Item.{Item}
 use Rattle.writer_store.proofs.Puts.{puts_none}
 use Rattle.writer_basic.proofs.NumberRows.{basic_has}
@@ -141,10 +141,6 @@ module _ (key value : Builder Piece) (D : Depths) (ns : List ℕ) (i start top :
     where
       zero-mod : (x : ℕ) → Aligns x → 0 % x ≡ 0
       zero-mod x h = by_alignment (λ x. 0 % x ≡ 0) refl refl refl refl h
-
--- an answer as the code has it
-pub row_as : {m : ℕ → List Piece → List ℕ} {x : Built (List Piece)} {ns : List ℕ} {i base top k j : ℕ} {l l' s s' : List ℕ} {r r' : Run} → r ≡ r' → DoneAll m x ns i base top k j l l' s s' r' → DoneAll m x ns i base top k j l l' s s' r
-row_as {m} {x} {ns} {i} {base} {top} {k} {j} {l} {l'} {s} {s'} e d = subst⁻¹ (λ (q : Run). DoneAll m x ns i base top k j l l' s s' q) e d
 
 -- ---- the ways out of entry
 

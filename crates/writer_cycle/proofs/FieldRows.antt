@@ -26,8 +26,8 @@ use Rattle.writer_store.specs.Stores.{cap, sum, puts}
 use Rattle.writer_ends.specs.Ends.{Kept}
 use Rattle.writer_basic.specs.Wrote.{Done, MadeAll, DoneAll}
 use Rattle.writer_cycle.specs.Places.{value_of, fields_of}
-use Rattle.writer_basic.specs.declared.Answer.{Answer}
-use Rattle.writer_basic.specs.declared.Run.{Run}
+use Rattle.writer_basic.specs.Wrote.{Answer}
+use Rattle.writer_basic.specs.Wrote.{Run}
 use Rattle.writer_ends.proofs.EndLaws.{kept_not}
 use Rattle.writer_basic.proofs.Answers.{made_of, fault_of}
 use Rattle.writer_cycle.proofs.ItemLaws.{emit_over_lem}

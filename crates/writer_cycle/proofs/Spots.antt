@@ -10,7 +10,7 @@ use Rattle.meaning_writing.specs.Emitting.{emit}
 use Rattle.signature.specs.declared.items.Item.{Item}
 use Rattle.writer_store.specs.Stores.{cap}
 use Rattle.writer_basic.specs.Wrote.{Done, Placed}
-use Rattle.writer_basic.specs.declared.Answer.{Answer}
+use Rattle.writer_basic.specs.Wrote.{Answer}
 use Rattle.writer_basic.specs.declared.Spot.{Spot}
 use Rattle.writer_cycle.specs.Places.{item_of}
 

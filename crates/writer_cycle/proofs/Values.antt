@@ -3,10 +3,10 @@ use mathlib.Core.Path.{◌≡◌, refl, ap, sym, subst, subst⁻¹, ◌∙◌}
 use types.Run.{OneOf, miss}
 use denote.Enum.Declared.{tag_of}
 use mathlib.Core.List.{List, [], ◌∷◌}
-use mathlib.Core.Bool.{Bool, true, false, false≢true}
+use mathlib.Core.Bool.{Bool, true, false}
 use native.Mathlib.Omega.{arith}
 use Prim.Native.Nat.{ℕ, ◌+◌, ◌-◌, ◌≤◌}
-use lib.ListN.{length, take, drop}
+use lib.ListN.{length, drop}
 use Rattle.meaning.specs.Depths as Depth
 use Rattle.meaning.specs.Depths.{Depths, opened}
 use Rattle.meaning.specs.Letters.{number_letter, text_letter}
@@ -22,22 +22,21 @@ use Rattle.meaning_writing.specs.EventsAt.{PlainAt, NotPlain}
 use Rattle.meaning_writing.proofs.WritingSteps.{Shorter}
 use Rattle.container_depths.specs.Opening.{depths_of, Raises}
 use Rattle.container_depths.specs.declared.ContainerDepths.{ContainerDepths}
-use Rattle.container_depths.specs.declared.Raised.{Raised}
+use Rattle.container_depths.specs.Opening.{Raised}
 use Rattle.signature.specs.Places.{is_type, basic_kind, letter_at}
 use Rattle.signature.specs.Trees.{tree_at, behind_by, Typed, fields_at, Described}
 use Rattle.signature.specs.declared.Letter.{Letter}
-use Rattle.signature.specs.declared.Letter.TheVariants.{Boolean, Number, Text, Variant, Maybe, Array, OpenStructure}
+use Rattle.signature.specs.declared.Letter.TheVariants.{Boolean, Number, Text, Maybe, Array, OpenStructure}
 use Rattle.signature.specs.declared.shapes.Shape.{Shape}
 use Rattle.signature.specs.declared.items.Item.{Item}
 use Rattle.signature.specs.contracts.Letter.{the_type}
 use Rattle.signature.proofs.Answers.{judged_none}
-use Rattle.signature.proofs.Dispatch.{Shown, shown, begins, is_boolean, is_number, is_text_lem, is_variant}
+use Rattle.signature.proofs.Dispatch.{Shown, shown, is_boolean, is_number, is_text_lem}
 use Rattle.signature.proofs.TreeLaws.{front, maybe_tree, structure_tree, structure_alignment, structure_fixed}
 use Rattle.signature.specs.Items.{item_kind}
 use Rattle.writer_basic.specs.Wrote.{Taken, Untaken, Done, around_child, around_value, Structured}
-use Rattle.writer_basic.specs.declared.Answer.{Answer}
+use Rattle.writer_basic.specs.Wrote.{Answer}
 use Rattle.writer_basic.proofs.Answers.{answer}
-use Rattle.writer_basic.proofs.Rounds.{part_length}
 use Rattle.writer_cycle.specs.Places.{value_of, fields_of, item_of, ItemAt}
 use Rattle.writer_cycle.proofs.ItemLaws.{emit_basic_lem, emit_maybe_lem, emit_structure_lem, emit_variant_lem}
 use Rattle.container_depths.proofs.Levels.{raised_to}
@@ -45,28 +44,9 @@ use Rattle.writer_basic.proofs.Openings.{maybe_empty, maybe_neither, maybe_deep,
 
 -- ---- value, by the letter
 
--- a type begins with a letter that begins one, and with no other
-pub begins_not : {A : Type 0} (signature : List ℕ) (at : ℕ) → Typed signature at → (k : Letter) → letter_at signature at ≡ k → begins k ≡ false → A
-begins_not {A} signature at t k e h = go (tree_at signature at) (shown signature at _ _ t.found)
-  where
-    other : (j : Letter) → letter_at signature at ≡ j → begins j ≡ true → A
-    other j q y = absurd (false≢true (sym h ∙ ap begins (sym e ∙ q) ∙ y))
-
-    by_basic : (b : Basic) → begins (basic_kind b) ≡ true
-    by_basic bool = refl
-    by_basic (number c) = refl
-    by_basic (text c) = refl
-
-    go : (u : Tree) → Shown signature at u (behind_by (first_type (drop at signature))) → A
-    go (basic b) w = other (basic_kind b) w.letter (by_basic b)
-    go variant w = other Variant w.letter refl
-    go (maybe u) w = other Maybe w.letter refl
-    go (array u) w = other Array w.letter refl
-    go (dictionary b u) w = other Array w.letter refl
-    go (structure us) w = other OpenStructure w.letter refl
-
-abbrev not_named : List ℕ
-not_named = 9 ∷ 10 ∷ []
+-- the letters that are neither a basic type's nor a maybe's, an array's or a structure's
+abbrev others : List ℕ
+others = 0 ∷ 1 ∷ 5 ∷ 9 ∷ 10 ∷ 11 ∷ []
 
 module _ (signature : List ℕ) (at : ℕ) (t : Typed signature at) (texts : List ℕ) (big : Bool) (d : ContainerDepths) (ns : List ℕ) (i start top : ℕ) (l l' s s' : List ℕ) (r : Answer) where
   abbrev Here : Type 0
@@ -77,28 +57,25 @@ module _ (signature : List ℕ) (at : ℕ) (t : Typed signature at) (texts : Lis
       let q : value_of texts big d.variant (tree_at signature at) ≡ emit_basic texts big b = ap (λ u. value_of texts big d.variant u) e ∙ emit_basic_lem texts big (65 - d.variant) b in
       subst⁻¹ (λ (x : Builder Piece). Done (x (depths_of d) (drop i ns)) ns i start top l l' s s' r) q g
 
-  pub value_variant : letter_at signature at ≡ Variant → Done (value_of texts big d.variant variant (depths_of d) (drop i ns)) ns i start top l l' s s' r → Here
-  value_variant e g = let q : tree_at signature at ≡ variant = (is_variant signature at _ _ t.found e).0 in rw q g
-
-  -- a type begins with one of the other letters
-  pub value_none : (k : Letter) → k ≡ letter_at signature at → OneOf not_named (tag_of the_type k) → Here
-  value_none k e h = absurd (go (tree_at signature at) (shown signature at _ _ t.found))
+  -- a type that begins with one of those is a variant
+  pub value_other : (k : Letter) → k ≡ letter_at signature at → OneOf others (tag_of the_type k) → Done (value_of texts big d.variant variant (depths_of d) (drop i ns)) ns i start top l l' s s' r → Here
+  value_other k e h g = go (tree_at signature at) refl (shown signature at _ _ t.found)
     where
-      tags : (x : Letter) → letter_at signature at ≡ x → OneOf not_named (tag_of the_type x)
-      tags x q = subst (λ (x : Letter). OneOf not_named (tag_of the_type x)) (e ∙ q) h
+      tags : (x : Letter) → letter_at signature at ≡ x → OneOf others (tag_of the_type x)
+      tags x q = subst (λ (x : Letter). OneOf others (tag_of the_type x)) (e ∙ q) h
 
-      not_basic : (b : Basic) → OneOf not_named (tag_of the_type (basic_kind b)) → ⊥
-      not_basic bool w = miss not_named 2 tt w
-      not_basic (number c) w = miss not_named 3 tt w
-      not_basic (text c) w = miss not_named 4 tt w
+      not_basic : (b : Basic) → OneOf others (tag_of the_type (basic_kind b)) → ⊥
+      not_basic bool w = miss others 2 tt w
+      not_basic (number c) w = miss others 3 tt w
+      not_basic (text c) w = miss others 4 tt w
 
-      go : (u : Tree) → Shown signature at u (behind_by (first_type (drop at signature))) → ⊥
-      go (basic b) w = not_basic b (tags (basic_kind b) w.letter)
-      go variant w = miss not_named 5 tt (tags Variant w.letter)
-      go (maybe u) w = miss not_named 6 tt (tags Maybe w.letter)
-      go (array u) w = miss not_named 7 tt (tags Array w.letter)
-      go (dictionary b u) w = miss not_named 7 tt (tags Array w.letter)
-      go (structure us) w = miss not_named 8 tt (tags OpenStructure w.letter)
+      go : (u : Tree) → tree_at signature at ≡ u → Shown signature at u (behind_by (first_type (drop at signature))) → Here
+      go (basic b) q w = absurd (not_basic b (tags (basic_kind b) w.letter))
+      go variant q w = rw q g
+      go (maybe u) q w = absurd (miss others 6 tt (tags Maybe w.letter))
+      go (array u) q w = absurd (miss others 7 tt (tags Array w.letter))
+      go (dictionary b u) q w = absurd (miss others 7 tt (tags Array w.letter))
+      go (structure us) q w = absurd (miss others 8 tt (tags OpenStructure w.letter))
 
 module _ (signature : List ℕ) (at : ℕ) (t : Typed signature at) (texts : List ℕ) (big : Bool) (d : ContainerDepths) (ns : List ℕ) (i start top : ℕ) (l l' s : List ℕ) (r : Answer) where
   pub value_boolean : letter_at signature at ≡ Boolean → ((texts : List ℕ) (big : Bool) (d : Depths) (top : ℕ) (s : List ℕ) → Done (emit_basic texts big bool d (drop i ns)) ns i start top l l' s s r)
@@ -202,29 +179,26 @@ module _ (texts : List ℕ) (big : Bool) (d : ContainerDepths) (w : d.variant �
     pub value_variant_text : (n : ℕ) → Untaken texts 103 ns (i + 3) n → Done (value_of texts big d.variant variant (depths_of d) (drop i ns)) ns i start top l l s s (answer n 0 0)
     value_variant_text n u = as_variant l s _ (variant_text_lem texts big _ d ns i start top l s p n l s u)
 
-    module _ (from to : ℕ) (t : Taken texts 103 ns (i + 3) from to) where
-      pub value_variant_type : is_type (take (to - from) (drop from texts)) ≡ false → Done (value_of texts big d.variant variant (depths_of d) (drop i ns)) ns i start top l l s s (answer 9 0 0)
-      value_variant_type e = as_variant l s _ (variant_type_lem texts big _ d ns i start top l s p from to t l s (judged_none _ e))
+    module _ (part : List ℕ) (t : Taken texts 103 ns (i + 3) part) where
+      pub value_variant_type : is_type part ≡ false → Done (value_of texts big d.variant variant (depths_of d) (drop i ns)) ns i start top l l s s (answer 9 0 0)
+      value_variant_type e = as_variant l s _ (variant_type_lem texts big _ d ns i start top l s p part t l s (judged_none _ e))
 
-      module _ (e : is_type (take (to - from) (drop from texts)) ≡ true) (r : Raised) (h : Raises (depths_of d) (opened Depth.variant (depths_of d)) r) where
+      module _ (e : is_type part ≡ true) (r : Raised) (h : Raises (depths_of d) (opened Depth.variant (depths_of d)) r) where
         pub value_variant_deep : (r.refusal ≡ 0 → ⊥) → Done (value_of texts big d.variant variant (depths_of d) (drop i ns)) ns i start top l l s s (answer r.refusal 0 0)
-        value_variant_deep z = as_variant l s _ (variant_deep texts big _ d ns i start top l s p from to t _ (front _ e).type r h l s z)
+        value_variant_deep z = as_variant l s _ (variant_deep texts big _ d ns i start top l s p part t _ (front _ e).type r h l s z)
 
         -- the type stands at the front of its text, as the code has it
         pub value_variant_on : (b : Bool) (x : ℕ) (l' s' : List ℕ) (q : Answer) → b ≡ big → x ≡ 0 → r.refusal ≡ 0
-            → Done (around_value (tree_at (take (to - from) (drop from texts)) x) (value_of texts b r.depths.variant (tree_at (take (to - from) (drop from texts)) x) (depths_of r.depths) (drop (i + 6) ns))) ns i start top l l' s s' q
+            → Done (around_value (tree_at part x) (value_of texts b r.depths.variant (tree_at part x) (depths_of r.depths) (drop (i + 6) ns))) ns i start top l l' s s' q
             → Done (value_of texts big d.variant variant (depths_of d) (drop i ns)) ns i start top l l' s s' q
         value_variant_on b x l' s' q m o z g =
             let v : r.depths.variant ≡ d.variant + 1 = ap (λ (x : Depths). x.variant) (raised_to Depth.variant d r h z) in
             let y : 65 - r.depths.variant ≡ 64 - d.variant = omega arith in
-            as_variant l' s' q (variant_on texts big _ d ns i start top l s p from to t _ (front _ e).type r h l' s' q z (rw (m, o, y) at g))
+            as_variant l' s' q (variant_on texts big _ d ns i start top l s p part t _ (front _ e).type r h l' s' q z (rw (m, o, y) at g))
 
 pub structure_structured : (a : ℕ) (fx : Bool) → Structured a fx (structure_piece a fx)
 unfolding structure_piece
 structure_structured a fx = record { bytes_are = λ cs. refl }
-
-pub front_short : (texts : List ℕ) (from to : ℕ) → from ≤ to → to ≤ length texts → length (take (to - from) (drop from texts)) ≤ 255 → to - from ≤ 255
-front_short texts from to h g n = omega (arith, n, part_length texts from to h g)
 
 -- a text that is one type is that type's text
 pub front_spells : (l : List ℕ) → is_type l ≡ true → (x : ℕ) → x ≡ 0 → type_text (tree_at l x) ≡ l

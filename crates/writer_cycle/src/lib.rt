@@ -5,26 +5,25 @@
 mod array;
 mod dictionary;
 mod maybe;
-mod opening;
 mod structure;
 mod variant;
 
 ghost use Rattle.std.specs.Prelude.{length};
 ghost use Rattle.signature.specs.Trees.{tree_at, Described};
-ghost use Rattle.writer_basic.specs.Wrote.{Shallow, Placed, WroteAt};
+ghost use Rattle.writer_basic.specs.Wrote.{answer_in, Shallow, Placed, WroteAt};
 ghost use Rattle.writer_cycle.specs.Places.{value_in};
 
 use crate::array::array;
 use crate::maybe::maybe;
 use crate::structure::structure;
 use crate::variant::variant;
+use meaning::refusals::Refusal;
 use signature::Letter;
 use signature::shapes::Shape;
 use writer_basic::basic::{boolean, number, text_value};
-use writer_basic::{Answer, Context, Spot};
+use writer_basic::{Context, Spot, Wrote};
 
-// The value of a type. Each container is called twice, so that it keeps its own stack frame; no type begins with the letters of the second
-// calls.
+// The value of a type. The writers of containers are never inlined here, so that each value takes the stack of its own kind alone.
 #[cycle(writing)]
 pub fn value(
     text: &[u8],
@@ -36,14 +35,13 @@ pub fn value(
     spot: Spot,
     out: &mut [u8],
     ends: &mut [u16],
-) -> Answer
+) -> Result<Wrote, Refusal>
     requires { Described text.now shapes.now shape × Shallow context × Placed (length events.now) spot }
-    ensures { WroteAt (value_in context texts.now (tree_at text.now shape.at)) events.now spot out.old out.new ends.old ends.new result }
+    ensures { WroteAt (value_in context texts.now (tree_at text.now shape.at)) events.now spot out.old out.new ends.old ends.new (answer_in result) }
 {
     let i = spot.next;
     let start = spot.start;
-    let kind = shape.kind;
-    match kind {
+    match shape.kind {
         Letter::Boolean => boolean(events, i, out, start),
         Letter::Number { code, width } => number(events, i, code, width, context.big, out, start),
         Letter::Text { code } => text_value(events, texts, i, code, out, start),
@@ -52,10 +50,6 @@ pub fn value(
         Letter::OpenStructure => structure(
             text, shapes, shape, events, texts, context, spot, out, ends,
         ),
-        Letter::Bad => array(text, shapes, shape, events, texts, context, spot, out, ends),
-        Letter::End => structure(text, shapes, shape, events, texts, context, spot, out, ends),
-        Letter::CloseEntry => maybe(text, shapes, shape, events, texts, context, spot, out, ends),
-        Letter::Variant => variant(events, texts, context, spot, out, ends),
         _ => variant(events, texts, context, spot, out, ends),
     }
 }

@@ -2,20 +2,20 @@
 ghost use Rattle.std.specs.Prelude.{◌≡◌, length};
 ghost use Rattle.signature.specs.Places.{letter_at};
 ghost use Rattle.signature.specs.Trees.{tree_at, Described};
-ghost use Rattle.writer_basic.specs.Wrote.{Shallow, Placed, WroteAt};
+ghost use Rattle.writer_basic.specs.Wrote.{answer_in, Shallow, Placed, WroteAt};
 ghost use Rattle.writer_cycle.specs.Places.{value_in};
 
-use crate::opening::in_maybe;
 use crate::value;
 use meaning::letters::{MAYBE_LETTER, NOTHING_LETTER};
-use meaning::refusals::NO_VALUE;
+use meaning::refusals::Refusal;
 use signature::Letter;
 use signature::shapes::{Shape, shape_in};
 use writer_basic::basic::plain_at;
 use writer_basic::closing::present;
-use writer_basic::{Answer, Context, Spot, refused, wrote};
+use writer_basic::{Context, Spot, Wrote};
 
 #[cycle(writing)]
+#[inline(never)]
 pub(crate) fn maybe(
     text: &[u8],
     shapes: &[u16],
@@ -26,30 +26,31 @@ pub(crate) fn maybe(
     spot: Spot,
     out: &mut [u8],
     ends: &mut [u16],
-) -> Answer
+) -> Result<Wrote, Refusal>
     requires { Described text.now shapes.now shape × (letter_at text.now shape.at ≡ Letter.Maybe) × Shallow context × Placed (length events.now) spot }
-    ensures { WroteAt (value_in context texts.now (tree_at text.now shape.at)) events.now spot out.old out.new ends.old ends.new result }
+    ensures { WroteAt (value_in context texts.now (tree_at text.now shape.at)) events.now spot out.old out.new ends.old ends.new (answer_in result) }
 {
     let i = spot.next;
     let start = spot.start;
     if plain_at(events, i, NOTHING_LETTER) {
-        return wrote(i + 3, 0);
+        return Ok(Wrote {
+            next: i + 3,
+            size: 0,
+        });
     }
     if !plain_at(events, i, MAYBE_LETTER) {
-        return refused(NO_VALUE);
+        return Err(Refusal::NoValue);
     }
-    let inside = in_maybe(context);
-    let refusal = inside.refusal;
-    if refusal != 0 {
-        return refused(refusal);
-    }
-    let deeper = inside.context;
+    let deeper = Context {
+        depths: context.depths.inc_maybe()?,
+        ..context
+    };
     let held = shape_in(text, shapes, shape.at + 1);
     let inner = Spot {
         next: i + 3,
         start,
         top: spot.top,
     };
-    let r = value(text, shapes, held, events, texts, deeper, inner, out, ends);
-    present(held.fixed, r, out, start)
+    let child = value(text, shapes, held, events, texts, deeper, inner, out, ends)?;
+    Ok(present(held.fixed, child, out, start))
 }

@@ -2,14 +2,14 @@
 use Prim.Native.Nat.{ℕ, suc, ◌+◌, ◌-◌, ◌*◌, ◌/◌, ◌%◌, ◌≤◌, ◌<◌, min}
 use mathlib.Core.Path.{◌≡◌, refl, sym, ap, ◌∙◌}
 use mathlib.Core.List.{List, [], ◌∷◌, ◌++◌, append_assoc, append-nil}
-use mathlib.Core.Bool.{Bool, true, false, false≢true}
+use mathlib.Core.Bool.{true, false≢true}
 use native.Mathlib.Omega.{arith}
 use native.Mathlib.Decide.{dec_lt}
 use lib.ListN.{length, take, drop, get_or, set, length-set, length-append, get_or-append}
 use lib.Seq.{take_at, length-take-le, get_or-append-add, get_or-set_same, get_or-set_other, take-set-le}
 use borrow.Author.Tests.{lt-ltb, le-ltb}
 use Rattle.meaning.specs.Limits.{largest_frame}
-use Rattle.writer_store.specs.Stores.{sum, puts}
+use Rattle.writer_store.specs.Stores.{puts}
 use Rattle.writer_ends.specs.Ends.{tail, end_at, Stored, Room, EndAt, PutEnd, Kept}
 use Rattle.writer_store.proofs.Puts.{puts_room, length_puts}
 
@@ -156,14 +156,3 @@ look_far i l s at x y h a hx hy gx gy = record { is = λ t r. rw (hx, hy, a) (sy
 
 pub kept_not : (top j end : ℕ) (l s : List ℕ) → Kept top j end true l l s s j
 kept_not top j end l s = record { skips = λ e. (refl, (refl, refl)); counts = λ e. absurd (false≢true (sym e)); keeps = λ e. absurd (false≢true (sym e)) }
-
-pub kept_one : (top j end r : ℕ) (skip : Bool) (l l' s s' : List ℕ) → skip ≡ false → PutEnd (top + j) end l l' s s' → r ≡ sum j 1 → Kept top j end skip l l' s s' r
-kept_one top j end r skip l l' s s' k p e = record {
-  skips = λ z. absurd (false≢true (sym k ∙ z));
-  counts = λ z. e;
-  keeps = λ z place h g w. record {
-    bytes_are = let y : place + 0 ≡ place = omega arith in rw y (p.front (omega arith) place h ∙ sym (append-nil (take place l)));
-    same = λ i q. p.others (omega arith) i (λ y. omega arith) (omega arith);
-    has = λ i q. let y : i ≡ 0 = omega arith in let z : top + j + 0 ≡ top + j = omega arith in rw (y, z) (p.is (omega arith) g w);
-  };
-}

@@ -1,21 +1,22 @@
 -- Tables of offsets from the ends that are kept: what the loops that turn them round and store them keep. Assumes nothing.
-use Prim.Native.Nat.{ℕ, suc, ◌+◌, ◌-◌, ◌*◌, ◌/◌, ◌%◌, ◌≤◌, ◌<◌}
+use Prim.Native.Nat.{ℕ, suc, ◌+◌, ◌-◌, ◌*◌, ◌≤◌, ◌<◌}
 use mathlib.Core.Path.{◌≡◌, refl, sym, ap, ◌∙◌}
 use mathlib.Core.List.{List, [], ◌∷◌, ◌++◌, reverse, reverse-cons, append_assoc, append-nil}
 use native.Mathlib.Omega.{arith}
 use native.Mathlib.Nat.{mul-le-mul_left, mul-le-mul_right, add-mul}
 use native.Mathlib.Numerals.{add-one}
 use native.Mathlib.Decide.{dec_lt}
-use lib.ListN.{length, take, drop, get_or, set, length-set, length-reverse, get_or-append}
-use lib.Seq.{drop-cons, get_or_at, drop-length, take-suc, take-length}
+use lib.ListN.{length, take, drop, get_or, set, length-reverse, get_or-append}
+use Rattle.std.specs.List.{SwappedAt}
+use lib.Seq.{take-set-le, drop-cons, get_or_at, drop-length, take-suc, take-length}
 use Rattle.meaning.specs.Numbers.{bytes}
 use Rattle.meaning.specs.Offsets.{table, back_table}
 use Rattle.meaning.proofs.NumberLaws.{length_bytes}
 use Rattle.meaning.proofs.LayoutLaws.{length_table, length_back_table, back_table_cons, table_append, back_table_reverse}
 use Rattle.writer_store.specs.Stores.{puts}
-use Rattle.writer_ends.specs.Ends.{tail, end_at, Stored, EndAt, PutEnd, Swapped, Turned, TableRoom, TableFrom}
+use Rattle.writer_ends.specs.Ends.{tail, end_at, Stored, EndAt, Swapped, Turned, TableRoom, TableFrom}
 use Rattle.writer_store.proofs.Puts.{length_puts}
-use Rattle.writer_ends.proofs.EndLaws.{end_near, puts_stored, look_far, put_far}
+use Rattle.writer_ends.proofs.EndLaws.{end_near, end_far, end_as, puts_stored}
 
 -- ---- ends are turned round: i in front and from j on they are, those between are as they were
 
@@ -24,101 +25,37 @@ pub record Standing (top count : ℕ) (l s : List ℕ) : Type 0 where
   pub inside : 2 * (top + count - 128) ≤ length l
   pub ready : 128 ≤ length s
 
-pub record TurnLeft (top count : ℕ) (l₀ s₀ : List ℕ) (i j : ℕ) (l s : List ℕ) : Type 0 where
-  pub sum_is : i + j ≡ count
-  pub order : i ≤ j
+pub record TurnLeft (top count : ℕ) (l₀ s₀ : List ℕ) (i : ℕ) (l s : List ℕ) : Type 0 where
+  pub order : i + i ≤ count
   pub same : length l ≡ length l₀
   pub sames : length s ≡ length s₀
   pub left : Standing top count l₀ s₀ → (k : ℕ) → k < i → end_at l s (top + k) ≡ end_at l₀ s₀ (top + (count - 1 - k))
-  pub right : Standing top count l₀ s₀ → (k : ℕ) → j ≤ k → k < count → end_at l s (top + k) ≡ end_at l₀ s₀ (top + (count - 1 - k))
-  pub middle : Standing top count l₀ s₀ → (k : ℕ) → i ≤ k → k < j → end_at l s (top + k) ≡ end_at l₀ s₀ (top + k)
+  pub right : Standing top count l₀ s₀ → (k : ℕ) → count ≤ i + k → k < count → end_at l s (top + k) ≡ end_at l₀ s₀ (top + (count - 1 - k))
+  pub middle : Standing top count l₀ s₀ → (k : ℕ) → i ≤ k → i + k < count → end_at l s (top + k) ≡ end_at l₀ s₀ (top + k)
   pub below : Standing top count l₀ s₀ → (k : ℕ) → k < top → end_at l s k ≡ end_at l₀ s₀ k
   pub front : Standing top count l₀ s₀ → (place : ℕ) → place + 2 * (top + count - 128) ≤ length l₀ → take place l ≡ take place l₀
 
-pub turn_begin : (top count : ℕ) (l s : List ℕ) → TurnLeft top count l s 0 count l s
-turn_begin top count l s = record {
-  sum_is = omega arith;
-  order = omega arith;
-  same = refl;
-  sames = refl;
-  left = λ f k h. absurd (omega arith);
-  right = λ f k h g. absurd (omega arith);
-  middle = λ f k h g. refl;
-  below = λ f k h. refl;
-  front = λ f place h. refl;
-}
+-- both in the tail, where their bytes are exchanged
+module _ (i j at to : ℕ) (l s : List ℕ) (h : 128 ≤ i) (g : i < j) (t : tail j ≤ length l) (ha : at ≡ length l - tail i) (ht : to ≡ length l - tail j) where
+  module _ (l₁ l₂ : List ℕ) (n : length l₁ ≡ length l) (m : length l₂ ≡ length l₁) (p : SwappedAt l l₁ at to) (q : SwappedAt l₁ l₂ (at + 1) (to + 1)) where
+    kept : (k : ℕ) → (k ≡ at → ⊥) → (k ≡ to → ⊥) → (k ≡ at + 1 → ⊥) → (k ≡ to + 1 → ⊥) → get_or l₂ k 0 ≡ get_or l k 0
+    kept k a b c d = q.2 k 0 c d ∙ p.2 k 0 a b
 
--- each is stored where the other stood
-pub swapped : {i j x y : ℕ} {l l₁ l₂ s s₁ s₂ : List ℕ} → i < j → EndAt i l s x → EndAt j l s y → PutEnd i y l l₁ s s₁ → PutEnd j x l₁ l₂ s₁ s₂ → length l₁ ≡ length l → length s₁ ≡ length s → Swapped i j l l₂ s s₂
-swapped {i} {j} {x} {y} {l} {l₁} {l₂} {s} {s₁} {s₂} h a b p q n m = record {
-  first = λ t r. q.others (omega arith) i (λ e. omega arith) (omega arith) ∙ p.is (omega arith) r b.small ∙ b.is t r;
-  last = λ t r. q.is (omega arith) (omega arith) a.small ∙ a.is (omega arith) r;
-  others = λ t k u v w. q.others (omega arith) k v (omega arith) ∙ p.others (omega arith) k u w;
-  front = λ t place g. q.front (omega arith) place (omega arith) ∙ p.front (omega arith) place (omega arith);
-}
-
--- both in the tail
-pub swapped_far : (i j at to a b c d x y p q u v : ℕ) (l l' s : List ℕ) → 128 ≤ i → i < j → tail j ≤ length l → at ≡ length l - tail i → to ≡ length l - tail j → a ≡ get_or l at 0 → b ≡ get_or l (at + 1) 0 → c ≡ get_or l to 0 → d ≡ get_or l (to + 1) 0
-    → a < 256 → b < 256 → c < 256 → d < 256 → x ≡ a + 256 * b → y ≡ c + 256 * d → p ≡ y % 256 → q ≡ y / 256 % 256 → u ≡ x % 256 → v ≡ x / 256 % 256 → l' ≡ set (set (set (set l at p) (at + 1) q) to u) (to + 1) v → Swapped i j l l' s s
-swapped_far i j at to a b c d x y p q u v l l' s h g t ha ht ea eb ec ed na nb nc nd ex ey hp hq hu hv e =
-    let n : length (set (set l at p) (at + 1) q) ≡ length l = length-set (set l at p) (at + 1) q ∙ length-set l at p in
-    let m : to ≡ length (set (set l at p) (at + 1) q) - tail j = rw n ht in
-    swapped g (rw ex (look_far i l s at a b h ha ea eb na nb)) (rw ey (look_far j l s to c d (omega arith) ht ec ed nc nd)) (put_far i y l s at p q h (omega arith) ha hp hq (set (set l at p) (at + 1) q) refl)
-    (put_far j x (set (set l at p) (at + 1) q) s to u v (omega arith) (omega arith) m hu hv l' e) n refl
-
-module _ {top count : ℕ} {l₀ s₀ : List ℕ} {i j : ℕ} {l s : List ℕ} (t : TurnLeft top count l₀ s₀ i j l s) where
-  module _ (j' : ℕ) (l₂ s₂ : List ℕ) (h : i + 1 < j) (hj : j' ≡ j - 1) (w : Swapped (top + i) (top + j') l l₂ s s₂) (n : length l₂ ≡ length l) (m : length s₂ ≡ length s) where
-    module _ (f : Standing top count l₀ s₀) where
-      inside : (k : ℕ) → k < top + count → tail k ≤ length l
-      inside k g = omega (arith, f.inside, t.same)
-
-      ready : 128 ≤ length s
-      ready = omega (arith, f.ready, t.sames)
-
-      last_inside : tail (top + j') ≤ length l
-      last_inside = inside (top + j') (omega (arith, t.sum_is))
-
-      untouched : (k : ℕ) → k < top + count → (k ≡ top + i → ⊥) → (k ≡ top + j' → ⊥) → end_at l₂ s₂ k ≡ end_at l s k
-      untouched k g u v = w.others last_inside k u v (inside k g)
-
-      left_on : (k : ℕ) → k < i + 1 → end_at l₂ s₂ (top + k) ≡ end_at l₀ s₀ (top + (count - 1 - k))
-      left_on k g = go (dec_lt k i)
-        where
-          go : Dec (k < i) → end_at l₂ s₂ (top + k) ≡ end_at l₀ s₀ (top + (count - 1 - k))
-          go (yes z) = untouched (top + k) (omega (arith, t.sum_is)) (λ e. omega arith) (λ e. omega arith) ∙ t.left f k z
-          go (no z) = let e : k ≡ i = omega arith in let d : count - 1 - i ≡ j' = omega (arith, t.sum_is) in rw (e, d) (w.first last_inside ready ∙ t.middle f j' (omega arith) (omega arith))
-
-      right_on : (k : ℕ) → j' ≤ k → k < count → end_at l₂ s₂ (top + k) ≡ end_at l₀ s₀ (top + (count - 1 - k))
-      right_on k g y = go (dec_lt j' k)
-        where
-          go : Dec (j' < k) → end_at l₂ s₂ (top + k) ≡ end_at l₀ s₀ (top + (count - 1 - k))
-          go (yes z) = untouched (top + k) (omega arith) (λ e. omega arith) (λ e. omega arith) ∙ t.right f k (omega arith) y
-          go (no z) = let e : k ≡ j' = omega arith in let d : count - 1 - j' ≡ i = omega (arith, t.sum_is) in rw (e, d) (w.last last_inside ready ∙ t.middle f i (omega arith) (omega arith))
-
-    pub turn_next : TurnLeft top count l₀ s₀ (i + 1) j' l₂ s₂
-    turn_next = record {
-      sum_is = omega (arith, t.sum_is);
-      order = omega arith;
-      same = n ∙ t.same;
-      sames = m ∙ t.sames;
-      left = λ f k g. left_on f k g;
-      right = λ f k g y. right_on f k g y;
-      middle = λ f k g y. untouched f (top + k) (omega (arith, t.sum_is)) (λ e. omega arith) (λ e. omega arith) ∙ t.middle f k (omega arith) (omega arith);
-      below = λ f k g. untouched f k (omega arith) (λ e. omega arith) (λ e. omega arith) ∙ t.below f k g;
-      front = λ f place g. w.front (last_inside f) place (omega (arith, t.same, t.sum_is)) ∙ t.front f place g;
-    }
-
-  pub turn_done : (i + 1 < j → ⊥) → Turned top count l₀ l s₀ s
-  turn_done h = record {
-    each = λ g w k z. one (record { inside = g; ready = w }) k z (dec_lt k i) (dec_lt k j);
-    below = λ g w. t.below (record { inside = g; ready = w });
-    front = λ g w. t.front (record { inside = g; ready = w });
-  }
-    where
-      one : Standing top count l₀ s₀ → (k : ℕ) → k < count → Dec (k < i) → Dec (k < j) → end_at l s (top + k) ≡ end_at l₀ s₀ (top + (count - 1 - k))
-      one f k z (yes a) b = t.left f k a
-      one f k z (no a) (no b) = t.right f k (omega arith) z
-      one f k z (no a) (yes b) = let e : count - 1 - k ≡ k = omega (arith, t.sum_is) in rw e (t.middle f k (omega arith) b)
+    pub swapped_far : Swapped i j l l₂ s s
+    swapped_far =
+        let whole : length l₂ ≡ length l = m ∙ n in
+        let a : get_or l₂ at 0 ≡ get_or l to 0 = q.2 at 0 (λ e. omega arith) (λ e. omega arith) ∙ p.0 0 in
+        let b : get_or l₂ (at + 1) 0 ≡ get_or l (to + 1) 0 = q.0 0 ∙ p.2 (to + 1) 0 (λ e. omega arith) (λ e. omega arith) in
+        let c : get_or l₂ to 0 ≡ get_or l at 0 = q.2 to 0 (λ e. omega arith) (λ e. omega arith) ∙ p.1 0 in
+        let d : get_or l₂ (to + 1) 0 ≡ get_or l (at + 1) 0 = q.1 0 ∙ p.2 (at + 1) 0 (λ e. omega arith) (λ e. omega arith) in
+        record {
+          first = λ _ r. end_far l₂ s i h ∙ rw (whole, ← ha, a, b, ht) (sym (end_far l s j (omega arith)));
+          last = λ _ r. end_far l₂ s j (omega arith) ∙ rw (whole, ← ht, c, d, ha) (sym (end_far l s i h));
+          others = λ _ k u v w. end_as l l₂ s k whole (λ z. (kept _ (λ e. omega arith) (λ e. omega arith) (λ e. omega arith) (λ e. omega arith), kept _ (λ e. omega arith) (λ e. omega arith) (λ e. omega arith) (λ e. omega arith)));
+          front = λ _ place y.
+              ap (take place) (q.3 0) ∙ take-set-le place (set l₁ (at + 1) (get_or l₁ (to + 1) 0)) (to + 1) (get_or l₁ (at + 1) 0) (omega arith) ∙ take-set-le place l₁ (at + 1) (get_or l₁ (to + 1) 0) (omega arith)
+              ∙ ap (take place) (p.3 0) ∙ take-set-le place (set l at (get_or l to 0)) to (get_or l at 0) (omega arith) ∙ take-set-le place l at (get_or l to 0) (omega arith);
+        }
 
 -- ---- a table is stored from the back: j ends are still to be stored
 
@@ -200,9 +137,6 @@ module _ {w at top count : ℕ} {l₀ s : List ℕ} {j place : ℕ} {l : List �
           has = λ i g. absurd (omega arith);
         };
   }
-
-pub table_past : (T : List ℕ → List ℕ) (at w top count : ℕ) (l s : List ℕ) → length l < at → TableFrom T at w top count l l s s
-table_past T at w top count l s h = record { stored = λ es q. absurd (omega (arith, q.before)) }
 
 -- ---- in order, where all stand in their slice: j ends are stored
 

@@ -3,30 +3,12 @@
 // is the promise of an offset there, so that the frame's front never reaches them.
 #![tactic(auto)]
 
-ghost use Rattle.std.specs.Prelude.{◌≡◌, ◌+◌, ◌≤◌, ◌<◌, ◌^◌, ◌%◌, length};
+ghost use Rattle.std.specs.Prelude.{◌≡◌, ◌+◌, ◌≤◌, ◌<◌, ◌^◌, length};
 ghost use Rattle.meaning.specs.Offsets.{written_width, table as table_of, back_table};
 ghost use Rattle.writer_store.specs.Stores.{cap};
 ghost use Rattle.writer_ends.specs.Ends.{EndAt, PutEnd, Kept, Swapped, Turned, TableFrom};
 
 use writer_store::{add, digits, low};
-
-fn half(x: u64) -> u16
-    ensures { result ≡ x % 65536 }
-{
-    (x % 65536) as u16
-}
-
-fn wide(x: u16) -> u64
-    ensures { (result ≡ x) × (result < 65536) }
-{
-    x as u64
-}
-
-fn wide_byte(x: u8) -> u64
-    ensures { (result ≡ x) × (result < 256) }
-{
-    x as u64
-}
 
 // The end of a number.
 fn end_at(out: &[u8], ends: &[u16], i: usize) -> u64
@@ -34,17 +16,18 @@ fn end_at(out: &[u8], ends: &[u16], i: usize) -> u64
     ensures { EndAt i out.now ends.now result }
 {
     if i < 128 {
-        if ends.len() <= i {
-            return 0;
-        }
-        return wide(ends[i]);
+        return if i < ends.len() {
+            u64::from(ends[i])
+        } else {
+            0
+        };
     }
     let back = 2 * (i - 127);
     if out.len() < back {
         return 0;
     }
     let at = out.len() - back;
-    wide_byte(out[at]) + 256 * wide_byte(out[at + 1])
+    u64::from(out[at]) + 256 * u64::from(out[at + 1])
 }
 
 // Stores the end of a number, where there is room for it.
@@ -54,7 +37,7 @@ fn put_end(out: &mut [u8], ends: &mut [u16], i: usize, end: u64)
 {
     if i < 128 {
         if i < ends.len() {
-            ends[i] = half(end);
+            ends[i] = (end % 65536) as u16;
         }
         return;
     }
@@ -112,12 +95,8 @@ fn swap_ends(out: &mut [u8], ends: &mut [u16], i: usize, j: usize)
         }
         let at = out.len() - 2 * (i - 127);
         let to = out.len() - back;
-        let first = wide_byte(out[at]) + 256 * wide_byte(out[at + 1]);
-        let last = wide_byte(out[to]) + 256 * wide_byte(out[to + 1]);
-        out[at] = low(last);
-        out[at + 1] = low(last / 256);
-        out[to] = low(first);
-        out[to + 1] = low(first / 256);
+        out.swap(at, to);
+        out.swap(at + 1, to + 1);
         return;
     }
     let first = end_at(out, ends, i);
@@ -131,12 +110,8 @@ fn turn_ends(out: &mut [u8], ends: &mut [u16], top: usize, count: usize)
     requires { (top ≤ cap) × (count ≤ cap) }
     ensures { Turned top count out.old out.new ends.old ends.new }
 {
-    let mut i: usize = 0;
-    let mut j = count;
-    while i + 1 < j {
-        j = j - 1;
-        swap_ends(out, ends, top + i, top + j);
-        i = i + 1;
+    for i in 0..count / 2 {
+        swap_ends(out, ends, top + i, top + (count - 1 - i));
     }
 }
 
@@ -148,13 +123,11 @@ pub fn back_table(out: &mut [u8], at: usize, width: usize, ends: &[u16], top: us
     if out.len() < at {
         return;
     }
-    let mut j = count;
     let mut place = at;
-    while 0 < j {
-        j = j - 1;
+    for j in (0..count).rev() {
         let end = end_at(out, ends, top + j);
         digits(out, place, width, end);
-        place = place + width;
+        place += width;
     }
 }
 
@@ -163,13 +136,10 @@ fn front_table(out: &mut [u8], at: usize, width: usize, ends: &[u16], top: usize
     requires { (at < 2 ^ 30) × (width ≤ 4) × (top + count ≤ 128) × (top + count ≤ length ends.now) }
     ensures { TableFrom (table_of width) at width top count out.old out.new ends.now ends.now }
 {
-    let mut j: usize = 0;
     let mut place = at;
-    while j < count {
-        let end = wide(ends[top + j]);
-        digits(out, place, width, end);
-        place = place + width;
-        j = j + 1;
+    for end in &ends[top..top + count] {
+        digits(out, place, width, u64::from(*end));
+        place += width;
     }
 }
 
@@ -181,11 +151,9 @@ pub fn table(out: &mut [u8], at: usize, width: usize, ends: &mut [u16], top: usi
     if out.len() < at {
         return;
     }
-    if top + count <= 128 {
-        if top + count <= ends.len() {
-            front_table(out, at, width, ends, top, count);
-            return;
-        }
+    if top + count <= 128 && top + count <= ends.len() {
+        front_table(out, at, width, ends, top, count);
+        return;
     }
     turn_ends(out, ends, top, count);
     back_table(out, at, width, ends, top, count);

@@ -1,12 +1,13 @@
 -- Laws of stores: one store and others, where there is room and where there is none; a store more, in a loop. Assumes nothing.
-use Prim.Native.Nat.{ℕ, zero, suc, ◌+◌, ◌-◌, ◌*◌, ◌/◌, ◌%◌, ◌≤◌, ◌<◌, min}
+use Prim.Native.Nat.{ℕ, zero, suc, ◌+◌, ◌-◌, ◌*◌, ◌/◌, ◌%◌, ◌≤◌, ◌<◌}
 use mathlib.Core.Path.{◌≡◌, refl, sym, ap, ◌∙◌}
-use mathlib.Core.List.{List, [], ◌∷◌, ◌++◌, reverse, reverse-cons}
+use mathlib.Core.List.{List, [], ◌∷◌, ◌++◌, reverse, reverse-cons, append_assoc}
 use native.Mathlib.Omega.{arith}
-use native.Mathlib.Decide.{dec_lt}
 use native.Mathlib.Numerals.{add-one}
-use lib.ListN.{length, drop, take, set, get_or, length-set, length-reverse, length-drop, drop_of_length-le}
-use lib.Seq.{sets, sets-eq, set_comm, set-set, set_out, drop-cons, take-add, take-length, length-take-le}
+use lib.ListN.{length, drop, take, set, get_or, length-set, length-reverse, length-drop}
+use borrow.Rule.Slice.PartMut.{put_mid}
+use Rattle.std.proofs.lemmas.List.{drop-drop}
+use lib.Seq.{sets, sets-eq, set_comm, set-set, set_out, take-add, take-length, length-take-le}
 use borrow.Author.Tests.{le-leb, lt-leb}
 use Rattle.meaning.specs.Padding.{padding, zeros}
 use Rattle.meaning.specs.Offsets.{first_width, written_width}
@@ -80,46 +81,7 @@ pub bytes_two : (l : List ℕ) (at x : ℕ) → puts l at (bytes 2 x) ≡ set (s
 unfolding puts bytes
 bytes_two l at x = let f : at + 1 ≡ suc at = omega arith in rw f
 
-pub part_step : (l part : List ℕ) (at i : ℕ) → i < length part → puts l (at + i) (drop i part) ≡ puts (set l (at + i) (get_or part i 0)) (at + (i + 1)) (drop (i + 1) part)
-part_step l part at i h =
-    let f : at + (i + 1) ≡ suc (at + i) = omega arith in
-    rw (f, add-one i, drop-cons part i 0 h) (puts_cons l (at + i) (get_or part i 0) (drop (suc i) part))
-
-pub part_end : (l part : List ℕ) (at i : ℕ) → length part ≤ i → puts l (at + i) (drop i part) ≡ l
-part_end l part at i h = rw (drop_of_length-le part h) (puts_none l (at + i))
-
--- as many as there is room for
-pub copied_end : (l part : List ℕ) (at i : ℕ) → min (length l - at) (length part) ≤ i → puts l (at + i) (drop i part) ≡ l
-copied_end l part at i h = go (dec_lt i (length part))
-  where
-    go : Dec (i < length part) → puts l (at + i) (drop i part) ≡ l
-    go (yes g) = puts_out (drop i part) l (at + i) (omega arith)
-    go (no g) = part_end l part at i (omega arith)
-
 -- ---- blocks
-
--- a byte more of a block, at a place behind its first
-block_step : (l p : List ℕ) (at i m n : ℕ) → i + m < length p → puts l (at + m) (take (suc n) (drop (i + m) p)) ≡ puts (set l (at + m) (get_or p (i + m) 0)) (at + (m + 1)) (take n (drop (i + (m + 1)) p))
-block_step l p at i m n h =
-    let f : at + (m + 1) ≡ suc (at + m) = omega arith in
-    let g : i + (m + 1) ≡ suc (i + m) = omega arith in
-    rw (f, g, drop-cons p (i + m) 0 h) (puts_cons l (at + m) (get_or p (i + m) 0) (take n (drop (suc (i + m)) p)))
-
-block_first : (l p : List ℕ) (at i n : ℕ) → i < length p → puts l at (take (suc n) (drop i p)) ≡ puts (set l at (get_or p i 0)) (at + 1) (take n (drop (i + 1) p))
-block_first l p at i n h = rw (add-one at, add-one i, drop-cons p i 0 h) (puts_cons l at (get_or p i 0) (take n (drop (suc i) p)))
-
-pub two : (l p : List ℕ) (at i : ℕ) → i + 2 ≤ length p → puts l at (take 2 (drop i p)) ≡ set (set l at (get_or p i 0)) (at + 1) (get_or p (i + 1) 0)
-two l p at i h = block_first l p at i 1 (omega arith) ∙ block_step _ p at i 1 0 (omega arith) ∙ puts_none _ (at + 2)
-
-pub four : (l p : List ℕ) (at i : ℕ) → i + 4 ≤ length p → puts l at (take 4 (drop i p)) ≡ set (set (set (set l at (get_or p i 0)) (at + 1) (get_or p (i + 1) 0)) (at + 2) (get_or p (i + 2) 0)) (at + 3) (get_or p (i + 3) 0)
-four l p at i h =
-    block_first l p at i 3 (omega arith) ∙ block_step _ p at i 1 2 (omega arith) ∙ block_step _ p at i 2 1 (omega arith) ∙ block_step _ p at i 3 0 (omega arith) ∙ puts_none _ (at + 4)
-
-pub eight : (l p : List ℕ) (at i : ℕ) → i + 8 ≤ length p → puts l at (take 8 (drop i p))
-    ≡ set (set (set (set (set (set (set (set l at (get_or p i 0)) (at + 1) (get_or p (i + 1) 0)) (at + 2) (get_or p (i + 2) 0)) (at + 3) (get_or p (i + 3) 0)) (at + 4) (get_or p (i + 4) 0)) (at + 5) (get_or p (i + 5) 0)) (at + 6) (get_or p (i + 6) 0)) (at + 7) (get_or p (i + 7) 0)
-eight l p at i h =
-    block_first l p at i 7 (omega arith) ∙ block_step _ p at i 1 6 (omega arith) ∙ block_step _ p at i 2 5 (omega arith) ∙ block_step _ p at i 3 4 (omega arith) ∙ block_step _ p at i 4 3 (omega arith)
-    ∙ block_step _ p at i 5 2 (omega arith) ∙ block_step _ p at i 6 1 (omega arith) ∙ block_step _ p at i 7 0 (omega arith) ∙ puts_none _ (at + 8)
 
 -- a store in front of others may be done first
 set_front : (xs l : List ℕ) (i j b : ℕ) → j < i → set (puts l i xs) j b ≡ puts (set l j b) i xs
@@ -210,3 +172,13 @@ width_2 b m g h = rw (lt-leb (b + m * 1) 255 (omega arith), le-leb (b + m * 2) 6
 pub width_4 : (b m : ℕ) → 255 < b + m → 65535 < b + 2 * m → b ≤ cap → m ≤ cap → 4 ≡ written_width b m
 unfolding written_width first_width
 width_4 b m g h i j = rw (lt-leb (b + m * 1) 255 (omega arith), lt-leb (b + m * 2) 65535 (omega arith), le-leb (b + m * 4) 4294967295 (omega arith))
+
+-- what is stored in a part of a slice
+pub stored_part : (l p ys : List ℕ) (at k : ℕ) → at + length p ≤ length l → k ≡ length p → ys ≡ p → put_mid at k l ys ≡ puts l at p
+stored_part l p ys at k h n e = rw (e, n, drop-drop (length p) at l) (sym (puts_room p l at h ∙ append_assoc (take at l) p (drop (at + length p) l)))
+
+-- the same of a part of a part
+pub stored_block : (l p ys : List ℕ) (at k i j n : ℕ) → at + n ≤ length l → i + n ≤ length p → k ≡ n → j ≡ n → ys ≡ take j (drop i p) → put_mid at k l ys ≡ puts l at (take n (drop i p))
+stored_block l p ys at k i j n h g a b e =
+    let m : length (take n (drop i p)) ≡ n = length-take-le n (drop i p) (omega (arith, length-drop i p)) in
+    stored_part l (take n (drop i p)) ys at k (omega arith) (omega arith) (e ∙ rw b)

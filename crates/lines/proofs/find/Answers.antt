@@ -1,15 +1,19 @@
--- `lines::find` meets its contract. The invariant: the byte is sought from i on. Assumes nothing.
-use Rattle.lines.proofs.WordLaws.{seeking_begin, seeking_found, seeking_next, seeking_end}
+-- `lines::find` meets its contract. Assumes nothing.
+use mathlib.Core.Path.{◌≡◌, sym, ◌∙◌}
+use mathlib.Core.Logic.{◌≢◌}
+use native.Mathlib.Omega.{arith}
+use borrow.Author.Rules.{rules}
+use borrow.Author.Tests.{tests}
+use Rattle.std.proofs.lemmas.Iterator.{YieldsList-from_slice, IsFirst-from_position}
+use Rattle.lines.specs.Words.{place}
+use Rattle.lines.proofs.WordLaws.{place_by, place_within}
 use Rattle.lines.proofs.find.Goals as goal
 
-pub loop-i-init : goal.loop-i-init
-loop-i-init c = seeking_begin _ _
-
-pub returns-then-text-i : goal.returns-then-text-i
-returns-then-text-i c = (seeking_found c.loop-i.invariant c.loop-i-test.true c.if-text-i.true, c.loop-i.invariant.within)
-
-pub loop-i-preserved : goal.loop-i-preserved
-loop-i-preserved c = seeking_next c.loop-i.invariant c.loop-i-test.true c.if-text-i.false
-
 pub returns : goal.returns
-returns c = (seeking_end c.loop-i.invariant c.loop-i-test.false, c.loop-i.invariant.within)
+returns c =
+    let text = c.args.text.now in
+    let byte = c.args.byte in
+    let first = IsFirst-from_position _ _ _ (λ b. b ≡ byte) (λ b. b ≢ byte) c.position.ensures.ran (YieldsList-from_slice text cc) (λ x q k. search (rules, tests)) (λ x q k. search (rules, tests)) in
+    let e : c.unwrap_or.result ≡ place byte text = c.unwrap_or.ensures ∙ sym (place_by byte text c.position.result first) in
+    let w = place_within byte text in
+    (e, omega arith)

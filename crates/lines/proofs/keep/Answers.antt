@@ -3,10 +3,10 @@ use borrow.Author.Tests.{lt-ltb, le-ltb}
 use Rattle.lines.specs.Lines.{more, stored}
 use Rattle.lines.proofs.keep.Goals as goal
 
-pub returns-then-line-kept : goal.returns-then-line-kept
+pub returns-then-kept-line : goal.returns-then-kept-line
 unfolding more stored
-returns-then-line-kept c = (rw (le-ltb _ _ c.if-line-kept.true), rw (le-ltb _ _ c.if-line-kept.true))
+returns-then-kept-line c = (rw (lt-ltb _ _ c.if-kept-line.true), rw (lt-ltb _ _ c.if-kept-line.true))
 
-pub returns : goal.returns
+pub returns-else-kept-line : goal.returns-else-kept-line
 unfolding more stored
-returns c = (rw (lt-ltb _ _ c.if-line-kept.false), rw (lt-ltb _ _ c.if-line-kept.false))
+returns-else-kept-line c = (rw (le-ltb _ _ c.if-kept-line.false), rw (le-ltb _ _ c.if-kept-line.false))

@@ -1,24 +1,17 @@
--- `lines::word` meets its contract. The invariant: the word by the number left in the rest of the line is the word asked for. Assumes nothing.
-use mathlib.Core.Path.{sym}
-use native.Mathlib.Omega.{arith}
-use lib.Seq.{length-take-le}
-use Rattle.lines.proofs.WordLaws.{reaching_begin, reaching_next, reaching_none, reaching_end}
+-- `lines::word` meets its contract. Assumes nothing.
+use mathlib.Core.Path.{◌≡◌, ap, refl, ◌∙◌}
+use lib.Dec.{eqb}
+use borrow.Author.Rules.{rules}
+use borrow.Author.Tests.{tests}
+use Rattle.std.specs.Option.{option_map}
+use Rattle.std.specs.List.{slice_get, slice_split}
+use Rattle.std.proofs.lemmas.Iterator.Splits.{YieldsList-from_slice_split}
+use Rattle.std.proofs.lemmas.Iterator.Consumers.{nth_from_yields_List}
+use Rattle.lines.proofs.WordLaws.{now_or, word_by}
 use Rattle.lines.proofs.word.Goals as goal
 
-pub loop-left-init : goal.loop-left-init
-loop-left-init c = reaching_begin _ _
-
-pub returns-then-rest-blank : goal.returns-then-rest-blank
-returns-then-rest-blank c = reaching_none c.loop-left.invariant _ c.loop-left-test.true c.find-blank.ensures.0 c.if-rest-blank.true
-
-pub overflow_add-rest : goal.overflow_add-rest
-overflow_add-rest c = let h = c.if-rest-blank.false in let k = c.loop-left.invariant.shorter in let g = c.well_formed in omega arith
-
-pub loop-left-preserved : goal.loop-left-preserved
-loop-left-preserved c = reaching_next c.loop-left.invariant _ c.loop-left-test.true c.find-blank.ensures.0
-
-pub slice_bounds-result-end-2 : goal.slice_bounds-result-end-2
-slice_bounds-result-end-2 c = sym (length-take-le _ _ c.find-end.ensures.1)
-
 pub returns : goal.returns
-returns c = reaching_end c.loop-left.invariant _ c.loop-left-test.false c.find-end.ensures.0
+returns c =
+    let line = c.args.line.now in
+    let found : option_map (λ y. y.now) c.nth.result ≡ slice_get (slice_split (λ b. eqb b 32) line) c.args.n = nth_from_yields_List c.nth.result _ c.args.n c.nth.ensures.ran (YieldsList-from_slice_split _ (λ b. eqb b 32) line c.split.ensures.rest c.split.ensures.done c.split.ensures.closure (λ x b q k. search (rules, tests))) in
+    ap (λ r. r.now) c.unwrap_or.ensures ∙ now_or _ _ _ found refl ∙ word_by c.args.n line

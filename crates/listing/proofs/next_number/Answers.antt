@@ -1,12 +1,8 @@
 -- `listing::next_number` meets its contract. Assumes nothing.
-use borrow.Author.Tests.{lt-ltb, le-ltb}
-use Rattle.listing.specs.Listing.{next_number}
+use mathlib.Core.Path.{◌∙◌}
+use native.Mathlib.Omega.{arith}
+use Rattle.listing.proofs.Steps.{next_by}
 use Rattle.listing.proofs.next_number.Goals as goal
 
-pub returns-then-n-lt18446744073709551615 : goal.returns-then-n-lt18446744073709551615
-unfolding next_number
-returns-then-n-lt18446744073709551615 c = rw (lt-ltb _ _ c.if-n-lt18446744073709551615.true)
-
-pub returns-else-n-lt18446744073709551615 : goal.returns-else-n-lt18446744073709551615
-unfolding next_number
-returns-else-n-lt18446744073709551615 c = rw (le-ltb _ _ c.if-n-lt18446744073709551615.false)
+pub returns : goal.returns
+returns c = c.saturating_add.ensures ∙ next_by _ (omega arith)

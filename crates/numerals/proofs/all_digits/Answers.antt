@@ -1,15 +1,14 @@
--- `numerals::all_digits` meets its contract. The invariant: the digits from i on are left to judge. Assumes nothing.
-use Rattle.numerals.proofs.ByteLaws.{judging_begin, judging_other, judging_next, judging_end}
+-- `numerals::all_digits` meets its contract. Assumes nothing.
+use mathlib.Core.Path.{◌∙◌}
+use lib.Dec.{ltb}
+use borrow.Author.Rules.{rules}
+use borrow.Author.Tests.{tests}
+use Rattle.std.proofs.lemmas.Iterator.{YieldsList-from_slice}
+use Rattle.std.proofs.lemmas.Iterator.Search.{all_from_yields_List}
+use Rattle.numerals.specs.Hexadecimal.{digit}
+use Rattle.numerals.proofs.ByteLaws.{digits_by_all}
 use Rattle.numerals.proofs.all_digits.Goals as goal
 
-pub loop-i-init : goal.loop-i-init
-loop-i-init c = judging_begin _
-
-pub returns-then-digit-ge16 : goal.returns-then-digit-ge16
-returns-then-digit-ge16 c = judging_other c.loop-i.invariant _ c.loop-i-test.true c.digit.ensures.0 c.if-digit-ge16.true
-
-pub loop-i-preserved : goal.loop-i-preserved
-loop-i-preserved c = judging_next c.loop-i.invariant _ c.loop-i-test.true c.digit.ensures.0 c.if-digit-ge16.false
-
 pub returns : goal.returns
-returns c = judging_end c.loop-i.invariant c.loop-i-test.false
+returns c =
+    all_from_yields_List (λ b. ltb (digit b) 16) _ _ _ c.all.ensures.ran (YieldsList-from_slice c.args.text.now cc) (λ x b q k. search (rules, tests)) ∙ digits_by_all c.args.text.now

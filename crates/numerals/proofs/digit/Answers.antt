@@ -1,25 +1,25 @@
 -- `numerals::digit` meets its contract: a law for each part of the bytes. Assumes nothing.
+use native.Mathlib.Omega.{arith}
 use Rattle.numerals.proofs.DigitLaws.{digit_below, digit_decimal, digit_between, digit_upper, digit_behind, digit_lower, digit_above}
-use borrow.Author.Rules.{rules}
 use Rattle.numerals.proofs.digit.Goals as goal
 
-pub returns-then-byte-lt48 : goal.returns-then-byte-lt48
-returns-then-byte-lt48 c = (digit_below _ c.if-byte-lt48.true, search rules)
+pub returns-in-48-to-57-clause-value : goal.returns-in-48-to-57-clause-value
+returns-in-48-to-57-clause-value c = let e = digit_decimal c.args.byte (omega arith) (omega arith) in omega arith
 
-pub returns-then-byte-le57 : goal.returns-then-byte-le57
-returns-then-byte-le57 c = (digit_decimal _ c.if-byte-lt48.false c.if-byte-le57.true, search rules)
+pub returns-in-65-to-70-clause-value : goal.returns-in-65-to-70-clause-value
+returns-in-65-to-70-clause-value c = let e = digit_upper c.args.byte (omega arith) (omega arith) in omega arith
 
-pub returns-then-byte-lt65 : goal.returns-then-byte-lt65
-returns-then-byte-lt65 c = (digit_between _ c.if-byte-le57.false c.if-byte-lt65.true, search rules)
+pub returns-in-97-to-102-clause-value : goal.returns-in-97-to-102-clause-value
+returns-in-97-to-102-clause-value c = let e = digit_lower c.args.byte (omega arith) (omega arith) in omega arith
 
-pub returns-then-byte-le70 : goal.returns-then-byte-le70
-returns-then-byte-le70 c = (digit_upper _ c.if-byte-lt65.false c.if-byte-le70.true, search rules)
+pub returns-in_default-clause-value : goal.returns-in_default-clause-value
+returns-in_default-clause-value c = digit_below _ (omega arith)
 
-pub returns-then-byte-lt97 : goal.returns-then-byte-lt97
-returns-then-byte-lt97 c = (digit_behind _ c.if-byte-le70.false c.if-byte-lt97.true, search rules)
+pub returns-in_default-2-clause-value : goal.returns-in_default-2-clause-value
+returns-in_default-2-clause-value c = digit_between _ (omega arith) (omega arith)
 
-pub returns-then-byte-le102 : goal.returns-then-byte-le102
-returns-then-byte-le102 c = (digit_lower _ c.if-byte-lt97.false c.if-byte-le102.true, search rules)
+pub returns-in_default-3-clause-value : goal.returns-in_default-3-clause-value
+returns-in_default-3-clause-value c = digit_behind _ (omega arith) (omega arith)
 
-pub returns : goal.returns
-returns c = (digit_above _ c.if-byte-le102.false, search rules)
+pub returns-in_default-4-clause-value : goal.returns-in_default-4-clause-value
+returns-in_default-4-clause-value c = digit_above _ (omega arith)

@@ -2,8 +2,5 @@
 use Rattle.numerals.proofs.DecimalLaws.{Counting}
 use Rattle.numerals.proofs.places.Given as goal
 
-abbrev pub invariant-loop-left : goal.invariant-loop-left
-invariant-loop-left l = Counting l.n l.left l.rest
-
-abbrev pub decreases-loop-left : goal.decreases-loop-left
-decreases-loop-left l = l.left
+abbrev pub invariant-loop-count : goal.invariant-loop-count
+invariant-loop-count l = Counting l.n l.count l.rest

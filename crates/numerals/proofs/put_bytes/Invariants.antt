@@ -1,10 +1,6 @@
 -- `numerals::put_bytes` meets its contract. The invariant: the pairs from n on are left, behind the bytes at the front of the slice. Assumes nothing.
-use Prim.Native.Nat.{◌-◌}
 use Rattle.numerals.proofs.ByteLaws.{Pairing}
 use Rattle.numerals.proofs.put_bytes.Given as goal
 
 abbrev pub invariant-loop-n : goal.invariant-loop-n
-invariant-loop-n l = Pairing l.text l.count l.initial.out l.out l.n
-
-abbrev pub decreases-loop-n : goal.decreases-loop-n
-decreases-loop-n l = l.count - l.n
+invariant-loop-n l = Pairing l.text l.out l.n

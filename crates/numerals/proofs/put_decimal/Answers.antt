@@ -2,12 +2,10 @@
 use native.Mathlib.Omega.{arith}
 use Rattle.numerals.proofs.DecimalLaws.{decimal_none, decimal_stored}
 use Rattle.numerals.proofs.put_decimal.Goals as goal
+use Rattle.numerals.proofs.put_decimal.Goals.{then-out-at-via-then-out-at, then-out-at-via-else-out-at+then-out-at-2}
 
 pub returns-then-out-at : goal.returns-then-out-at
-returns-then-out-at c = decimal_none _ _ _ _ _ c.places-count.ensures.0 (let h = c.if-out-at.true in omega arith)
-
-pub returns-then-out-at-2 : goal.returns-then-out-at-2
-returns-then-out-at-2 c = decimal_none _ _ _ _ _ c.places-count.ensures.0 (let h = c.if-out-at-2.true in omega arith)
+returns-then-out-at c = decimal_none _ _ _ _ _ c.places-count.ensures.value (omega arith)
 
 pub returns : goal.returns
-returns c = decimal_stored _ _ _ _ _ c.places-count.ensures.0 _ (let h = c.if-out-at-2.false in omega arith) c.put_digits.ensures
+returns c = decimal_stored _ _ _ _ _ c.places-count.ensures.value _ _ (omega arith) c.put_digits.ensures (omega arith)

@@ -3,7 +3,4 @@ use Rattle.numerals.proofs.DecimalLaws.{Storing}
 use Rattle.numerals.proofs.put_digits.Given as goal
 
 abbrev pub invariant-loop-i : goal.invariant-loop-i
-invariant-loop-i l = Storing l.n l.at l.count l.i l.rest l.initial.out l.out
-
-abbrev pub decreases-loop-i : goal.decreases-loop-i
-decreases-loop-i l = l.i
+invariant-loop-i l = Storing l.n l.i l.rest l.out

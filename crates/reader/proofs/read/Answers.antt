@@ -1,6 +1,5 @@
 -- `reader::read` meets its contract. Assumes nothing.
-use mathlib.Core.Path.{refl, ap, ◌∙◌}
-use Rattle.reader_basic.specs.Answers.{counts_of}
+use mathlib.Core.Path.{refl}
 use Rattle.signature.proofs.ShapeLaws.{table_refused, table_filled, table_type}
 use borrow.Author.Tests.{not-true, not-false}
 use Rattle.reader.proofs.Frames.{type_read, type_slice}
@@ -9,7 +8,7 @@ use Rattle.reader.proofs.read.Goals as goal
 pub returns-then-not-shapes_of : goal.returns-then-not-shapes_of
 returns-then-not-shapes_of c =
     let w = table_refused _ _ _ _ refl c.shapes_of.ensures (not-true _ c.if-not-shapes_of.true-raw) in
-    record { answer = ap counts_of c.refused.ensures ∙ type_read _ _ _ _ w _; slice = type_slice _ _ _ _ w _ }
+    record { answer = type_read _ _ _ _ w _; slice = type_slice _ _ _ _ w _ }
 
 pub read_once-requires : goal.read_once-requires
 read_once-requires c = (

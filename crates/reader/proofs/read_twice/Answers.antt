@@ -1,19 +1,25 @@
 -- `reader::read_twice` meets its contract. Assumes nothing.
-use mathlib.Core.Path.{ap, ◌∙◌}
-use Rattle.reader_basic.specs.Answers.{counts_of}
-use Rattle.reader.proofs.Frames.{read_refused, slice_refused, read_small, slice_small, read_done, slice_done}
+use mathlib.Core.Path.{refl, sym, ◌∙◌}
+use Rattle.meaning.proofs.RefusalLaws.{number_not_0}
+use Rattle.reader_basic.proofs.Answers.{handed}
+use Rattle.reader.proofs.Frames.{read_refused, slice_refused, read_small, slice_small, read_done, slice_done, same_refusal}
 use Rattle.reader.proofs.read_twice.Goals as goal
 
-pub returns-then-refusal-ne0 : goal.returns-then-refusal-ne0
-returns-then-refusal-ne0 c = record { answer = read_refused _ _ _ _ _ _ c.sized-s.ensures c.if-refusal-ne0.true; slice = slice_refused _ _ _ _ _ _ c.sized-s.ensures c.if-refusal-ne0.true }
+pub returns-in_err-size : goal.returns-in_err-size
+returns-in_err-size c = record {
+  answer = rw (handed _ _ c.from_residual.ensures) (read_refused _ _ _ _ _ _ c.in_err-size.ensures (number_not_0 _));
+  slice = slice_refused _ _ _ _ _ _ c.in_err-size.ensures (number_not_0 _);
+}
 
-pub returns-then-out-count : goal.returns-then-out-count
-returns-then-out-count c = record { answer = ap counts_of c.refused.ensures ∙ read_small _ _ _ _ _ _ c.sized-s.ensures c.if-out-count.true; slice = slice_small _ _ _ _ _ _ c.sized-s.ensures c.if-out-count.true }
+pub returns-then-out-size : goal.returns-then-out-size
+returns-then-out-size c = record { answer = read_small _ _ _ _ _ _ c.in_ok-size.ensures c.if-out-size.true; slice = slice_small _ _ _ _ _ _ c.in_ok-size.ensures c.if-out-size.true }
+
+pub returns-in_err-whole : goal.returns-in_err-whole
+returns-in_err-whole c = absurd (number_not_0 _ (c.in_err-whole.ensures.refusal ∙ sym (same_refusal _ _ _ _ c.args.out.now _ c.in_ok-size.ensures)))
 
 pub returns : goal.returns
 returns c =
     record {
-      answer = read_done _ _ _ _ _ _ c.sized-s.ensures c.if-refusal-ne0.false c.if-out-count.false _ _ c.whole.ensures;
-      slice = slice_done _ _ _ _ _ _
-          c.sized-s.ensures c.if-refusal-ne0.false c.if-out-count.false _ _ c.whole.ensures;
+      answer = read_done _ _ _ _ _ _ c.in_ok-size.ensures refl c.if-out-size.false _ _ c.in_ok-whole.ensures;
+      slice = slice_done _ _ _ _ _ _ c.in_ok-size.ensures refl c.if-out-size.false _ _ c.in_ok-whole.ensures;
     }

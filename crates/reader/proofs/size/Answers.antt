@@ -1,6 +1,4 @@
 -- `reader::size` meets its contract. Assumes nothing.
-use Rattle.reader_basic.specs.Answers.{counts_of}
-use mathlib.Core.Path.{ap, ◌∙◌}
 use mathlib.Core.Path.{refl}
 use Rattle.signature.proofs.ShapeLaws.{table_refused, table_filled, table_type}
 use borrow.Author.Tests.{not-true, not-false}
@@ -9,7 +7,7 @@ use Rattle.reader.proofs.size.Goals as goal
 
 pub returns-then-not-shapes_of : goal.returns-then-not-shapes_of
 returns-then-not-shapes_of c =
-    ap counts_of c.refused.ensures ∙ type_refused_lem _ _ _ _ (table_refused _ _ _ _ refl c.shapes_of.ensures (not-true _ c.if-not-shapes_of.true-raw))
+    type_refused_lem _ _ _ _ (table_refused _ _ _ _ refl c.shapes_of.ensures (not-true _ c.if-not-shapes_of.true-raw))
 
 pub sized-requires : goal.sized-requires
 sized-requires c =

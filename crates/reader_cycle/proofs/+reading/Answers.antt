@@ -14,11 +14,11 @@ mod Value
 mod VariantVariant
 use Rattle.reader_cycle.proofs.+reading.Goals as goal
 
-pub array::array-in_array-inner-requires : goal.array::array-in_array-inner-requires
-array::array-in_array-inner-requires = ArrayArray.in_array-inner-requires
+pub array::array-in_array-requires : goal.array::array-in_array-requires
+array::array-in_array-requires = ArrayArray.in_array-requires
 
-pub array::array-returns-then-refusal-ne0 : goal.array::array-returns-then-refusal-ne0
-array::array-returns-then-refusal-ne0 = ArrayArray.returns-then-refusal-ne0
+pub array::array-returns-in_err-deeper : goal.array::array-returns-in_err-deeper
+array::array-returns-in_err-deeper = ArrayArray.returns-in_err-deeper
 
 pub array::array-overflow_add-at : goal.array::array-overflow_add-at
 array::array-overflow_add-at = ArrayArray.overflow_add-at
@@ -59,8 +59,8 @@ array::array-slice_bounds-from_encoded_array-start = ArrayArray.slice_bounds-fro
 pub array::array-slice_bounds-from_encoded_array-end : goal.array::array-slice_bounds-from_encoded_array-end
 array::array-slice_bounds-from_encoded_array-end = ArrayArray.slice_bounds-from_encoded_array-end
 
-pub array::array-returns-then-fault-ne0 : goal.array::array-returns-then-fault-ne0
-array::array-returns-then-fault-ne0 = ArrayArray.returns-then-fault-ne0
+pub array::array-returns-in_err-ends : goal.array::array-returns-in_err-ends
+array::array-returns-in_err-ends = ArrayArray.returns-in_err-ends
 
 pub array::array-overflow_add-place-2 : goal.array::array-overflow_add-place-2
 array::array-overflow_add-place-2 = ArrayArray.overflow_add-place-2
@@ -86,11 +86,11 @@ array::elements-bounds-text-child = ArrayElements.bounds-text-child
 pub array::elements-numbers-requires : goal.array::elements-numbers-requires
 array::elements-numbers-requires = ArrayElements.numbers-requires
 
-pub array::elements-returns-then-width-ne0 : goal.array::elements-returns-then-width-ne0
-array::elements-returns-then-width-ne0 = ArrayElements.returns-then-width-ne0
+pub array::elements-returns-in-Some : goal.array::elements-returns-in-Some
+array::elements-returns-in-Some = ArrayElements.returns-in-Some
 
-pub array::elements-loop-u-init : goal.array::elements-loop-u-init
-array::elements-loop-u-init = ArrayElements.loop-u-init
+pub array::elements-loop-read-init : goal.array::elements-loop-read-init
+array::elements-loop-read-init = ArrayElements.loop-read-init
 
 pub array::elements-overflow_add-lead : goal.array::elements-overflow_add-lead
 array::elements-overflow_add-lead = ArrayElements.overflow_add-lead
@@ -107,20 +107,17 @@ array::elements-value-r-requires = ArrayElements.value-r-requires
 pub array::elements-behind-requires : goal.array::elements-behind-requires
 array::elements-behind-requires = ArrayElements.behind-requires
 
-pub array::elements-shape_of-out-then-refusal-ne0 : goal.array::elements-shape_of-out-then-refusal-ne0
-array::elements-shape_of-out-then-refusal-ne0 = ArrayElements.shape_of-out-then-refusal-ne0
+pub array::elements-shape_of-out-in_err-read : goal.array::elements-shape_of-out-in_err-read
+array::elements-shape_of-out-in_err-read = ArrayElements.shape_of-out-in_err-read
 
-pub array::elements-returns-then-refusal-ne0 : goal.array::elements-returns-then-refusal-ne0
-array::elements-returns-then-refusal-ne0 = ArrayElements.returns-then-refusal-ne0
+pub array::elements-returns-in_err-read : goal.array::elements-returns-in_err-read
+array::elements-returns-in_err-read = ArrayElements.returns-in_err-read
 
-pub array::elements-overflow_add-u : goal.array::elements-overflow_add-u
-array::elements-overflow_add-u = ArrayElements.overflow_add-u
+pub array::elements-loop-read-smaller : goal.array::elements-loop-read-smaller
+array::elements-loop-read-smaller = ArrayElements.loop-read-smaller
 
-pub array::elements-loop-u-smaller : goal.array::elements-loop-u-smaller
-array::elements-loop-u-smaller = ArrayElements.loop-u-smaller
-
-pub array::elements-loop-u-preserved : goal.array::elements-loop-u-preserved
-array::elements-loop-u-preserved = ArrayElements.loop-u-preserved
+pub array::elements-loop-read-preserved : goal.array::elements-loop-read-preserved
+array::elements-loop-read-preserved = ArrayElements.loop-read-preserved
 
 pub array::elements-returns : goal.array::elements-returns
 array::elements-returns = ArrayElements.returns
@@ -128,8 +125,8 @@ array::elements-returns = ArrayElements.returns
 pub array::framed-overflow_add-child : goal.array::framed-overflow_add-child
 array::framed-overflow_add-child = ArrayFramed.overflow_add-child
 
-pub array::framed-held_width-width-requires : goal.array::framed-held_width-width-requires
-array::framed-held_width-width-requires = ArrayFramed.held_width-width-requires
+pub array::framed-held_width-requires : goal.array::framed-held_width-requires
+array::framed-held_width-requires = ArrayFramed.held_width-requires
 
 pub array::framed-overflow_add-held : goal.array::framed-overflow_add-held
 array::framed-overflow_add-held = ArrayFramed.overflow_add-held
@@ -140,8 +137,8 @@ array::framed-bounds-text-at = ArrayFramed.bounds-text-at
 pub array::framed-readings-requires : goal.array::framed-readings-requires
 array::framed-readings-requires = ArrayFramed.readings-requires
 
-pub array::framed-returns-then-width-ne0 : goal.array::framed-returns-then-width-ne0
-array::framed-returns-then-width-ne0 = ArrayFramed.returns-then-width-ne0
+pub array::framed-returns-in-Some : goal.array::framed-returns-in-Some
+array::framed-returns-in-Some = ArrayFramed.returns-in-Some
 
 pub array::framed-bounds-text-child : goal.array::framed-bounds-text-child
 array::framed-bounds-text-child = ArrayFramed.bounds-text-child
@@ -182,20 +179,11 @@ array::framed-value-r-requires = ArrayFramed.value-r-requires
 pub array::framed-behind-requires : goal.array::framed-behind-requires
 array::framed-behind-requires = ArrayFramed.behind-requires
 
-pub array::framed-shape_of-out-then-refusal-ne0 : goal.array::framed-shape_of-out-then-refusal-ne0
-array::framed-shape_of-out-then-refusal-ne0 = ArrayFramed.shape_of-out-then-refusal-ne0
+pub array::framed-shape_of-out-in_err-so_far : goal.array::framed-shape_of-out-in_err-so_far
+array::framed-shape_of-out-in_err-so_far = ArrayFramed.shape_of-out-in_err-so_far
 
-pub array::framed-returns-then-refusal-ne0 : goal.array::framed-returns-then-refusal-ne0
-array::framed-returns-then-refusal-ne0 = ArrayFramed.returns-then-refusal-ne0
-
-pub array::framed-overflow_add-stopped : goal.array::framed-overflow_add-stopped
-array::framed-overflow_add-stopped = ArrayFramed.overflow_add-stopped
-
-pub array::framed-overflow_add-i : goal.array::framed-overflow_add-i
-array::framed-overflow_add-i = ArrayFramed.overflow_add-i
-
-pub array::framed-loop-i-smaller : goal.array::framed-loop-i-smaller
-array::framed-loop-i-smaller = ArrayFramed.loop-i-smaller
+pub array::framed-returns-in_err-so_far : goal.array::framed-returns-in_err-so_far
+array::framed-returns-in_err-so_far = ArrayFramed.returns-in_err-so_far
 
 pub array::framed-loop-i-preserved : goal.array::framed-loop-i-preserved
 array::framed-loop-i-preserved = ArrayFramed.loop-i-preserved
@@ -203,8 +191,8 @@ array::framed-loop-i-preserved = ArrayFramed.loop-i-preserved
 pub array::framed-overflow_sub-part : goal.array::framed-overflow_sub-part
 array::framed-overflow_sub-part = ArrayFramed.overflow_sub-part
 
-pub array::framed-overflow_add-stopped-2 : goal.array::framed-overflow_add-stopped-2
-array::framed-overflow_add-stopped-2 = ArrayFramed.overflow_add-stopped-2
+pub array::framed-overflow_add-so_far : goal.array::framed-overflow_add-so_far
+array::framed-overflow_add-so_far = ArrayFramed.overflow_add-so_far
 
 pub array::framed-returns : goal.array::framed-returns
 array::framed-returns = ArrayFramed.returns
@@ -248,11 +236,11 @@ container-offset_bounds-shapes-at = Container.offset_bounds-shapes-at
 pub container-bounds-shapes-at : goal.container-bounds-shapes-at
 container-bounds-shapes-at = Container.bounds-shapes-at
 
-pub container-padded-padding-requires : goal.container-padded-padding-requires
-container-padded-padding-requires = Container.padded-padding-requires
+pub container-padded-requires : goal.container-padded-requires
+container-padded-requires = Container.padded-requires
 
-pub container-returns-then-refusal-ne0 : goal.container-returns-then-refusal-ne0
-container-returns-then-refusal-ne0 = Container.returns-then-refusal-ne0
+pub container-returns-in_err-lead : goal.container-returns-in_err-lead
+container-returns-in_err-lead = Container.returns-in_err-lead
 
 pub container-body-r-requires : goal.container-body-r-requires
 container-body-r-requires = Container.body-r-requires
@@ -269,11 +257,11 @@ dictionary::entry-offset_bounds-shapes-at = DictionaryEntry.offset_bounds-shapes
 pub dictionary::entry-bounds-shapes-at : goal.dictionary::entry-bounds-shapes-at
 dictionary::entry-bounds-shapes-at = DictionaryEntry.bounds-shapes-at
 
-pub dictionary::entry-padded-padding-requires : goal.dictionary::entry-padded-padding-requires
-dictionary::entry-padded-padding-requires = DictionaryEntry.padded-padding-requires
+pub dictionary::entry-padded-requires : goal.dictionary::entry-padded-requires
+dictionary::entry-padded-requires = DictionaryEntry.padded-requires
 
-pub dictionary::entry-returns-then-refusal-ne0 : goal.dictionary::entry-returns-then-refusal-ne0
-dictionary::entry-returns-then-refusal-ne0 = DictionaryEntry.returns-then-refusal-ne0
+pub dictionary::entry-returns-in_err-lead : goal.dictionary::entry-returns-in_err-lead
+dictionary::entry-returns-in_err-lead = DictionaryEntry.returns-in_err-lead
 
 pub dictionary::entry-overflow_add-from : goal.dictionary::entry-overflow_add-from
 dictionary::entry-overflow_add-from = DictionaryEntry.overflow_add-from
@@ -320,11 +308,11 @@ dictionary::fixed_key-slice_bounds-leaf-end = DictionaryFixedKey.slice_bounds-le
 pub dictionary::fixed_key-overflow_add-place : goal.dictionary::fixed_key-overflow_add-place
 dictionary::fixed_key-overflow_add-place = DictionaryFixedKey.overflow_add-place
 
-pub dictionary::fixed_key-leaf-k-requires : goal.dictionary::fixed_key-leaf-k-requires
-dictionary::fixed_key-leaf-k-requires = DictionaryFixedKey.leaf-k-requires
+pub dictionary::fixed_key-leaf-requires : goal.dictionary::fixed_key-leaf-requires
+dictionary::fixed_key-leaf-requires = DictionaryFixedKey.leaf-requires
 
-pub dictionary::fixed_key-returns-then-refusal-ne0 : goal.dictionary::fixed_key-returns-then-refusal-ne0
-dictionary::fixed_key-returns-then-refusal-ne0 = DictionaryFixedKey.returns-then-refusal-ne0
+pub dictionary::fixed_key-returns-in_err-k : goal.dictionary::fixed_key-returns-in_err-k
+dictionary::fixed_key-returns-in_err-k = DictionaryFixedKey.returns-in_err-k
 
 pub dictionary::fixed_key-overflow_add-from : goal.dictionary::fixed_key-overflow_add-from
 dictionary::fixed_key-overflow_add-from = DictionaryFixedKey.overflow_add-from
@@ -365,11 +353,11 @@ dictionary::fixed_key-behind-requires-2 = DictionaryFixedKey.behind-requires-2
 pub dictionary::fixed_key-returns : goal.dictionary::fixed_key-returns
 dictionary::fixed_key-returns = DictionaryFixedKey.returns
 
-pub dictionary::text_key-key_ends-ends-requires : goal.dictionary::text_key-key_ends-ends-requires
-dictionary::text_key-key_ends-ends-requires = DictionaryTextKey.key_ends-ends-requires
+pub dictionary::text_key-key_ends-requires : goal.dictionary::text_key-key_ends-requires
+dictionary::text_key-key_ends-requires = DictionaryTextKey.key_ends-requires
 
-pub dictionary::text_key-returns-then-fault-ne0 : goal.dictionary::text_key-returns-then-fault-ne0
-dictionary::text_key-returns-then-fault-ne0 = DictionaryTextKey.returns-then-fault-ne0
+pub dictionary::text_key-returns-in_err-ends : goal.dictionary::text_key-returns-in_err-ends
+dictionary::text_key-returns-in_err-ends = DictionaryTextKey.returns-in_err-ends
 
 pub dictionary::text_key-overflow_add-at : goal.dictionary::text_key-overflow_add-at
 dictionary::text_key-overflow_add-at = DictionaryTextKey.overflow_add-at
@@ -389,11 +377,11 @@ dictionary::text_key-slice_bounds-leaf-end = DictionaryTextKey.slice_bounds-leaf
 pub dictionary::text_key-overflow_add-place : goal.dictionary::text_key-overflow_add-place
 dictionary::text_key-overflow_add-place = DictionaryTextKey.overflow_add-place
 
-pub dictionary::text_key-leaf-k-requires : goal.dictionary::text_key-leaf-k-requires
-dictionary::text_key-leaf-k-requires = DictionaryTextKey.leaf-k-requires
+pub dictionary::text_key-leaf-requires : goal.dictionary::text_key-leaf-requires
+dictionary::text_key-leaf-requires = DictionaryTextKey.leaf-requires
 
-pub dictionary::text_key-returns-then-refusal-ne0 : goal.dictionary::text_key-returns-then-refusal-ne0
-dictionary::text_key-returns-then-refusal-ne0 = DictionaryTextKey.returns-then-refusal-ne0
+pub dictionary::text_key-returns-in_err-k : goal.dictionary::text_key-returns-in_err-k
+dictionary::text_key-returns-in_err-k = DictionaryTextKey.returns-in_err-k
 
 pub dictionary::text_key-overflow_add-from : goal.dictionary::text_key-overflow_add-from
 dictionary::text_key-overflow_add-from = DictionaryTextKey.overflow_add-from
@@ -428,11 +416,11 @@ maybe::maybe-overflow_add-place = MaybeMaybe.overflow_add-place
 pub maybe::maybe-returns-then-part-lead : goal.maybe::maybe-returns-then-part-lead
 maybe::maybe-returns-then-part-lead = MaybeMaybe.returns-then-part-lead
 
-pub maybe::maybe-in_maybe-inner-requires : goal.maybe::maybe-in_maybe-inner-requires
-maybe::maybe-in_maybe-inner-requires = MaybeMaybe.in_maybe-inner-requires
+pub maybe::maybe-in_maybe-requires : goal.maybe::maybe-in_maybe-requires
+maybe::maybe-in_maybe-requires = MaybeMaybe.in_maybe-requires
 
-pub maybe::maybe-returns-then-refusal-ne0 : goal.maybe::maybe-returns-then-refusal-ne0
-maybe::maybe-returns-then-refusal-ne0 = MaybeMaybe.returns-then-refusal-ne0
+pub maybe::maybe-returns-in_err-deeper : goal.maybe::maybe-returns-in_err-deeper
+maybe::maybe-returns-in_err-deeper = MaybeMaybe.returns-in_err-deeper
 
 pub maybe::maybe-overflow_add-place-2 : goal.maybe::maybe-overflow_add-place-2
 maybe::maybe-overflow_add-place-2 = MaybeMaybe.overflow_add-place-2
@@ -464,11 +452,11 @@ maybe::maybe-end_byte-requires = MaybeMaybe.end_byte-requires
 pub maybe::maybe-returns : goal.maybe::maybe-returns
 maybe::maybe-returns = MaybeMaybe.returns
 
-pub structure::structure-in_structure-inner-requires : goal.structure::structure-in_structure-inner-requires
-structure::structure-in_structure-inner-requires = StructureStructure.in_structure-inner-requires
+pub structure::structure-in_structure-requires : goal.structure::structure-in_structure-requires
+structure::structure-in_structure-requires = StructureStructure.in_structure-requires
 
-pub structure::structure-returns-then-deep-ne0 : goal.structure::structure-returns-then-deep-ne0
-structure::structure-returns-then-deep-ne0 = StructureStructure.returns-then-deep-ne0
+pub structure::structure-returns-in_err-deeper : goal.structure::structure-returns-in_err-deeper
+structure::structure-returns-in_err-deeper = StructureStructure.returns-in_err-deeper
 
 pub structure::structure-overflow_add-place : goal.structure::structure-overflow_add-place
 structure::structure-overflow_add-place = StructureStructure.overflow_add-place
@@ -494,11 +482,11 @@ structure::structure-offset_bounds-shapes-i-in-loop-field = StructureStructure.o
 pub structure::structure-bounds-shapes-i-in-loop-field : goal.structure::structure-bounds-shapes-i-in-loop-field
 structure::structure-bounds-shapes-i-in-loop-field = StructureStructure.bounds-shapes-i-in-loop-field
 
-pub structure::structure-field_ends-ends-requires : goal.structure::structure-field_ends-ends-requires
-structure::structure-field_ends-ends-requires = StructureStructure.field_ends-ends-requires
+pub structure::structure-field_ends-found-requires : goal.structure::structure-field_ends-found-requires
+structure::structure-field_ends-found-requires = StructureStructure.field_ends-found-requires
 
-pub structure::structure-returns-then-fault-ne0 : goal.structure::structure-returns-then-fault-ne0
-structure::structure-returns-then-fault-ne0 = StructureStructure.returns-then-fault-ne0
+pub structure::structure-returns-in_err-ends : goal.structure::structure-returns-in_err-ends
+structure::structure-returns-in_err-ends = StructureStructure.returns-in_err-ends
 
 pub structure::structure-overflow_add-j : goal.structure::structure-overflow_add-j
 structure::structure-overflow_add-j = StructureStructure.overflow_add-j
@@ -509,14 +497,11 @@ structure::structure-value-r-requires = StructureStructure.value-r-requires
 pub structure::structure-behind-requires : goal.structure::structure-behind-requires
 structure::structure-behind-requires = StructureStructure.behind-requires
 
-pub structure::structure-returns-then-refusal-ne0 : goal.structure::structure-returns-then-refusal-ne0
-structure::structure-returns-then-refusal-ne0 = StructureStructure.returns-then-refusal-ne0
+pub structure::structure-returns-in_err-read : goal.structure::structure-returns-in_err-read
+structure::structure-returns-in_err-read = StructureStructure.returns-in_err-read
 
 pub structure::structure-overflow_sub-end : goal.structure::structure-overflow_sub-end
 structure::structure-overflow_sub-end = StructureStructure.overflow_sub-end
-
-pub structure::structure-overflow_add-u : goal.structure::structure-overflow_add-u
-structure::structure-overflow_add-u = StructureStructure.overflow_add-u
 
 pub structure::structure-loop-field-smaller : goal.structure::structure-loop-field-smaller
 structure::structure-loop-field-smaller = StructureStructure.loop-field-smaller
@@ -557,9 +542,6 @@ structure::structure-returns = StructureStructure.returns
 pub value-returns-then-e-j : goal.value-returns-then-e-j
 value-returns-then-e-j = Value.returns-then-e-j
 
-pub value-returns-then-part-e : goal.value-returns-then-part-e
-value-returns-then-part-e = Value.returns-then-part-e
-
 pub value-slice_bounds-own-start : goal.value-slice_bounds-own-start
 value-slice_bounds-own-start = Value.slice_bounds-own-start
 
@@ -593,8 +575,8 @@ variant::variant-slice_bounds-separator-start = VariantVariant.slice_bounds-sepa
 pub variant::variant-slice_bounds-separator-end : goal.variant::variant-slice_bounds-separator-end
 variant::variant-slice_bounds-separator-end = VariantVariant.slice_bounds-separator-end
 
-pub variant::variant-returns-then-s-eq0 : goal.variant::variant-returns-then-s-eq0
-variant::variant-returns-then-s-eq0 = VariantVariant.returns-then-s-eq0
+pub variant::variant-returns-in_default : goal.variant::variant-returns-in_default
+variant::variant-returns-in_default = VariantVariant.returns-in_default
 
 pub variant::variant-overflow_add-from : goal.variant::variant-overflow_add-from
 variant::variant-overflow_add-from = VariantVariant.overflow_add-from
@@ -611,8 +593,8 @@ variant::variant-slice_bounds-text-end = VariantVariant.slice_bounds-text-end
 pub variant::variant-basic_variant-requires : goal.variant::variant-basic_variant-requires
 variant::variant-basic_variant-requires = VariantVariant.basic_variant-requires
 
-pub variant::variant-returns-then-kind-ne0 : goal.variant::variant-returns-then-kind-ne0
-variant::variant-returns-then-kind-ne0 = VariantVariant.returns-then-kind-ne0
+pub variant::variant-returns-in-Some-only_basic : goal.variant::variant-returns-in-Some-only_basic
+variant::variant-returns-in-Some-only_basic = VariantVariant.returns-in-Some-only_basic
 
 pub variant::variant-overflow_add-place : goal.variant::variant-overflow_add-place
 variant::variant-overflow_add-place = VariantVariant.overflow_add-place
@@ -620,17 +602,17 @@ variant::variant-overflow_add-place = VariantVariant.overflow_add-place
 pub variant::variant-overflow_add-place-2 : goal.variant::variant-overflow_add-place-2
 variant::variant-overflow_add-place-2 = VariantVariant.overflow_add-place-2
 
-pub variant::variant-returns-then-fault-ne0 : goal.variant::variant-returns-then-fault-ne0
-variant::variant-returns-then-fault-ne0 = VariantVariant.returns-then-fault-ne0
+pub variant::variant-returns-in_err-head : goal.variant::variant-returns-in_err-head
+variant::variant-returns-in_err-head = VariantVariant.returns-in_err-head
 
 pub variant::variant-returns-then-not-shapes_of : goal.variant::variant-returns-then-not-shapes_of
 variant::variant-returns-then-not-shapes_of = VariantVariant.returns-then-not-shapes_of
 
-pub variant::variant-in_variant-inner-requires : goal.variant::variant-in_variant-inner-requires
-variant::variant-in_variant-inner-requires = VariantVariant.in_variant-inner-requires
+pub variant::variant-in_variant-requires : goal.variant::variant-in_variant-requires
+variant::variant-in_variant-requires = VariantVariant.in_variant-requires
 
-pub variant::variant-returns-then-refusal-ne0 : goal.variant::variant-returns-then-refusal-ne0
-variant::variant-returns-then-refusal-ne0 = VariantVariant.returns-then-refusal-ne0
+pub variant::variant-returns-in_err-deeper : goal.variant::variant-returns-in_err-deeper
+variant::variant-returns-in_err-deeper = VariantVariant.returns-in_err-deeper
 
 pub variant::variant-overflow_sub-e : goal.variant::variant-overflow_sub-e
 variant::variant-overflow_sub-e = VariantVariant.overflow_sub-e

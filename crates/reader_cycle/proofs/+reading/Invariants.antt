@@ -19,21 +19,17 @@ use Rattle.signature.specs.Shapes.{shape_in}
 use lib.ListN.{drop, length}
 use Rattle.reader_cycle.proofs.+reading.Given as goal
 
-abbrev pub invariant-array::elements-loop-u : goal.invariant-array::elements-loop-u
-invariant-array::elements-loop-u l =
-    ElementsLeft (step_in (context_of l.ride) l.text (item_of l.text l.shapes l.at) l.place l.part (length l.part)) l.part l.lead l.n l.initial.out l.u l.m l.out
+abbrev pub invariant-array::elements-loop-read : goal.invariant-array::elements-loop-read
+invariant-array::elements-loop-read l =
+    ElementsLeft (step_in (context_of l.ride) l.text (item_of l.text l.shapes l.at) l.place l.part (length l.part)) l.part l.lead l.n l.initial.out l.read.used l.read.count l.out
 
-abbrev pub decreases-array::elements-loop-u : goal.decreases-array::elements-loop-u
-decreases-array::elements-loop-u l =
-    length l.part - (l.lead + l.u)
+abbrev pub decreases-array::elements-loop-read : goal.decreases-array::elements-loop-read
+decreases-array::elements-loop-read l =
+    length l.part - (l.lead + l.read.used)
 
 abbrev pub invariant-array::framed-loop-i : goal.invariant-array::framed-loop-i
 invariant-array::framed-loop-i l =
-    FramedLeft (step_in (context_of l.ride) l.text (item_of l.text l.shapes l.at) l.place l.part (l.lead + l.offsets.start)) l.part l.lead (l.lead + l.offsets.start) l.n l.initial.out (ends_of (table_in l.offsets) (drop l.lead l.part)) l.i l.stopped l.m l.out
-
-abbrev pub decreases-array::framed-loop-i : goal.decreases-array::framed-loop-i
-decreases-array::framed-loop-i l =
-    l.offsets.count - l.i
+    FramedLeft (step_in (context_of l.ride) l.text (item_of l.text l.shapes l.at) l.place l.part (l.lead + l.offsets.start)) l.part l.lead (l.lead + l.offsets.start) l.n l.initial.out (ends_of (table_in l.offsets) (drop l.lead l.part)) l.i l.so_far.used l.so_far.count l.out
 
 abbrev pub decreases-array::array : goal.decreases-array::array
 decreases-array::array l =
@@ -86,7 +82,7 @@ decreases-variant::variant l =
 abbrev pub invariant-structure::structure-loop-field : goal.invariant-structure::structure-loop-field
 invariant-structure::structure-loop-field l =
     FieldsLeft (context_of l.deeper).position (context_of l.deeper).big (context_of l.deeper).depths.variant l.text (l.at + 1) (shape_in l.text l.shapes l.at).fixed (shape_in l.text l.shapes l.at).alignment
-    l.place l.part l.lead (encoded_width (length l.part - l.lead)) (depths_of (context_of l.deeper).depths) l.initial.m l.initial.out l.i l.end l.u l.m l.out
+    l.place l.part l.lead (encoded_width (length l.part - l.lead)) (depths_of (context_of l.deeper).depths) l.initial.read.count l.initial.out l.i l.end l.read.used l.read.count l.out
 
 abbrev pub decreases-structure::structure-loop-field : goal.decreases-structure::structure-loop-field
 decreases-structure::structure-loop-field l =

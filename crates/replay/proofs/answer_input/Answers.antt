@@ -1,4 +1,4 @@
--- The arrays have the lengths that `answer_all` asks for.
+-- The length of the longest line, without counting it out.
 use Rattle.std.proofs.Common.{ℕ, sym}
 use Rattle.std.proofs.lemmas.List.{length-replicate}
 use Rattle.replay.proofs.answer_input.Goals as goal

@@ -1,9 +1,6 @@
--- A line's answer takes two bytes, and the line at least one of the block. The measure is what is left of the block.
-use Rattle.std.proofs.Common.{length, ◌-◌, ◌≡◌, ◌≤◌, ◌*◌}
+-- A line's answer takes two bytes of the memory, and the line's end one of the block.
+use Rattle.std.proofs.Common.{length, ◌+◌, ◌*◌, ◌≤◌}
 use Rattle.signature_check.proofs.judge_block.Given as goal
 
-abbrev pub invariant-loop-from : goal.invariant-loop-from
-invariant-loop-from l = (l.from ≤ length l.block) × (l.written ≤ 2 * l.from) × (length l.line ≡ length l.fn.line) × (length l.out ≡ length l.fn.out)
-
-abbrev pub decreases-loop-from : goal.decreases-loop-from
-decreases-loop-from l = length l.block - l.from
+abbrev pub invariant-loop-part : goal.invariant-loop-part
+invariant-loop-part l = l.written + 2 * length l.part-iterator.rest.now ≤ 8192

@@ -1,6 +1,5 @@
 -- `check_from` meets its contract. Assumes nothing.
 use mathlib.Core.Path.{sym, ◌∙◌}
-use native.Mathlib.Omega.{arith}
 use Rattle.meaning.proofs.TextSteps.{nul_stop, text_nul, text_whole, text_broken}
 use Rattle.texts.specs.Letters.{wanted_of}
 use Rattle.texts.proofs.Runs.{judged_begin, judged_next, judged_plain}
@@ -9,20 +8,8 @@ use Rattle.texts.proofs.check_from.Goals as goal
 pub loop-i-init : goal.loop-i-init
 loop-i-init c = judged_begin _ _ _ c.new-wanted.ensures c.requires
 
-pub bounds-text-i : goal.bounds-text-i
-bounds-text-i c = omega arith
-
 pub returns-then-byte-eq0 : goal.returns-then-byte-eq0
 returns-then-byte-eq0 c = sym (text_nul c.args.text.now (c.loop-i.invariant.nul ∙ nul_stop c.args.text.now _ c.loop-i-test.true c.if-byte-eq0.true))
-
-pub overflow_add-i : goal.overflow_add-i
-overflow_add-i c = omega arith
-
-pub letters_end-i-requires : goal.letters_end-i-requires
-letters_end-i-requires c = omega arith
-
-pub loop-i-smaller-then-wanted-eq0 : goal.loop-i-smaller-then-wanted-eq0
-loop-i-smaller-then-wanted-eq0 c = omega (arith, c.letters_end-i.ensures.from, c.letters_end-i.ensures.to)
 
 pub loop-i-preserved-then-wanted-eq0 : goal.loop-i-preserved-then-wanted-eq0
 loop-i-preserved-then-wanted-eq0 c =
@@ -30,9 +17,6 @@ loop-i-preserved-then-wanted-eq0 c =
     c.loop-i.wanted) c.loop-i.i
     c.loop-i.invariant c.loop-i-test.true c.if-byte-eq0.false
     c.after_byte-wanted.ensures) c.letters_end-i.ensures
-
-pub loop-i-smaller : goal.loop-i-smaller
-loop-i-smaller c = omega arith
 
 pub loop-i-preserved : goal.loop-i-preserved
 loop-i-preserved c =

@@ -1,6 +1,6 @@
 -- `three_at` meets its contract. Assumes nothing.
+use Rattle.std.proofs.Common.{arith}
 use Rattle.texts.proofs.Runs.{plain_three_bytes}
-use native.Mathlib.Omega.{arith}
 use Rattle.texts.proofs.three_at.Goals as goal
 
 pub returns : goal.returns

@@ -8,9 +8,8 @@ use Rattle.writer.proofs.write.Goals as goal
 
 pub returns-then-not-shapes_of : goal.returns-then-not-shapes_of
 returns-then-not-shapes_of c =
-    rw c.unwritten.ensures (
     let whole = write_untyped _ _ _ _ _ (table_refused _ _ _ _ refl c.shapes_of.ensures (not-true _ c.if-not-shapes_of.true-raw)) in
-    record { answer = whole.0; slice = whole.1 })
+    record { answer = whole.0; slice = whole.1 }
 
 pub write_by_walks-requires : goal.write_by_walks-requires
 write_by_walks-requires c =

@@ -10,11 +10,11 @@ use Rattle.container_depths.specs.Opening.{depths_of}
 use Rattle.writer_cycle.proofs.FieldRows.{FieldsLeft}
 use Rattle.writer_cycle.proofs.+writing.Given as goal
 
-abbrev pub invariant-array::items-loop-e : goal.invariant-array::items-loop-e
-invariant-array::items-loop-e l = Left l.item.fixed (item_in l.context l.texts l.text l.item) l.events l.initial.e l.spot.start l.spot.top l.initial.out l.initial.ends l.e l.k l.j l.out l.ends
+abbrev pub invariant-array::items-loop-row : goal.invariant-array::items-loop-row
+invariant-array::items-loop-row l = Left l.item.fixed (item_in l.context l.texts l.text l.item) l.events l.initial.row.next l.spot.start l.spot.top l.initial.out l.initial.ends l.row.next l.row.size l.row.count l.out l.ends
 
-abbrev pub decreases-array::items-loop-e : goal.decreases-array::items-loop-e
-decreases-array::items-loop-e l = length l.events - l.e
+abbrev pub decreases-array::items-loop-row : goal.decreases-array::items-loop-row
+decreases-array::items-loop-row l = length l.events - l.row.next
 
 abbrev pub decreases-array::array : goal.decreases-array::array
 decreases-array::array l = level l.context.depths * 16 + 2
@@ -49,8 +49,8 @@ decreases-variant::typed l = level l.context.depths * 16 + 1
 abbrev pub decreases-variant::variant : goal.decreases-variant::variant
 decreases-variant::variant l = level l.context.depths * 16 + 2
 
-abbrev pub invariant-structure::fields-loop-context : goal.invariant-structure::fields-loop-context
-invariant-structure::fields-loop-context l = FieldsLeft l.texts l.context.big l.context.depths.variant (depths_of l.context.depths) l.text l.at l.events l.initial.e l.spot.start l.spot.top l.initial.out l.initial.ends l.i l.e l.k l.j l.out l.ends
+abbrev pub invariant-structure::fields-loop-one : goal.invariant-structure::fields-loop-one
+invariant-structure::fields-loop-one l = FieldsLeft l.texts l.context.big l.context.depths.variant (depths_of l.context.depths) l.text l.at l.events l.initial.row.next l.spot.start l.spot.top l.initial.out l.initial.ends l.i l.row.next l.row.size l.row.count l.out l.ends
 
-abbrev pub decreases-structure::fields-loop-context : goal.decreases-structure::fields-loop-context
-decreases-structure::fields-loop-context l = length l.text - l.i
+abbrev pub decreases-structure::fields-loop-one : goal.decreases-structure::fields-loop-one
+decreases-structure::fields-loop-one l = length l.text - l.i

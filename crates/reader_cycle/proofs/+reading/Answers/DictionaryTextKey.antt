@@ -1,4 +1,7 @@
 -- The needs of `dictionary·text_key`, and what answers each.
+use mathlib.Core.Path.{refl}
+use Rattle.meaning.proofs.RefusalLaws.{number_not_0}
+use Rattle.reader_basic.proofs.Answers.{told_by, refused_at, handed_on}
 use Prim.Native.Nat.{◌+◌, ◌-◌}
 use Rattle.container_depths.specs.Opening.{depths_of}
 use Rattle.reader_basic.proofs.Leaves.{within_child}
@@ -12,13 +15,14 @@ use lib.ListN.{length}
 use native.Mathlib.Omega.{arith}
 use Rattle.reader_cycle.proofs.+reading.Goals as goal
 
-pub key_ends-ends-requires : goal.dictionary::text_key-key_ends-ends-requires
-key_ends-ends-requires t c =
+pub key_ends-requires : goal.dictionary::text_key-key_ends-requires
+key_ends-requires t c =
     (c.requires.3, c.requires.4, omega (arith, c.requires.1.in_frame))
 
-pub returns-then-fault-ne0 : goal.dictionary::text_key-returns-then-fault-ne0
-returns-then-fault-ne0 t c =
-    told c.refused.ensures (text_key_missing _ _ _ _ _ c.key_ends-ends.ensures _ _ _ _ _ _ _ _ _ c.if-fault-ne0.true)
+pub returns-in_err-ends : goal.dictionary::text_key-returns-in_err-ends
+returns-in_err-ends t c =
+    let s = c.in_err-ends.ensures in
+    refused_at _ _ c.from_residual.ensures s (text_key_missing _ _ _ _ _ (rw s.refusal at c.key_ends.ensures) _ _ _ _ _ _ _ _ _ (number_not_0 _))
 
 pub overflow_add-at : goal.dictionary::text_key-overflow_add-at
 overflow_add-at t c =
@@ -30,44 +34,44 @@ bounds-text-at t c =
 
 pub slice_bounds-leaf-count : goal.dictionary::text_key-slice_bounds-leaf-count
 slice_bounds-leaf-count t c =
-    omega (arith, (key_there _ _ _ _ _ c.key_ends-ends.ensures c.if-fault-ne0.false).end)
+    omega (arith, (key_there _ _ _ _ _ (rw c.in_ok-ends.ensures at c.key_ends.ensures) refl).end)
 
 pub slice_bounds-leaf-start : goal.dictionary::text_key-slice_bounds-leaf-start
 slice_bounds-leaf-start t c =
-    omega (arith, (key_there _ _ _ _ _ c.key_ends-ends.ensures c.if-fault-ne0.false).end, (key_there _ _ _ _ _ c.key_ends-ends.ensures c.if-fault-ne0.false).within, c.requires.4)
+    omega (arith, (key_there _ _ _ _ _ (rw c.in_ok-ends.ensures at c.key_ends.ensures) refl).end, (key_there _ _ _ _ _ (rw c.in_ok-ends.ensures at c.key_ends.ensures) refl).within, c.requires.4)
 
 pub slice_bounds-leaf-end : goal.dictionary::text_key-slice_bounds-leaf-end
 slice_bounds-leaf-end t c =
-    omega (arith, (key_there _ _ _ _ _ c.key_ends-ends.ensures c.if-fault-ne0.false).end, (key_there _ _ _ _ _ c.key_ends-ends.ensures c.if-fault-ne0.false).within, c.requires.4)
+    omega (arith, (key_there _ _ _ _ _ (rw c.in_ok-ends.ensures at c.key_ends.ensures) refl).end, (key_there _ _ _ _ _ (rw c.in_ok-ends.ensures at c.key_ends.ensures) refl).within, c.requires.4)
 
 pub overflow_add-place : goal.dictionary::text_key-overflow_add-place
 overflow_add-place t c =
     omega (arith, c.requires.1.in_frame, c.requires.2)
 
-pub leaf-k-requires : goal.dictionary::text_key-leaf-k-requires
-leaf-k-requires t c =
-    within_child c.args.part.now c.args.j c.key_ends-ends.result.child c.requires.1 (omega (arith, (key_there _ _ _ _ _ c.key_ends-ends.ensures c.if-fault-ne0.false).end))
-    (omega (arith, (key_there _ _ _ _ _ c.key_ends-ends.ensures c.if-fault-ne0.false).within, c.requires.4))
+pub leaf-requires : goal.dictionary::text_key-leaf-requires
+leaf-requires t c =
+    within_child c.args.part.now c.args.j c.in_ok-ends.ends.child c.requires.1 (omega (arith, (key_there _ _ _ _ _ (rw c.in_ok-ends.ensures at c.key_ends.ensures) refl).end))
+    (omega (arith, (key_there _ _ _ _ _ (rw c.in_ok-ends.ensures at c.key_ends.ensures) refl).within, c.requires.4))
 
-pub returns-then-refusal-ne0 : goal.dictionary::text_key-returns-then-refusal-ne0
-returns-then-refusal-ne0 t c =
+pub returns-in_err-k : goal.dictionary::text_key-returns-in_err-k
+returns-in_err-k t c =
     let key = key_read c.args.text.now (c.args.at + 2) (omega (arith, value_within c.args.text.now c.args.shapes.now c.args.at c.requires.0)) (context_of c.args.ride).position (context_of c.args.ride).big
-    c.args.place c.args.part.now c.args.j c.key_ends-ends.result.child _ _ _ _ (omega (arith, (key_there _ _ _ _ _ c.key_ends-ends.ensures c.if-fault-ne0.false).end)) (omega
-    (arith, (key_there _ _ _ _ _ c.key_ends-ends.ensures c.if-fault-ne0.false).within, c.requires.4)) c.leaf-k.ensures (depths_of (context_of c.args.ride).depths) in
-    text_key_stop _ _ _ _ _ _ _ (key_there _ _ _ _ _ c.key_ends-ends.ensures c.if-fault-ne0.false) _ _ c.requires.3 c.requires.4 _ _ key c.if-refusal-ne0.true
+    c.args.place c.args.part.now c.args.j c.in_ok-ends.ends.child _ _ _ _ (omega (arith, (key_there _ _ _ _ _ (rw c.in_ok-ends.ensures at c.key_ends.ensures) refl).end)) (omega
+    (arith, (key_there _ _ _ _ _ (rw c.in_ok-ends.ensures at c.key_ends.ensures) refl).within, c.requires.4)) c.in_err-k.ensures (depths_of (context_of c.args.ride).depths) in
+    handed_on _ _ c.from_residual-in_err-k.ensures (text_key_stop _ _ _ _ _ _ _ (key_there _ _ _ _ _ (rw c.in_ok-ends.ensures at c.key_ends.ensures) refl) _ _ c.requires.3 c.requires.4 _ _ key (number_not_0 _))
 
 pub overflow_add-from : goal.dictionary::text_key-overflow_add-from
 overflow_add-from t c =
-    omega (arith, part_fits c.args.part.now c.args.j c.key_ends-ends.result.child (c.leaf-k.ensures (depths_of (context_of c.args.ride).depths)).fits, c.requires.1.in_frame, c.requires.2)
+    omega (arith, part_fits c.args.part.now c.args.j c.in_ok-ends.ends.child (c.in_ok-k.ensures (depths_of (context_of c.args.ride).depths)).fits, c.requires.1.in_frame, c.requires.2)
 
 pub overflow_add-from-2 : goal.dictionary::text_key-overflow_add-from-2
 overflow_add-from-2 t c =
     omega (
       arith,
-      part_fits c.args.part.now c.args.j c.key_ends-ends.result.child (c.leaf-k.ensures (depths_of (context_of c.args.ride).depths)).fits,
+      part_fits c.args.part.now c.args.j c.in_ok-ends.ends.child (c.in_ok-k.ensures (depths_of (context_of c.args.ride).depths)).fits,
       c.requires.1.in_frame,
       c.requires.2,
-      (key_there _ _ _ _ _ c.key_ends-ends.ensures c.if-fault-ne0.false).width,
+      (key_there _ _ _ _ _ (rw c.in_ok-ends.ensures at c.key_ends.ensures) refl).width,
       width_small (c.args.e - c.args.j)
           (omega (arith, c.requires.1.in_frame, c.requires.3, c.requires.4)),
     )
@@ -75,9 +79,9 @@ overflow_add-from-2 t c =
 pub returns-then-e-from : goal.dictionary::text_key-returns-then-e-from
 returns-then-e-from t c =
     let key = key_read c.args.text.now (c.args.at + 2) (omega (arith, value_within c.args.text.now c.args.shapes.now c.args.at c.requires.0)) (context_of c.args.ride).position (context_of c.args.ride).big
-    c.args.place c.args.part.now c.args.j c.key_ends-ends.result.child _ _ _ _ (omega (arith, (key_there _ _ _ _ _ c.key_ends-ends.ensures c.if-fault-ne0.false).end)) (omega
-    (arith, (key_there _ _ _ _ _ c.key_ends-ends.ensures c.if-fault-ne0.false).within, c.requires.4)) c.leaf-k.ensures (depths_of (context_of c.args.ride).depths) in
-    told c.refused-then-e-from.ensures (text_key_narrow _ _ _ _ _ _ _ (key_there _ _ _ _ _ c.key_ends-ends.ensures c.if-fault-ne0.false) _ _ c.requires.3 c.requires.4 _ _ key c.if-refusal-ne0.false c.if-e-from.true)
+    c.args.place c.args.part.now c.args.j c.in_ok-ends.ends.child _ _ _ _ (omega (arith, (key_there _ _ _ _ _ (rw c.in_ok-ends.ensures at c.key_ends.ensures) refl).end)) (omega
+    (arith, (key_there _ _ _ _ _ (rw c.in_ok-ends.ensures at c.key_ends.ensures) refl).within, c.requires.4)) c.in_ok-k.ensures (depths_of (context_of c.args.ride).depths) in
+    told_by c.refused.ensures (text_key_narrow _ _ _ _ _ _ _ (key_there _ _ _ _ _ (rw c.in_ok-ends.ensures at c.key_ends.ensures) refl) _ _ c.requires.3 c.requires.4 _ _ key refl c.if-e-from.true)
 
 pub overflow_sub-end : goal.dictionary::text_key-overflow_sub-end
 overflow_sub-end t c = omega (arith, c.if-e-from.false)
@@ -88,20 +92,20 @@ overflow_add-at-2 t c =
 
 pub value-v-requires : goal.dictionary::text_key-value-v-requires
 value-v-requires t c =
-    (omega (arith, c.decreases), (c.requires.0.child, c.requires.1, omega (arith, part_fits c.args.part.now c.args.j c.key_ends-ends.result.child (c.leaf-k.ensures (depths_of (context_of c.args.ride).depths)).fits, c.requires.2)))
+    (omega (arith, c.decreases), (c.requires.0.child, c.requires.1, omega (arith, part_fits c.args.part.now c.args.j c.in_ok-ends.ends.child (c.in_ok-k.ensures (depths_of (context_of c.args.ride).depths)).fits, c.requires.2)))
 
 pub past-r-requires : goal.dictionary::text_key-past-r-requires
 past-r-requires t c =
-    omega (arith, c.value-v.ensures.fits, c.requires.1.in_frame, (key_there _ _ _ _ _ c.key_ends-ends.ensures c.if-fault-ne0.false).width, width_small (c.args.e - c.args.j) (omega (arith, c.requires.1.in_frame, c.requires.3, c.requires.4)))
+    omega (arith, c.value-v.ensures.fits, c.requires.1.in_frame, (key_there _ _ _ _ _ (rw c.in_ok-ends.ensures at c.key_ends.ensures) refl).width, width_small (c.args.e - c.args.j) (omega (arith, c.requires.1.in_frame, c.requires.3, c.requires.4)))
 
 pub behind-requires : goal.dictionary::text_key-behind-requires
 behind-requires t c =
     omega (
       arith,
-      part_fits c.args.part.now c.args.j c.key_ends-ends.result.child (c.leaf-k.ensures (depths_of (context_of c.args.ride).depths)).fits,
+      part_fits c.args.part.now c.args.j c.in_ok-ends.ends.child (c.in_ok-k.ensures (depths_of (context_of c.args.ride).depths)).fits,
       (c.past-r.ensures _
-          (c.args.e - (c.args.j + c.leaf-k.result.used)) _
-          (length c.args.part.now - (c.args.j + c.leaf-k.result.used)) _ _ _
+          (c.args.e - (c.args.j + c.in_ok-k.k.used)) _
+          (length c.args.part.now - (c.args.j + c.in_ok-k.k.used)) _ _ _
           (λ x. omega (arith, c.value-v.ensures.ends x, c.if-e-from.false)) (omega (arith, c.requires.3, c.requires.4))
           c.value-v.ensures).fits,
       c.requires.1.in_frame,
@@ -111,7 +115,7 @@ behind-requires t c =
 pub returns : goal.dictionary::text_key-returns
 returns t c =
     let key = key_read c.args.text.now (c.args.at + 2) (omega (arith, value_within c.args.text.now c.args.shapes.now c.args.at c.requires.0)) (context_of c.args.ride).position (context_of c.args.ride).big
-    c.args.place c.args.part.now c.args.j c.key_ends-ends.result.child _ _ _ _ (omega (arith, (key_there _ _ _ _ _ c.key_ends-ends.ensures c.if-fault-ne0.false).end)) (omega
-    (arith, (key_there _ _ _ _ _ c.key_ends-ends.ensures c.if-fault-ne0.false).within, c.requires.4)) c.leaf-k.ensures (depths_of (context_of c.args.ride).depths) in
-    told c.behind.ensures (text_key_value _ _ _ _ _ _ _ (key_there _ _ _ _ _ c.key_ends-ends.ensures c.if-fault-ne0.false) _ _ c.requires.3 c.requires.4 _ _ key c.if-refusal-ne0.false c.if-e-from.false _ _ _
+    c.args.place c.args.part.now c.args.j c.in_ok-ends.ends.child _ _ _ _ (omega (arith, (key_there _ _ _ _ _ (rw c.in_ok-ends.ensures at c.key_ends.ensures) refl).end)) (omega
+    (arith, (key_there _ _ _ _ _ (rw c.in_ok-ends.ensures at c.key_ends.ensures) refl).within, c.requires.4)) c.in_ok-k.ensures (depths_of (context_of c.args.ride).depths) in
+    told c.behind.ensures (text_key_value _ _ _ _ _ _ _ (key_there _ _ _ _ _ (rw c.in_ok-ends.ensures at c.key_ends.ensures) refl) _ _ c.requires.3 c.requires.4 _ _ key refl c.if-e-from.false _ _ _
     c.value-v.ensures c.past-r.ensures)

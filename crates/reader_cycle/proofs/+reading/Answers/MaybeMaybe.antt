@@ -1,6 +1,8 @@
 -- The needs of `maybe::maybe`, and what answers each.
+use Rattle.meaning.proofs.RefusalLaws.{number_not_0}
+use Rattle.reader_basic.proofs.Answers.{told_by, refused_at}
 use Rattle.reader_steps.proofs.Characters.{typed_within}
-use Rattle.reader_steps.proofs.Deepening.{inside_deeper, level_falls, told}
+use Rattle.reader_steps.proofs.Deepening.{inside_deeper, level_falls}
 use Rattle.reader_steps.proofs.Maybes.{maybe_deep, maybe_fixed, maybe_none, maybe_other}
 use Rattle.signature.proofs.TreeLaws.{described_fixed, maybe_described}
 use mathlib.Core.Path.{◌∙◌, refl}
@@ -13,15 +15,16 @@ overflow_add-place t c =
 
 pub returns-then-part-lead : goal.maybe::maybe-returns-then-part-lead
 returns-then-part-lead t c =
-    told c.done.ensures (maybe_none c.requires.0.typed c.requires.1 _ _ _ _ _ _ _ _ c.if-part-lead.true c.emit-m.ensures.counted c.emit-m.ensures.written)
+    told_by c.done.ensures (maybe_none c.requires.0.typed c.requires.1 _ _ _ _ _ _ _ _ c.if-part-lead.true c.emit-m.ensures.counted c.emit-m.ensures.written)
 
-pub in_maybe-inner-requires : goal.maybe::maybe-in_maybe-inner-requires
-in_maybe-inner-requires t c =
+pub in_maybe-requires : goal.maybe::maybe-in_maybe-requires
+in_maybe-requires t c =
     c.requires.2.shallow
 
-pub returns-then-refusal-ne0 : goal.maybe::maybe-returns-then-refusal-ne0
-returns-then-refusal-ne0 t c =
-    told c.refused.ensures (maybe_deep c.requires.0.typed c.requires.1 _ _ _ _ _ _ c.if-part-lead.false c.in_maybe-inner.ensures c.if-refusal-ne0.true)
+pub returns-in_err-deeper : goal.maybe::maybe-returns-in_err-deeper
+returns-in_err-deeper t c =
+    let s = c.in_err-deeper.ensures in
+    refused_at _ _ c.from_residual.ensures s (maybe_deep c.requires.0.typed c.requires.1 _ _ _ _ _ _ c.if-part-lead.false (rw s.refusal at c.in_maybe.ensures) (number_not_0 _))
 
 pub overflow_add-place-2 : goal.maybe::maybe-overflow_add-place-2
 overflow_add-place-2 t c =
@@ -41,17 +44,17 @@ bounds-shapes-held t c =
 
 pub value-requires : goal.maybe::maybe-value-requires
 value-requires t c = (
-  omega (arith, level_falls (c.in_maybe-inner.ensures.deeper c.if-refusal-ne0.false), c.decreases),
+  omega (arith, level_falls ((rw c.in_ok-deeper.ensures at c.in_maybe.ensures).deeper refl), c.decreases),
   (
     (maybe_described _ _ c.requires.0.typed c.requires.1 _ c.requires.0.table),
-    inside_deeper (c.in_maybe-inner.ensures.deeper c.if-refusal-ne0.false) c.requires.2,
+    inside_deeper ((rw c.in_ok-deeper.ensures at c.in_maybe.ensures).deeper refl) c.requires.2,
     c.requires.3,
   ),
 )
 
 pub returns-then-fixed : goal.maybe::maybe-returns-then-fixed
 returns-then-fixed t c =
-    maybe_fixed c.requires.0.typed c.requires.1 _ _ _ _ _ _ c.if-part-lead.false (c.in_maybe-inner.ensures.deeper c.if-refusal-ne0.false)
+    maybe_fixed c.requires.0.typed c.requires.1 _ _ _ _ _ _ c.if-part-lead.false ((rw c.in_ok-deeper.ensures at c.in_maybe.ensures).deeper refl)
     c.emit-m-2.ensures.counted c.emit-m-2.ensures.written refl
     (c.fixed_of-fixed.ensures ∙ described_fixed (maybe_described _ _ c.requires.0.typed c.requires.1 _ c.requires.0.table)) _ _ c.if-fixed.true c.value.ensures
 
@@ -60,10 +63,10 @@ overflow_sub-stop t c = omega arith
 
 pub value-r-requires : goal.maybe::maybe-value-r-requires
 value-r-requires t c = (
-  omega (arith, level_falls (c.in_maybe-inner.ensures.deeper c.if-refusal-ne0.false), c.decreases),
+  omega (arith, level_falls ((rw c.in_ok-deeper.ensures at c.in_maybe.ensures).deeper refl), c.decreases),
   (
     (maybe_described _ _ c.requires.0.typed c.requires.1 _ c.requires.0.table),
-    inside_deeper (c.in_maybe-inner.ensures.deeper c.if-refusal-ne0.false) c.requires.2,
+    inside_deeper ((rw c.in_ok-deeper.ensures at c.in_maybe.ensures).deeper refl) c.requires.2,
     c.requires.3,
   ),
 )
@@ -74,7 +77,7 @@ end_byte-requires t c =
 
 pub returns : goal.maybe::maybe-returns
 returns t c =
-    maybe_other c.requires.0.typed c.requires.1 _ _ _ _ _ _ c.if-part-lead.false (c.in_maybe-inner.ensures.deeper c.if-refusal-ne0.false)
+    maybe_other c.requires.0.typed c.requires.1 _ _ _ _ _ _ c.if-part-lead.false ((rw c.in_ok-deeper.ensures at c.in_maybe.ensures).deeper refl)
     c.emit-m-2.ensures.counted c.emit-m-2.ensures.written refl
     (c.fixed_of-fixed.ensures ∙ described_fixed (maybe_described _ _ c.requires.0.typed c.requires.1 _ c.requires.0.table)) _ _ c.if-fixed.false
     (c.end_byte.ensures _ _ _ _ _ c.value-r.ensures)

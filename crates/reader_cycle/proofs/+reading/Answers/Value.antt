@@ -1,17 +1,16 @@
 -- The needs of `value`, and what answers each.
+use Rattle.reader_basic.proofs.Answers.{told_by}
 use Rattle.reader_basic.proofs.Leaves.{child_before, child_past, child_there, within_child}
 use Rattle.reader_steps.proofs.Characters.{contains_code, typed_within, value_leaf}
-use Rattle.reader_steps.proofs.Deepening.{told}
 use native.Mathlib.Omega.{arith}
 use Rattle.reader_cycle.proofs.+reading.Goals as goal
+use Rattle.reader_cycle.proofs.+reading.Goals.{value-then-e-j-via-then-e-j, value-then-e-j-via-else-e-j+then-part-e}
 
 pub returns-then-e-j : goal.value-returns-then-e-j
-returns-then-e-j t c =
-    told c.refused.ensures (child_before _ _ _ _ _ _ _ _ _ c.if-e-j.true)
-
-pub returns-then-part-e : goal.value-returns-then-part-e
-returns-then-part-e t c =
-    told c.refused-then-part-e.ensures (child_past _ _ _ _ _ _ _ _ _ c.if-e-j.false c.if-part-e.true)
+returns-then-e-j t c = told_by c.refused.ensures (elim c.then-e-j.branch [
+  | value-then-e-j-via-then-e-j w ↦ child_before _ _ _ _ _ _ _ _ _ w.if-e-j.true
+  | value-then-e-j-via-else-e-j+then-part-e w ↦ child_past _ _ _ _ _ _ _ _ _ w.if-e-j.false w.if-part-e.true
+])
 
 pub slice_bounds-own-start : goal.value-slice_bounds-own-start
 slice_bounds-own-start t c = omega arith

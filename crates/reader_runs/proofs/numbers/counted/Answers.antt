@@ -1,5 +1,4 @@
 -- `reader_runs::numbers::counted` meets its contract. Assumes nothing.
-use mathlib.Core.Path.{◌∙◌}
 use native.Mathlib.Nat.{mod-le}
 use Rattle.reader_runs.proofs.NumberLaws.{counted_over, counted_all}
 use Rattle.reader_runs.proofs.numbers.counted.Goals as goal
@@ -10,8 +9,8 @@ overflow_sub-left c =
 
 pub returns-then-over-ne0 : goal.returns-then-over-ne0
 returns-then-over-ne0 c =
-    (c.refused.ensures ∙ counted_over _ _ _ _ c.if-over-ne0.true c.plus-count.ensures.0, c.plus-count.ensures.1)
+    rw c.refused.ensures (counted_over _ _ _ _ c.if-over-ne0.true c.saturating_add-count.ensures)
 
 pub returns : goal.returns
 returns c =
-    (c.done.ensures ∙ counted_all _ _ _ _ c.if-over-ne0.false c.plus-count.ensures.0, c.plus-count.ensures.1)
+    rw c.done.ensures (counted_all _ _ _ _ c.if-over-ne0.false c.saturating_add-count.ensures)

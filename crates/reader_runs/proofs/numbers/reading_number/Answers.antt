@@ -3,8 +3,4 @@ use Rattle.reader_runs.proofs.numbers.reading_number.Goals as goal
 
 pub returns-then-width-eq2 : goal.returns-then-width-eq2
 returns-then-width-eq2 c =
-    λ a. rw c.if-width-eq2.true c.two_at.ensures
-
-pub returns : goal.returns
-returns c =
-    λ a. c.number_at.ensures a
+    λ a. rw c.if-width-eq2.true c.number.ensures

@@ -1,53 +1,46 @@
 -- `reader_runs::numbers::run` meets its contract. Assumes nothing.
 use mathlib.Core.Path.{◌∙◌}
 use native.Mathlib.Omega.{arith}
+use Rattle.utils.proofs.Answered.{checked_value}
 use Rattle.meaning.proofs.PaddingLaws.{aligns_positive}
+use Rattle.meaning.proofs.TypeLaws.{aligns_most}
 use Rattle.reader_runs.proofs.NumberLaws.{run_begin, run_next, run_short, run_full, found_there}
 use Rattle.reader_runs.proofs.numbers.run.Goals as goal
-
-pub byte_run-requires : goal.byte_run-requires
-byte_run-requires c = (c.requires.0, c.requires.1)
-
-pub returns-then-width-eq1 : goal.returns-then-width-eq1
-returns-then-width-eq1 c = rw c.if-width-eq1.true (c.byte_run.ensures c.args.big)
-
-pub overflow_sub-len : goal.overflow_sub-len
-overflow_sub-len c =
-    omega arith
-
-pub counted-answer-requires : goal.counted-answer-requires
-counted-answer-requires c =
-    aligns_positive c.requires.2
+use Rattle.reader_runs.proofs.numbers.run.Goals.{then-loop-count-test+else-len-at, else-loop-count-test}
 
 pub loop-count-init : goal.loop-count-init
-loop-count-init c =
+loop-count-init g c =
     run_begin _ _ _ _ _ _ _ _ c.requires.2 c.requires.1
 
-pub overflow_sub-len-in-loop-count : goal.overflow_sub-len-in-loop-count
-overflow_sub-len-in-loop-count c =
+pub overflow_sub-len : goal.overflow_sub-len
+overflow_sub-len g c =
     omega (arith, c.loop-count.invariant.bound)
 
-pub returns-then-len-at : goal.returns-then-len-at
-returns-then-len-at c =
-    run_short _ _ _ _ _ _ _ _ _ _ _ c.loop-count.invariant _ c.counted-answer.ensures.0 c.counted-answer.ensures.1 c.if-len-at.true
+pub number-requires : goal.number-requires
+number-requires g c = aligns_most c.requires.2
 
 pub overflow_add-place : goal.overflow_add-place
-overflow_add-place c =
+overflow_add-place g c =
     omega (arith, c.loop-count.invariant.bound)
 
 pub overflow_add-at : goal.overflow_add-at
-overflow_add-at c =
+overflow_add-at g c =
     omega (arith, c.loop-count.invariant.bound)
 
 pub loop-count-smaller : goal.loop-count-smaller
-loop-count-smaller c =
-    omega (arith, c.if-len-at.false, aligns_positive c.requires.2)
+loop-count-smaller g c =
+    omega (arith, c.if-len-at.true, aligns_positive c.requires.2)
 
 pub loop-count-preserved : goal.loop-count-preserved
-loop-count-preserved c =
-    let found = found_there _ _ _ _ _ (c.number_at-found.ensures c.requires.2) c.loop-count.invariant.bound c.if-len-at.false in
-    run_next _ _ _ _ _ _ _ _ _ _ _ c.loop-count.invariant c.requires.2 _ _ _ c.if-len-at.false found c.emit-count.ensures.counted (c.emit-count.ensures.written ∙ rw c.wide-kind.ensures)
+loop-count-preserved g c =
+    let found = c.unwrap_or-found.ensures ∙ checked_value c.number.result ∙ found_there _ _ _ _ _ c.number.ensures c.loop-count.invariant.bound c.if-len-at.true in
+    run_next _ _ _ _ _ _ _ _ _ _ _ c.loop-count.invariant c.requires.2 _ _ _ c.if-len-at.true found c.emit-count.ensures.counted (c.emit-count.ensures.written ∙ rw c.from-kind.ensures)
+
+pub counted-requires : goal.counted-requires
+counted-requires g c = aligns_positive c.requires.2
 
 pub returns : goal.returns
-returns c =
-    run_full _ _ _ _ _ _ _ _ _ _ _ c.loop-count.invariant _ c.counted-answer.ensures.0 c.counted-answer.ensures.1 c.loop-count-test.false
+returns g c = elim c.loop-count-test.branch [
+  | then-loop-count-test+else-len-at w ↦ run_short _ _ _ _ _ _ _ _ _ _ _ c.loop-count.invariant _ c.counted.ensures (omega arith) w.if-len-at.false
+  | else-loop-count-test w ↦ run_full _ _ _ _ _ _ _ _ _ _ _ c.loop-count.invariant _ c.counted.ensures (omega arith) w.loop-count-test.false
+]

@@ -28,18 +28,18 @@ pub returns-then-is_fixed : goal.returns-then-is_fixed
 returns-then-is_fixed c =
     fixed_entry _ _ _ c.requires c.if-text-at-eq123.true (sym c.if-is_fixed.true ∙ c.is_fixed.ensures) c.fixed_of.ensures
 
-pub returns-then-text-at-eq123 : goal.returns-then-text-at-eq123
-returns-then-text-at-eq123 c =
-    fixed_text_entry _ _ _ c.requires c.if-text-at-eq123.true (sym c.if-is_fixed.false ∙ c.is_fixed.ensures)
+pub returns-else-is_fixed : goal.returns-else-is_fixed
+returns-else-is_fixed c =
+    c.if-is_fixed.false ∙ fixed_text_entry _ _ _ c.requires c.if-text-at-eq123.true (sym c.if-is_fixed.false ∙ c.is_fixed.ensures)
 
-pub overflow_add-at-2 : goal.overflow_add-at-2
-overflow_add-at-2 c = omega (arith, item_within _ _ _ _ c.requires, c.requires.child.typed.short)
+pub overflow_add-at-else-text-at-eq123 : goal.overflow_add-at-else-text-at-eq123
+overflow_add-at-else-text-at-eq123 c = omega (arith, item_within _ _ _ _ c.requires, c.requires.child.typed.short)
 
-pub offset_bounds-shapes-at-2 : goal.offset_bounds-shapes-at-2
-offset_bounds-shapes-at-2 c = omega (arith, item_within _ _ _ _ c.requires, c.requires.child.typed.short)
+pub offset_bounds-shapes-at-else-text-at-eq123 : goal.offset_bounds-shapes-at-else-text-at-eq123
+offset_bounds-shapes-at-else-text-at-eq123 c = omega (arith, item_within _ _ _ _ c.requires, c.requires.child.typed.short)
 
-pub bounds-shapes-at-2 : goal.bounds-shapes-at-2
-bounds-shapes-at-2 c = omega (arith, item_within _ _ _ _ c.requires, c.requires.child.typed.short)
+pub bounds-shapes-at-else-text-at-eq123 : goal.bounds-shapes-at-else-text-at-eq123
+bounds-shapes-at-else-text-at-eq123 c = omega (arith, item_within _ _ _ _ c.requires, c.requires.child.typed.short)
 
-pub returns : goal.returns
-returns c = fixed_element c.args.text.now c.args.shapes.now c.args.at c.if-text-at-eq123.false c.fixed_of-2.ensures
+pub returns-else-text-at-eq123 : goal.returns-else-text-at-eq123
+returns-else-text-at-eq123 c = fixed_element c.args.text.now c.args.shapes.now c.args.at c.if-text-at-eq123.false c.fixed_of-else-text-at-eq123.ensures

@@ -9,11 +9,11 @@ returns-then-code-eq121 c = leaf_as _ _ _ _ _ _ _ _ _ _ (byte_code _ c.if-code-e
 
 pub number-requires : goal.number-requires
 number-requires c =
-    (inside_as c.context_of-context.ensures c.requires, code_aligned _ _ c.number_width-width.ensures c.if-width-ne0.true)
+    (inside_as c.context_of-context.ensures c.requires, code_aligned _ _ c.in-Some.ensures.0 c.in-Some.ensures.1)
 
-pub returns-then-width-ne0 : goal.returns-then-width-ne0
-returns-then-width-ne0 c =
-    leaf_as _ _ _ _ _ _ _ _ _ _ (number_code _ _ c.number_width-width.ensures c.if-width-ne0.true) (number_as c.context_of-context.ensures _ _ _ _ c.number.ensures)
+pub returns-in-Some : goal.returns-in-Some
+returns-in-Some c =
+    leaf_as _ _ _ _ _ _ _ _ _ _ (number_code _ _ c.in-Some.ensures.0 c.in-Some.ensures.1) (number_as c.context_of-context.ensures _ _ _ _ c.number.ensures)
 
 pub returns-then-is_text : goal.returns-then-is_text
 returns-then-is_text c =
@@ -21,5 +21,5 @@ returns-then-is_text c =
 
 pub returns : goal.returns
 returns c =
-    leaf_bool _ _ _ _ _ _ _ _ _ (sym c.if-width-ne0.false ∙ c.number_width-width.ensures) (sym
+    leaf_bool _ _ _ _ _ _ _ _ _ c.in_default.ensures (sym
     c.if-is_text.false ∙ c.is_text.ensures) c.boolean.ensures

@@ -1,13 +1,10 @@
 -- `reader_steps::opening::in_variant` meets its contract. Assumes nothing.
-use Rattle.reader_steps.proofs.Rides.{shallow, variant_full, variant_more, fits_more}
-use Rattle.std.proofs.Common.{sym, ◌∙◌, arith, leb-false, leb-true}
+use Rattle.reader_steps.proofs.Rides.{shallow, opens_by, variant_full, variant_more, fits_more}
+use Rattle.std.proofs.Common.{arith}
 use Rattle.reader_steps.proofs.opening.in_variant.Goals as goal
 
-pub returns-then-is_full : goal.returns-then-is_full
-returns-then-is_full c = variant_full _ (shallow _ c.requires) (leb-true 64 _ (sym c.is_full.ensures ∙ c.if-is_full.true))
-
-pub overflow_add-result : goal.overflow_add-result
-overflow_add-result c = omega (arith, fits_more _ 281474976710656 (omega arith) (omega arith) (shallow _ c.requires))
+pub inside-requires : goal.inside-requires
+inside-requires c = (c.requires, fits_more _ 281474976710656 (omega arith) (omega arith) (shallow _ c.requires))
 
 pub returns : goal.returns
-returns c = variant_more _ (shallow _ c.requires) (leb-false 64 _ (sym c.is_full.ensures ∙ c.if-is_full.false))
+returns c = rw c.inside.ensures (opens_by _ _ (variant_full _ (shallow _ c.requires)) (variant_more _ (shallow _ c.requires)))

@@ -7,6 +7,6 @@ pub returns-then-fixed_of : goal.returns-then-fixed_of
 returns-then-fixed_of c =
     λ read n l l' d. closed_by_padding read _ _ _ _ _ _ _ n l l' _ _ d (sym c.fixed_of.ensures ∙ c.if-fixed_of.true) (c.requires.5 (sym c.fixed_of.ensures ∙ c.if-fixed_of.true)) c.end_padded.ensures
 
-pub returns : goal.returns
-returns c =
+pub returns-else-fixed_of : goal.returns-else-fixed_of
+returns-else-fixed_of c =
     λ read n l l' d. closed_by_table read _ _ _ _ _ _ _ n l l' _ _ d (sym c.fixed_of.ensures ∙ c.if-fixed_of.false) c.requires.4 c.past.ensures

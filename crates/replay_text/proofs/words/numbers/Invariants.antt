@@ -1,9 +1,6 @@
--- The row has room for the numbers that are counted. The measure is what is left of the text.
-use Rattle.std.proofs.Common.{length, ◌-◌, ◌≤◌}
+-- The row has room for the numbers that are counted.
+use Rattle.std.proofs.Common.{◌≤◌}
 use Rattle.replay_text.proofs.words.numbers.Given as goal
 
-abbrev pub invariant-loop-blank : goal.invariant-loop-blank
-invariant-loop-blank l = (l.blank ≤ length l.text) × (l.count ≤ 221184)
-
-abbrev pub decreases-loop-blank : goal.decreases-loop-blank
-decreases-loop-blank l = length l.text - l.blank
+abbrev pub invariant-loop-word : goal.invariant-loop-word
+invariant-loop-word l = l.count ≤ 221184

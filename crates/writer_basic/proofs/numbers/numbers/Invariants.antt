@@ -4,8 +4,8 @@ use lib.ListN.{length}
 use Rattle.writer_basic.proofs.NumberRows.{NumbersLeft}
 use Rattle.writer_basic.proofs.numbers.numbers.Given as goal
 
-abbrev pub invariant-loop-e : goal.invariant-loop-e
-invariant-loop-e l = NumbersLeft l.code l.width l.big l.events l.initial.e l.base l.initial.out l.e l.k l.out
+abbrev pub invariant-loop-all : goal.invariant-loop-all
+invariant-loop-all l = NumbersLeft l.code l.width l.big l.events l.initial.all.next l.spot.start l.initial.out l.all.next l.all.size l.out
 
-abbrev pub decreases-loop-e : goal.decreases-loop-e
-decreases-loop-e l = length l.events - l.e
+abbrev pub decreases-loop-all : goal.decreases-loop-all
+decreases-loop-all l = length l.events - l.all.next

@@ -1,18 +1,21 @@
 -- `writer_basic::numbers::reading` meets its contract. Assumes nothing.
+use mathlib.Core.Path.{refl}
 use borrow.Author.Tests.{not-true, not-false}
-use Rattle.writer_basic.proofs.Answers.{key_aligned}
+use Rattle.meaning.proofs.RefusalNumbers.{number_not_0}
+use Rattle.writer_basic.proofs.Answers.{refused_on, key_aligned}
 use Rattle.writer_basic.proofs.Openings.{maybe_empty, maybe_neither, maybe_deep}
 use Rattle.writer_basic.proofs.NumberRows.{reading_on, number_done}
 use Rattle.writer_basic.proofs.numbers.reading.Goals as goal
 
 pub returns-then-plain_at : goal.returns-then-plain_at
-returns-then-plain_at c = λ texts top s. rw c.wrote.ensures (maybe_empty _ _ _ _ _ _ _ top _ s (c.plain_at.ensures.here c.if-plain_at.true))
+returns-then-plain_at c = λ texts top s. maybe_empty _ _ _ _ _ _ _ top _ s (c.plain_at.ensures.here c.if-plain_at.true)
 
 pub returns-then-not-plain_at : goal.returns-then-not-plain_at
-returns-then-not-plain_at c = λ texts top s. rw c.refused.ensures (maybe_neither _ _ _ _ _ _ _ top _ s _ _ (c.plain_at.ensures.not c.if-plain_at.false) (c.plain_at-2.ensures.not (not-true _ c.if-not-plain_at.true-raw)))
+returns-then-not-plain_at c = λ texts top s. maybe_neither _ _ _ _ _ _ _ top _ s _ _ (c.plain_at.ensures.not c.if-plain_at.false) (c.plain_at-2.ensures.not (not-true _ c.if-not-plain_at.true-raw))
 
-pub returns-then-refusal-ne0 : goal.returns-then-refusal-ne0
-returns-then-refusal-ne0 c = λ texts top s. rw c.refused-then-refusal-ne0.ensures (maybe_deep _ _ _ _ _ _ _ top _ s (c.plain_at-2.ensures.here (not-false _ c.if-not-plain_at.false-raw)) _ c.inc_maybe-raised.ensures _ _ c.if-refusal-ne0.true)
+pub returns-in_err-inc_maybe : goal.returns-in_err-inc_maybe
+returns-in_err-inc_maybe c =
+    λ texts top s. refused_on _ _ c.from_residual.ensures (maybe_deep _ _ _ _ _ _ _ top _ s (c.plain_at-2.ensures.here (not-false _ c.if-not-plain_at.false-raw)) _ c.in_err-inc_maybe.ensures _ _ (number_not_0 _))
 
 pub number-requires : goal.number-requires
 number-requires c =
@@ -20,5 +23,5 @@ number-requires c =
 
 pub returns : goal.returns
 returns c =
-    λ texts top s. reading_on texts _ _ _ _ _ _ top _ _ s _ (c.plain_at-2.ensures.here (not-false _ c.if-not-plain_at.false-raw)) _ c.inc_maybe-raised.ensures c.if-refusal-ne0.false
+    λ texts top s. reading_on texts _ _ _ _ _ _ top _ _ s _ (c.plain_at-2.ensures.here (not-false _ c.if-not-plain_at.false-raw)) _ c.in_ok-inc_maybe.ensures refl
     (λ d top s. number_done _ _ c.requires.2 _ _ _ _ _ _ _ c.number.ensures texts d top s)

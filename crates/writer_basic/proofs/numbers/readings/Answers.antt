@@ -2,89 +2,59 @@
 use native.Mathlib.Omega.{arith}
 use mathlib.Core.Path.{refl}
 use mathlib.Core.List.{[]}
+use Rattle.meaning.proofs.RefusalNumbers.{number_not_0}
 use Rattle.container_depths.specs.Opening.{depths_of}
 use Rattle.signature.specs.declared.Letter.TheVariants.{Number}
 use Rattle.writer_basic.specs.Wrote.{key_basic}
 use Rattle.writer_basic.proofs.Answers.{bounds, key_aligned}
-use Rattle.writer_basic.proofs.Rows.{left_all, left_short, left_shut, left_stop, left_on}
+use Rattle.writer_basic.proofs.Rows.{stopped_on, left_short, left_shut, left_stop, left_on}
 use Rattle.writer_basic.proofs.NumberRows.{number_alignment, number_fixed, reading_alignment, reading_shorter}
 use Rattle.writer_basic.proofs.numbers.readings.Goals as goal
 
-pub loop-e-init : goal.loop-e-init
-loop-e-init c = λ texts. left_all _ _ _ _ _ _ _ _ c.requires.1.within
-
 pub overflow_sub-events : goal.overflow_sub-events
-overflow_sub-events c = omega (arith, (c.loop-e.invariant []).within)
+overflow_sub-events c = omega (arith, (c.loop-row.invariant []).within)
 
-pub offset_bounds-events-e : goal.offset_bounds-events-e
-offset_bounds-events-e c = omega arith
+pub returns-then-events-row-eq-CONTAINER_END : goal.returns-then-events-row-eq-CONTAINER_END
+returns-then-events-row-eq-CONTAINER_END c = λ texts. left_shut _ _ _ _ _ _ _ _ _ _ _ _ _ (c.loop-row.invariant texts) (omega (arith, (c.loop-row.invariant []).within, c.loop-row-test.true)) c.if-events-row-eq-CONTAINER_END.true
 
-pub bounds-events-e : goal.bounds-events-e
-bounds-events-e c = (omega (arith, (c.loop-e.invariant []).within, c.loop-e-test.true))
+pub overflow_add-spot : goal.overflow_add-spot
+overflow_add-spot c = omega (arith, (c.loop-row.invariant []).small, c.requires.1.near)
 
-pub shape_of-out-then-events-e-eq-CONTAINER_END : goal.shape_of-out-then-events-e-eq-CONTAINER_END
-shape_of-out-then-events-e-eq-CONTAINER_END c = omega (arith, (c.loop-e.invariant []).same)
+pub pad-padding-requires : goal.pad-padding-requires
+pad-padding-requires c = (omega (arith, (c.loop-row.invariant []).small, c.requires.1.near), key_aligned _ _ c.requires.0)
 
-pub shape_of-ends-then-events-e-eq-CONTAINER_END : goal.shape_of-ends-then-events-e-eq-CONTAINER_END
-shape_of-ends-then-events-e-eq-CONTAINER_END c = omega (arith, (c.loop-e.invariant []).sames)
-
-pub returns-then-events-e-eq-CONTAINER_END : goal.returns-then-events-e-eq-CONTAINER_END
-returns-then-events-e-eq-CONTAINER_END c = λ texts. rw c.ran.ensures (left_shut _ _ _ _ _ _ _ _ _ _ _ _ _ (c.loop-e.invariant texts) (omega (arith, (c.loop-e.invariant []).within, c.loop-e-test.true)) c.if-events-e-eq-CONTAINER_END.true)
-
-pub overflow_add-base : goal.overflow_add-base
-overflow_add-base c = omega (arith, (c.loop-e.invariant []).small, c.requires.1.near)
-
-pub pad-p-requires : goal.pad-p-requires
-pad-p-requires c = (omega (arith, (c.loop-e.invariant []).small, c.requires.1.near), key_aligned _ _ c.requires.0)
-
-pub overflow_add-k : goal.overflow_add-k
-overflow_add-k c = omega (arith, (c.loop-e.invariant []).small, c.pad-p.ensures.count.1)
+pub overflow_add-row : goal.overflow_add-row
+overflow_add-row c = omega (arith, (c.loop-row.invariant []).small, c.pad-padding.ensures.count.1)
 
 pub add-start-requires : goal.add-start-requires
-add-start-requires c = (omega (arith, c.requires.1.near), omega (arith, (c.loop-e.invariant []).small, c.pad-p.ensures.count.1))
+add-start-requires c = (omega (arith, c.requires.1.near), omega (arith, (c.loop-row.invariant []).small, c.pad-padding.ensures.count.1))
 
-pub reading-r-requires : goal.reading-r-requires
-reading-r-requires c = ((c.loop-e.invariant []).within, omega (arith, c.add-start.ensures), c.requires.0)
+pub returns-in_err-one : goal.returns-in_err-one
+returns-in_err-one c =
+    λ texts. stopped_on _ _ c.from_residual.ensures
+    (left_stop _ _ _ _ _ _ _ _ _ _ _ _ _ (c.loop-row.invariant texts) (omega (arith, (c.loop-row.invariant []).within, c.loop-row-test.true)) c.if-events-row-eq-CONTAINER_END.false _ 0 _ _ _ _ (c.in_err-one.ensures texts 0 _) (number_not_0 _))
 
-pub shape_of-out-then-refusal-ne0 : goal.shape_of-out-then-refusal-ne0
-shape_of-out-then-refusal-ne0 c =
-    omega (arith, (c.loop-e.invariant []).same, c.reading-r.auto.out, c.pad-p.auto.out)
+pub overflow_add-row-in-loop-row : goal.overflow_add-row-in-loop-row
+overflow_add-row-in-loop-row c = omega (arith, (c.loop-row.invariant []).small, c.pad-padding.ensures.count.1)
 
-pub shape_of-ends-then-refusal-ne0 : goal.shape_of-ends-then-refusal-ne0
-shape_of-ends-then-refusal-ne0 c = omega (arith, (c.loop-e.invariant []).sames)
+pub add-requires : goal.add-requires
+add-requires c =
+    (omega (arith, (c.loop-row.invariant []).small, c.pad-padding.ensures.count.1), let q = bounds refl (c.in_ok-one.ensures [] 0 []) in omega (arith, q.small))
 
-pub returns-then-refusal-ne0 : goal.returns-then-refusal-ne0
-returns-then-refusal-ne0 c =
-    λ texts. rw c.stopped.ensures
-    (left_stop _ _ _ _ _ _ _ _ _ _ _ _ _ (c.loop-e.invariant texts) (omega (arith, (c.loop-e.invariant []).within, c.loop-e-test.true)) c.if-events-e-eq-CONTAINER_END.false _ 0 _ _ _ _ (c.reading-r.ensures texts 0 _) c.if-refusal-ne0.true)
+pub keep-requires : goal.keep-requires
+keep-requires c =
+    omega (arith, (c.loop-row.invariant []).few, c.requires.1.few)
 
-pub overflow_add-k-in-loop-e : goal.overflow_add-k-in-loop-e
-overflow_add-k-in-loop-e c = omega (arith, (c.loop-e.invariant []).small, c.pad-p.ensures.count.1)
+pub loop-row-smaller : goal.loop-row-smaller
+loop-row-smaller c = let q = bounds refl (c.in_ok-one.ensures [] 0 []) in omega (arith, q.forward, q.within)
 
-pub add-k-requires : goal.add-k-requires
-add-k-requires c =
-    (omega (arith, (c.loop-e.invariant []).small, c.pad-p.ensures.count.1), let q = bounds c.if-refusal-ne0.false (c.reading-r.ensures [] 0 []) in omega (arith, q.small))
-
-pub keep-j-requires : goal.keep-j-requires
-keep-j-requires c =
-    omega (arith, (c.loop-e.invariant []).few, c.requires.1.few)
-
-pub loop-e-smaller : goal.loop-e-smaller
-loop-e-smaller c = let q = bounds c.if-refusal-ne0.false (c.reading-r.ensures [] 0 []) in omega (arith, q.forward, q.within)
-
-pub loop-e-preserved : goal.loop-e-preserved
-loop-e-preserved c =
-    λ texts. left_on _ _ _ _ _ _ _ _ _ _ _ _ _ (c.loop-e.invariant texts) (omega (arith, (c.loop-e.invariant []).within, c.loop-e-test.true)) c.if-events-e-eq-CONTAINER_END.false _ _ _ _ _ _ (c.reading-r.ensures texts _ _) _ _
+pub loop-row-preserved : goal.loop-row-preserved
+loop-row-preserved c =
+    λ texts. left_on _ _ _ _ _ _ _ _ _ _ _ _ _ (c.loop-row.invariant texts) (omega (arith, (c.loop-row.invariant []).within, c.loop-row-test.true)) c.if-events-row-eq-CONTAINER_END.false _ _ _ _ _ _ (c.in_ok-one.ensures texts _ _) _ _
     _ _ _ _ (reading_shorter texts c.args.context.big (key_basic (Number c.args.code c.args.width)) (depths_of c.args.context.depths) (number_fixed _ _ c.requires.0))
-    (reading_alignment texts c.args.context.big (key_basic (Number c.args.code c.args.width)) (depths_of c.args.context.depths) _ _ (number_alignment _ _ c.requires.0)) c.if-refusal-ne0.false
-    c.pad-p.ensures.count.0 c.pad-p.ensures.bytes c.add-start.ensures refl c.add-k.ensures c.keep-j.ensures (omega (arith, (c.loop-e.invariant []).same)) (omega (arith, (c.loop-e.invariant []).same))
-    (omega (arith, (c.loop-e.invariant []).sames)) (omega (arith, (c.loop-e.invariant []).sames))
-
-pub shape_of-out : goal.shape_of-out
-shape_of-out c = omega (arith, (c.loop-e.invariant []).same)
-
-pub shape_of-ends : goal.shape_of-ends
-shape_of-ends c = omega (arith, (c.loop-e.invariant []).sames)
+    (reading_alignment texts c.args.context.big (key_basic (Number c.args.code c.args.width)) (depths_of c.args.context.depths) _ _ (number_alignment _ _ c.requires.0)) refl
+    c.pad-padding.ensures.count.0 c.pad-padding.ensures.bytes c.add-start.ensures refl c.add.ensures c.keep.ensures (omega (arith, (c.loop-row.invariant []).same)) (omega (arith, (c.loop-row.invariant []).same))
+    (omega (arith, (c.loop-row.invariant []).sames)) (omega (arith, (c.loop-row.invariant []).sames))
 
 pub returns : goal.returns
-returns c = λ texts. rw c.stopped-2.ensures (left_short _ _ _ _ _ _ _ _ _ _ _ _ _ (c.loop-e.invariant texts) (omega (arith, (c.loop-e.invariant []).within, c.loop-e-test.false)))
+returns c = λ texts. left_short _ _ _ _ _ _ _ _ _ _ _ _ _ (c.loop-row.invariant texts) (omega (arith, (c.loop-row.invariant []).within, c.loop-row-test.false))

@@ -11,9 +11,9 @@ use Rattle.writer_basic.specs.Wrote.{key_basic}
 use Rattle.writer_basic.proofs.Rows.{Left}
 use Rattle.writer_basic.proofs.numbers.readings.Given as goal
 
-abbrev pub invariant-loop-e : goal.invariant-loop-e
-invariant-loop-e l =
-    (texts : List ℕ) → Left false (emit_maybe (basic_alignment (key_basic (Number l.code l.width))) true (emit_basic texts l.context.big (key_basic (Number l.code l.width))) (depths_of l.context.depths)) l.events l.initial.e l.base l.top l.initial.out l.initial.ends l.e l.k l.j l.out l.ends
+abbrev pub invariant-loop-row : goal.invariant-loop-row
+invariant-loop-row l =
+    (texts : List ℕ) → Left false (emit_maybe (basic_alignment (key_basic (Number l.code l.width))) true (emit_basic texts l.context.big (key_basic (Number l.code l.width))) (depths_of l.context.depths)) l.events l.initial.row.next l.spot.start l.spot.top l.initial.out l.initial.ends l.row.next l.row.size l.row.count l.out l.ends
 
-abbrev pub decreases-loop-e : goal.decreases-loop-e
-decreases-loop-e l = length l.events - l.e
+abbrev pub decreases-loop-row : goal.decreases-loop-row
+decreases-loop-row l = length l.events - l.row.next

@@ -9,8 +9,8 @@ use Rattle.writer_basic.specs.Wrote.{key_basic}
 use Rattle.writer_basic.proofs.Rows.{Left}
 use Rattle.writer_basic.proofs.texts_run.texts.Given as goal
 
-abbrev pub invariant-loop-e : goal.invariant-loop-e
-invariant-loop-e l = (big : Bool) (d : Depths) → Left false (emit_basic l.texts big (key_basic (Text l.code)) d) l.events l.initial.e l.base l.top l.initial.out l.initial.ends l.e l.k l.j l.out l.ends
+abbrev pub invariant-loop-row : goal.invariant-loop-row
+invariant-loop-row l = (big : Bool) (d : Depths) → Left false (emit_basic l.texts big (key_basic (Text l.code)) d) l.events l.initial.row.next l.spot.start l.spot.top l.initial.out l.initial.ends l.row.next l.row.size l.row.count l.out l.ends
 
-abbrev pub decreases-loop-e : goal.decreases-loop-e
-decreases-loop-e l = length l.events - l.e
+abbrev pub decreases-loop-row : goal.decreases-loop-row
+decreases-loop-row l = length l.events - l.row.next

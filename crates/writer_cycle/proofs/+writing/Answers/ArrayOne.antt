@@ -5,10 +5,10 @@ use Rattle.writer_cycle.proofs.+writing.Goals as goal
 
 pub entry-requires : goal.array::one-entry-requires
 entry-requires t c =
-    (omega (arith, c.decreases), (c.requires.0, c.if-is_entry.true, c.requires.1, c.requires.2))
+    (omega (arith, c.decreases), (c.requires.0, c.if-item.true, c.requires.1, c.requires.2))
 
-pub returns-then-is_entry : goal.array::one-returns-then-is_entry
-returns-then-is_entry t c =
+pub returns-then-item : goal.array::one-returns-then-item
+returns-then-item t c =
     c.entry.ensures
 
 pub value-requires : goal.array::one-value-requires
@@ -17,4 +17,4 @@ value-requires t c =
 
 pub returns : goal.array::one-returns
 returns t c =
-    item_as_value _ _ _ _ _ _ _ _ _ _ _ _ _ _ _ c.if-is_entry.false c.value.ensures
+    item_as_value _ _ _ _ _ _ _ _ _ _ _ _ _ _ _ c.if-item.false c.value.ensures

@@ -4,22 +4,23 @@ use Rattle.meaning.specs.Depths.{none_open}
 use Rattle.meaning.specs.Types.{basic_alignment}
 use Rattle.meaning_writing.proofs.EmitLaws.{emit_alignment}
 use Rattle.signature.proofs.TreeLaws.{described_aligned, described_alignment}
-use Rattle.writer_basic.proofs.Answers.{bounds}
+use Rattle.meaning.proofs.RefusalNumbers.{number_not_0}
+use Rattle.writer_basic.proofs.Answers.{bounds, refused_on}
 use Rattle.writer_basic.specs.Wrote.{key_basic}
-use Rattle.writer_cycle.proofs.EntryRows.{entry_key, entry_no_ends, entry_row, entry_structured, item_as_entry, item_key_stop, item_value_stop, kept_few, row_as}
+use Rattle.writer_cycle.proofs.EntryRows.{entry_key, entry_no_ends, entry_row, entry_structured, item_as_entry, item_key_stop, item_value_stop, kept_few}
 use Rattle.writer_cycle.proofs.Spots.{placed_as, value_as}
 use mathlib.Core.List.{[]}
 use mathlib.Core.Path.{◌∙◌, refl, sym}
 use native.Mathlib.Omega.{arith}
 use Rattle.writer_cycle.proofs.+writing.Goals as goal
 
-pub basic_value-k-requires : goal.dictionary::entry-basic_value-k-requires
-basic_value-k-requires t c =
+pub basic_value-requires : goal.dictionary::entry-basic_value-requires
+basic_value-requires t c =
     (c.requires.3.within, c.requires.3.near, c.requires.0.key c.requires.1)
 
-pub returns-then-refusal-ne0 : goal.dictionary::entry-returns-then-refusal-ne0
-returns-then-refusal-ne0 t c =
-    item_key_stop _ _ _ _ _ _ _ _ _ _ _ _ _ _ _ c.requires.1 (c.basic_value-k.ensures _ _ _) c.if-refusal-ne0.true
+pub returns-in_err-key : goal.dictionary::entry-returns-in_err-key
+returns-in_err-key t c =
+    refused_on _ _ c.from_residual.ensures (item_key_stop _ _ _ _ _ _ _ _ _ _ _ _ _ _ _ c.requires.1 (c.in_err-key.ensures _ _ _) (number_not_0 _))
 
 pub keep-count-requires : goal.dictionary::entry-keep-count-requires
 keep-count-requires t c =
@@ -27,61 +28,60 @@ keep-count-requires t c =
 
 pub overflow_add-start : goal.dictionary::entry-overflow_add-start
 overflow_add-start t c =
-    omega (arith, (bounds c.if-refusal-ne0.false (c.basic_value-k.ensures none_open 0 [])).small, c.requires.3.near)
+    omega (arith, (bounds refl (c.in_ok-key.ensures none_open 0 [])).small, c.requires.3.near)
 
-pub pad-p-requires : goal.dictionary::entry-pad-p-requires
-pad-p-requires t c =
-    (omega (arith, (bounds c.if-refusal-ne0.false (c.basic_value-k.ensures none_open 0 [])).small, c.requires.3.near), described_aligned c.requires.0.child)
+pub pad-padding-requires : goal.dictionary::entry-pad-padding-requires
+pad-padding-requires t c =
+    (omega (arith, (bounds refl (c.in_ok-key.ensures none_open 0 [])).small, c.requires.3.near), described_aligned c.requires.0.child)
 
 pub overflow_add-first : goal.dictionary::entry-overflow_add-first
 overflow_add-first t c =
-    omega (arith, (bounds c.if-refusal-ne0.false (c.basic_value-k.ensures none_open 0 [])).small, c.pad-p.ensures.count.1)
+    omega (arith, (bounds refl (c.in_ok-key.ensures none_open 0 [])).small, c.pad-padding.ensures.count.1)
 
 pub child_spot-here-requires : goal.dictionary::entry-child_spot-here-requires
 child_spot-here-requires t c =
-    (c.requires.3.near, c.requires.3.few, omega (arith, (bounds c.if-refusal-ne0.false (c.basic_value-k.ensures none_open 0 [])).small, c.pad-p.ensures.count.1), kept_few _ _ _ _ _ _ _ _ c.keep-count.ensures)
+    (c.requires.3.near, c.requires.3.few, omega (arith, (bounds refl (c.in_ok-key.ensures none_open 0 [])).small, c.pad-padding.ensures.count.1), kept_few _ _ _ _ _ _ _ _ c.keep-count.ensures)
 
-pub value-v-requires : goal.dictionary::entry-value-v-requires
-value-v-requires t c =
-    (omega (arith, c.decreases), (c.requires.0.child, c.requires.2, placed_as c.child_spot-here.ensures (bounds c.if-refusal-ne0.false (c.basic_value-k.ensures none_open 0 [])).within (omega arith) (omega arith)))
+pub value-requires : goal.dictionary::entry-value-requires
+value-requires t c =
+    (omega (arith, c.decreases), (c.requires.0.child, c.requires.2, placed_as c.child_spot-here.ensures (bounds refl (c.in_ok-key.ensures none_open 0 [])).within (omega arith) (omega arith)))
 
-pub returns-then-fault-ne0 : goal.dictionary::entry-returns-then-fault-ne0
-returns-then-fault-ne0 t c =
-    item_value_stop _ _ _ _ _ _ _ _ _ _ _ _ _ _ _ _ _ _ _ _ _ c.requires.1 (c.basic_value-k.ensures _ 0 []) c.if-refusal-ne0.false _ _ _ _ (value_as c.child_spot-here.ensures _ _ _ _ _ c.value-v.ensures) c.if-fault-ne0.true
+pub returns-in_err-held : goal.dictionary::entry-returns-in_err-held
+returns-in_err-held t c =
+    refused_on _ _ c.from_residual-in_err-held.ensures (item_value_stop _ _ _ _ _ _ _ _ _ _ _ _ _ _ _ _ _ _ _ _ _ c.requires.1 (c.in_ok-key.ensures _ 0 []) refl _ _ _ _ (value_as c.child_spot-here.ensures _ _ _ _ _ c.in_err-held.ensures) (number_not_0 _))
 
 pub overflow_add-first-2 : goal.dictionary::entry-overflow_add-first-2
 overflow_add-first-2 t c =
-    omega (arith, (bounds c.if-refusal-ne0.false (c.basic_value-k.ensures none_open 0 [])).small, c.pad-p.ensures.count.1)
+    omega (arith, (bounds refl (c.in_ok-key.ensures none_open 0 [])).small, c.pad-padding.ensures.count.1)
 
 pub add-requires : goal.dictionary::entry-add-requires
 add-requires t c =
-    (omega (arith, (bounds c.if-refusal-ne0.false (c.basic_value-k.ensures none_open 0 [])).small, c.pad-p.ensures.count.1), let q = bounds c.if-fault-ne0.false c.value-v.ensures in omega (arith, q.small))
+    (omega (arith, (bounds refl (c.in_ok-key.ensures none_open 0 [])).small, c.pad-padding.ensures.count.1), let q = bounds refl c.in_ok-held.ensures in omega (arith, q.small))
 
 pub structure_end-requires : goal.dictionary::entry-structure_end-requires
 structure_end-requires t c =
-    (c.requires.3.near, c.requires.3.few, c.requires.0.aligned, λ z. rw c.ran-run.ensures (omega (arith, c.add.ensures)), λ z. rw c.ran-run.ensures (kept_few _ _ _ _ _ _ _ _ c.keep-count.ensures))
+    (c.requires.3.near, c.requires.3.few, c.requires.0.aligned, omega (arith, c.add.ensures), kept_few _ _ _ _ _ _ _ _ c.keep-count.ensures)
 
 pub shape_of-out : goal.dictionary::entry-shape_of-out
 shape_of-out t c =
-    omega (arith, c.structure_end.auto.out, c.value-v.auto.out, c.value-v.auto.ends, c.pad-p.auto.out, c.keep-count.auto.out, c.keep-count.auto.ends, c.basic_value-k.auto.out)
+    omega (arith, c.structure_end.auto.out, c.value.auto.out, c.value.auto.ends, c.pad-padding.auto.out, c.keep-count.auto.out, c.keep-count.auto.ends, c.basic_value.auto.out)
 
 pub shape_of-ends : goal.dictionary::entry-shape_of-ends
 shape_of-ends t c =
-    omega (arith, c.value-v.auto.out, c.value-v.auto.ends, c.keep-count.auto.out, c.keep-count.auto.ends)
+    omega (arith, c.value.auto.out, c.value.auto.ends, c.keep-count.auto.out, c.keep-count.auto.ends)
 
 pub returns : goal.dictionary::entry-returns
 returns t c =
     item_as_entry _ _ _ _ _ _ _ _ _ _ _ _ _ _ _ c.requires.1
     (c.structure_end.ensures _ _ _ _ _ _ _ (entry_structured _ _)
     (λ f. entry_no_ends c.args.item.alignment c.args.item.fixed _ _ _ _ _ c.args.events.now c.args.spot.next (c.requires.0.whole c.requires.1 f))
-    (λ z. rw c.ran-run.ensures (omega (arith, (bounds c.if-fault-ne0.false (value_as c.child_spot-here.ensures _ _ _ _ _ c.value-v.ensures)).forward, (bounds c.if-refusal-ne0.false (c.basic_value-k.ensures none_open 0 [])).forward)))
-    (omega (arith, c.value-v.auto.out, c.value-v.auto.ends, c.pad-p.auto.out, c.keep-count.auto.out, c.keep-count.auto.ends, c.basic_value-k.auto.out))
-    (omega (arith, c.value-v.auto.out, c.value-v.auto.ends, c.pad-p.auto.out, c.keep-count.auto.out, c.keep-count.auto.ends, c.basic_value-k.auto.out))
-    (row_as c.ran-run.ensures
-    (entry_row _ _ _ _ _ _ _ _ _ _ _ _ _ _ _ _ _ (basic_alignment (key_basic c.args.item.key)) _ _ _ _ _ _ _ (c.basic_value-k.ensures _ _ _) c.if-refusal-ne0.false c.keep-count.ensures
+    (λ z. (omega (arith, (bounds refl (value_as c.child_spot-here.ensures _ _ _ _ _ c.in_ok-held.ensures)).forward, (bounds refl (c.in_ok-key.ensures none_open 0 [])).forward)))
+    (omega (arith, c.value.auto.out, c.value.auto.ends, c.pad-padding.auto.out, c.keep-count.auto.out, c.keep-count.auto.ends, c.basic_value.auto.out))
+    (omega (arith, c.value.auto.out, c.value.auto.ends, c.pad-padding.auto.out, c.keep-count.auto.out, c.keep-count.auto.ends, c.basic_value.auto.out))
+    (entry_row _ _ _ _ _ _ _ _ _ _ _ _ _ _ _ _ _ (basic_alignment (key_basic c.args.item.key)) _ _ _ _ _ _ _ (c.in_ok-key.ensures _ _ _) refl c.keep-count.ensures
     (basic_aligned (key_basic c.args.item.key)) (λ x y e. entry_key _ _ _ _ _ _ (c.requires.0.keyed c.requires.1) e)
-    (λ x y e. emit_alignment _ _ _ _ _ _ x y e ∙ sym (described_alignment c.requires.0.child)) c.pad-p.ensures.count.0 c.pad-p.ensures.bytes refl refl
-    (value_as c.child_spot-here.ensures _ _ _ _ _ c.value-v.ensures) c.if-fault-ne0.false c.add.ensures c.requires.3.near c.requires.3.few
-    (omega (arith, c.basic_value-k.auto.out)) (omega (arith, c.keep-count.auto.out, c.keep-count.auto.ends, c.basic_value-k.auto.out))
-    (omega (arith, c.value-v.auto.out, c.value-v.auto.ends, c.pad-p.auto.out, c.keep-count.auto.out, c.keep-count.auto.ends, c.basic_value-k.auto.out))
-    (omega (arith, c.keep-count.auto.out, c.keep-count.auto.ends)) (omega (arith, c.value-v.auto.out, c.value-v.auto.ends, c.keep-count.auto.out, c.keep-count.auto.ends)))))
+    (λ x y e. emit_alignment _ _ _ _ _ _ x y e ∙ sym (described_alignment c.requires.0.child)) c.pad-padding.ensures.count.0 c.pad-padding.ensures.bytes refl refl
+    (value_as c.child_spot-here.ensures _ _ _ _ _ c.in_ok-held.ensures) refl c.add.ensures c.requires.3.near c.requires.3.few
+    (omega (arith, c.basic_value.auto.out)) (omega (arith, c.keep-count.auto.out, c.keep-count.auto.ends, c.basic_value.auto.out))
+    (omega (arith, c.value.auto.out, c.value.auto.ends, c.pad-padding.auto.out, c.keep-count.auto.out, c.keep-count.auto.ends, c.basic_value.auto.out))
+    (omega (arith, c.keep-count.auto.out, c.keep-count.auto.ends)) (omega (arith, c.value.auto.out, c.value.auto.ends, c.keep-count.auto.out, c.keep-count.auto.ends))))

@@ -4,10 +4,11 @@ use Rattle.signature.proofs.Letters.{cut}
 use Rattle.signature.proofs.TreeLaws.{described_as, described_fixed, maybe_described}
 use Rattle.signature.specs.declared.Letter.TheVariants.{Maybe}
 use Rattle.signature.specs.declared.shapes.Shape.{Shape}
-use Rattle.writer_basic.proofs.Answers.{bounds}
+use Rattle.meaning.proofs.RefusalNumbers.{number_not_0}
+use Rattle.writer_basic.proofs.Answers.{bounds, refused_on}
+use Rattle.writer_basic.proofs.Rounds.{present_stop}
 use Rattle.writer_basic.proofs.Openings.{raised_in}
 use Rattle.writer_cycle.proofs.Values.{value_maybe_deep, value_neither, value_nothing, value_present}
-use Rattle.writer_cycle.specs.Openings.{raised_of}
 use borrow.Author.Tests.{not-false, not-true}
 use mathlib.Core.Path.{ap, refl}
 use native.Mathlib.Omega.{arith}
@@ -18,12 +19,9 @@ pub plain_at-requires : goal.maybe::maybe-plain_at-requires
 plain_at-requires t c =
     c.requires.3.within
 
-pub overflow_add-i : goal.maybe::maybe-overflow_add-i
-overflow_add-i t c = omega (arith, (c.plain_at.ensures.here c.if-plain_at.true).whole)
-
 pub returns-then-plain_at : goal.maybe::maybe-returns-then-plain_at
 returns-then-plain_at t c =
-    rw c.wrote.ensures (value_nothing _ _ c.requires.0.typed c.requires.1 _ _ _ _ _ _ _ _ _ (c.plain_at.ensures.here c.if-plain_at.true))
+    (value_nothing _ _ c.requires.0.typed c.requires.1 _ _ _ _ _ _ _ _ _ (c.plain_at.ensures.here c.if-plain_at.true))
 
 pub plain_at-requires-2 : goal.maybe::maybe-plain_at-requires-2
 plain_at-requires-2 t c =
@@ -31,11 +29,11 @@ plain_at-requires-2 t c =
 
 pub returns-then-not-plain_at : goal.maybe::maybe-returns-then-not-plain_at
 returns-then-not-plain_at t c =
-    rw c.refused.ensures (value_neither _ _ c.requires.0.typed c.requires.1 _ _ _ _ _ _ _ _ _ (c.plain_at.ensures.not c.if-plain_at.false) (c.plain_at-2.ensures.not (not-true _ c.if-not-plain_at.true-raw)))
+    (value_neither _ _ c.requires.0.typed c.requires.1 _ _ _ _ _ _ _ _ _ (c.plain_at.ensures.not c.if-plain_at.false) (c.plain_at-2.ensures.not (not-true _ c.if-not-plain_at.true-raw)))
 
-pub returns-then-refusal-ne0 : goal.maybe::maybe-returns-then-refusal-ne0
-returns-then-refusal-ne0 t c =
-    rw c.refused-then-refusal-ne0.ensures (value_maybe_deep _ _ c.requires.0.typed c.requires.1 _ _ _ _ _ _ _ _ _ (c.plain_at-2.ensures.here (not-false _ c.if-not-plain_at.false-raw)) _ c.in_maybe-inside.ensures.depths c.if-refusal-ne0.true)
+pub returns-in_err-inc_maybe : goal.maybe::maybe-returns-in_err-inc_maybe
+returns-in_err-inc_maybe t c =
+    refused_on _ _ c.from_residual.ensures (value_maybe_deep _ _ c.requires.0.typed c.requires.1 _ _ _ _ _ _ _ _ _ (c.plain_at-2.ensures.here (not-false _ c.if-not-plain_at.false-raw)) _ c.in_err-inc_maybe.ensures (number_not_0 _))
 
 pub overflow_add-shape : goal.maybe::maybe-overflow_add-shape
 overflow_add-shape t c =
@@ -45,24 +43,32 @@ pub overflow_add-inner : goal.maybe::maybe-overflow_add-inner
 overflow_add-inner t c =
     omega (arith, (c.plain_at-2.ensures.here (not-false _ c.if-not-plain_at.false-raw)).whole, c)
 
-pub value-r-requires : goal.maybe::maybe-value-r-requires
-value-r-requires t c = (
-  omega (arith, level_falls Depth.maybe c.args.context.depths (raised_of c.in_maybe-inside.result) c.in_maybe-inside.ensures.depths c.if-refusal-ne0.false, c.decreases),
+pub value-requires : goal.maybe::maybe-value-requires
+value-requires t c = (
+  omega (arith, level_falls Depth.maybe c.args.context.depths _ c.in_ok-inc_maybe.ensures refl, c.decreases),
   (
     (described_as c.shape_in-held.ensures (maybe_described _ _ c.requires.0.typed c.requires.1 _ c.requires.0.table)),
-    raised_in Depth.maybe _ _ c.in_maybe-inside.ensures.depths _
-        c.if-refusal-ne0.false,
+    raised_in Depth.maybe _ _ c.in_ok-inc_maybe.ensures _
+        refl,
     record { within = (c.plain_at-2.ensures.here (not-false _ c.if-not-plain_at.false-raw)).whole; near = c.requires.3.near; few = c.requires.3.few },
   ),
 )
 
+pub returns-in_err-child : goal.maybe::maybe-returns-in_err-child
+returns-in_err-child t c =
+    refused_on _ _ c.from_residual-in_err-child.ensures
+    (value_present _ _ c.requires.0.typed c.requires.1 _ _ _ _ _ _ _ _ _ (c.plain_at-2.ensures.here (not-false _ c.if-not-plain_at.false-raw)) _ c.in_ok-inc_maybe.ensures _ c.shape_in-held.result _
+    _ _ refl refl (ap (λ (s : Shape). s.at) c.shape_in-held.ensures)
+    (described_fixed (described_as c.shape_in-held.ensures (maybe_described _ _ c.requires.0.typed c.requires.1 _ c.requires.0.table)))
+    (present_stop _ _ _ _ _ c.in_err-child.ensures (number_not_0 _)))
+
 pub present-requires : goal.maybe::maybe-present-requires
 present-requires t c =
-    (c.requires.3.near, λ z. (bounds z c.value-r.ensures).small)
+    (c.requires.3.near, (bounds refl c.in_ok-child.ensures).small)
 
 pub returns : goal.maybe::maybe-returns
 returns t c =
-    value_present _ _ c.requires.0.typed c.requires.1 _ _ _ _ _ _ _ _ _ (c.plain_at-2.ensures.here (not-false _ c.if-not-plain_at.false-raw)) _ c.in_maybe-inside.ensures.depths _ c.shape_in-held.result _
-    _ _ c.in_maybe-inside.ensures.order c.if-refusal-ne0.false (ap (λ (s : Shape). s.at) c.shape_in-held.ensures)
+    value_present _ _ c.requires.0.typed c.requires.1 _ _ _ _ _ _ _ _ _ (c.plain_at-2.ensures.here (not-false _ c.if-not-plain_at.false-raw)) _ c.in_ok-inc_maybe.ensures _ c.shape_in-held.result _
+    _ _ refl refl (ap (λ (s : Shape). s.at) c.shape_in-held.ensures)
     (described_fixed (described_as c.shape_in-held.ensures (maybe_described _ _ c.requires.0.typed c.requires.1 _ c.requires.0.table)))
-    (c.present.ensures _ _ _ _ _ _ _ _ (omega (arith, c.value-r.auto.out, c.value-r.auto.ends)) c.value-r.ensures)
+    (c.present.ensures _ _ _ _ _ _ _ _ (omega (arith, c.value.auto.out, c.value.auto.ends)) c.in_ok-child.ensures)

@@ -1,7 +1,7 @@
 -- The needs of `value`, and what answers each.
 use Rattle.signature.proofs.TreeLaws.{described_kind}
-use Rattle.writer_cycle.proofs.Values.{begins_not, number_aligned_at, value_boolean, value_none, value_number, value_text, value_variant}
-use mathlib.Core.Path.{◌∙◌, refl, sym}
+use Rattle.writer_cycle.proofs.Values.{number_aligned_at, value_boolean, value_number, value_other, value_text}
+use mathlib.Core.Path.{◌∙◌, sym}
 use native.Mathlib.Omega.{arith}
 use Rattle.writer_cycle.proofs.+writing.Goals as goal
 
@@ -29,24 +29,8 @@ pub structure-requires : goal.value-structure-requires
 structure-requires t c =
     (omega (arith, c.decreases), (c.requires.0, (sym (described_kind c.requires.0) ∙ c.in-OpenStructure.is), c.requires.1, c.requires.2))
 
-pub array-requires-in-Bad : goal.value-array-requires-in-Bad
-array-requires-in-Bad t c =
-    begins_not _ _ c.requires.0.typed _ (sym (described_kind c.requires.0) ∙ c.in-Bad.is) refl
-
-pub structure-requires-in-End : goal.value-structure-requires-in-End
-structure-requires-in-End t c =
-    begins_not _ _ c.requires.0.typed _ (sym (described_kind c.requires.0) ∙ c.in-End.is) refl
-
-pub maybe-requires-in-CloseEntry : goal.value-maybe-requires-in-CloseEntry
-maybe-requires-in-CloseEntry t c =
-    begins_not _ _ c.requires.0.typed _ (sym (described_kind c.requires.0) ∙ c.in-CloseEntry.is) refl
-
 pub variant-requires : goal.value-variant-requires
 variant-requires t c =
-    (omega (arith, c.decreases), (c.requires.1, c.requires.2))
-
-pub variant-requires-in_default : goal.value-variant-requires-in_default
-variant-requires-in_default t c =
     (omega (arith, c.decreases), (c.requires.1, c.requires.2))
 
 pub returns-in-Boolean : goal.value-returns-in-Boolean
@@ -73,22 +57,6 @@ pub returns-in-OpenStructure : goal.value-returns-in-OpenStructure
 returns-in-OpenStructure t c =
     c.structure.ensures
 
-pub returns-in-Bad : goal.value-returns-in-Bad
-returns-in-Bad t c =
-    begins_not _ _ c.requires.0.typed _ (sym (described_kind c.requires.0) ∙ c.in-Bad.is) refl
-
-pub returns-in-End : goal.value-returns-in-End
-returns-in-End t c =
-    begins_not _ _ c.requires.0.typed _ (sym (described_kind c.requires.0) ∙ c.in-End.is) refl
-
-pub returns-in-CloseEntry : goal.value-returns-in-CloseEntry
-returns-in-CloseEntry t c =
-    begins_not _ _ c.requires.0.typed _ (sym (described_kind c.requires.0) ∙ c.in-CloseEntry.is) refl
-
-pub returns-in-Variant : goal.value-returns-in-Variant
-returns-in-Variant t c =
-    value_variant _ _ c.requires.0.typed _ _ _ _ _ _ _ _ _ _ _ _ (sym (described_kind c.requires.0) ∙ c.in-Variant.is) c.variant.ensures
-
 pub returns-in_default : goal.value-returns-in_default
 returns-in_default t c =
-    value_none _ _ c.requires.0.typed _ _ _ _ _ _ _ _ _ _ _ _ _ (described_kind c.requires.0) c.in_default.in_default-own.keys11
+    value_other _ _ c.requires.0.typed _ _ _ _ _ _ _ _ _ _ _ _ _ (described_kind c.requires.0) c.in_default.in_default-own.keys7 c.variant.ensures

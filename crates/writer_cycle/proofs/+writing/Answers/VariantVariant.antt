@@ -1,4 +1,5 @@
 -- The needs of `variant::variant`, and what answers each.
+use Rattle.writer_basic.proofs.Answers.{refused_on}
 use Rattle.writer_basic.proofs.Openings.{few_variants}
 use Rattle.writer_cycle.proofs.Values.{value_variant_not, value_variant_text}
 use borrow.Author.Tests.{not-false, not-true}
@@ -11,21 +12,21 @@ plain_at-requires t c =
 
 pub returns-then-not-plain_at : goal.variant::variant-returns-then-not-plain_at
 returns-then-not-plain_at t c =
-    rw c.refused.ensures (value_variant_not _ _ _ (few_variants c.requires.0) _ _ _ _ _ _ (c.plain_at.ensures.not (not-true _ c.if-not-plain_at.true-raw)))
+    (value_variant_not _ _ _ (few_variants c.requires.0) _ _ _ _ _ _ (c.plain_at.ensures.not (not-true _ c.if-not-plain_at.true-raw)))
 
 pub overflow_add-i : goal.variant::variant-overflow_add-i
 overflow_add-i t c = omega (arith, (c.plain_at.ensures.here (not-false _ c.if-not-plain_at.false-raw)).whole)
 
-pub text_at-view-requires : goal.variant::variant-text_at-view-requires
-text_at-view-requires t c = (c.plain_at.ensures.here (not-false _ c.if-not-plain_at.false-raw)).whole
+pub text_at-requires : goal.variant::variant-text_at-requires
+text_at-requires t c = (c.plain_at.ensures.here (not-false _ c.if-not-plain_at.false-raw)).whole
 
-pub returns-then-wrong-ne0 : goal.variant::variant-returns-then-wrong-ne0
-returns-then-wrong-ne0 t c =
-    rw c.refused-then-wrong-ne0.ensures (value_variant_text _ _ _ (few_variants c.requires.0) _ _ _ _ _ _ (c.plain_at.ensures.here (not-false _ c.if-not-plain_at.false-raw)) _ (c.text_at-view.ensures.refused c.if-wrong-ne0.true))
+pub returns-in_err-text : goal.variant::variant-returns-in_err-text
+returns-in_err-text t c =
+    refused_on _ _ c.from_residual.ensures (value_variant_text _ _ _ (few_variants c.requires.0) _ _ _ _ _ _ (c.plain_at.ensures.here (not-false _ c.if-not-plain_at.false-raw)) _ c.in_err-text.ensures)
 
 pub typed-requires : goal.variant::variant-typed-requires
 typed-requires t c =
-    (omega (arith, c.decreases), (c.plain_at.ensures.here (not-false _ c.if-not-plain_at.false-raw), c.text_at-view.ensures.taken c.if-wrong-ne0.false, c.requires.0, c.requires.1))
+    (omega (arith, c.decreases), (c.plain_at.ensures.here (not-false _ c.if-not-plain_at.false-raw), c.in_ok-text.ensures, c.requires.0, c.requires.1))
 
 pub returns : goal.variant::variant-returns
 returns t c =

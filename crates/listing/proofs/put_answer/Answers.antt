@@ -1,7 +1,0 @@
--- `listing::put_answer` meets its contract: four numbers, one behind another. Assumes nothing.
-use Rattle.listing.proofs.Texts.{puts_printed}
-use Rattle.listing.proofs.put_answer.Goals as goal
-
-pub returns : goal.returns
-returns c =
-    puts_printed _ _ c.requires c.put_decimal-second.ensures c.put_decimal-third.ensures c.put_decimal-fourth.ensures c.put_decimal.ensures

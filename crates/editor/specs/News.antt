@@ -1,9 +1,7 @@
 -- What a reading becomes, as the caller says it. Assumes nothing: these are definitions.
-use Rattle.std.specs.Prelude.{Bool, true, false, ℕ}
-use Rattle.editor_steps.specs.declared.answers.New.{New}
-use Rattle.editor_steps.specs.declared.answers.New.TheVariants.{Nothing, Number}
+use Rattle.std.specs.Prelude.{Bool, true, false, ℕ, Option, None, Some}
 
 -- by a flag and a number
-abbrev pub new_by : Bool → ℕ → New
-new_by true n = Number n
-new_by false n = Nothing
+abbrev pub new_by : Bool → ℕ → Option ℕ
+new_by true n = Some n
+new_by false n = None

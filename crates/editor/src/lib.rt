@@ -7,14 +7,14 @@ ghost use Rattle.editor_steps.specs.Walks.{new_of};
 ghost use Rattle.editor_change.specs.Answers.{answer_of};
 ghost use Rattle.editor.specs.News.{new_by};
 
-use editor_change::{Edited, edit_written, refused};
-use editor_steps::answers::{Aim, New};
+use editor_change::edit_written;
+use editor_steps::answers::Aim;
 use meaning::limits::LARGEST_FRAME;
-use meaning::refusals::{OVER_LIMIT, TYPE_REFUSED};
+use meaning::refusals::Refusal;
 use strict::is_written;
 use strict_sizes::sizes::{TABLE, tables_of};
 
-// Puts a reading of the frame that is the used part of the buffer as nothing or as a number. Readings are the maybes of
+// Puts a reading of the frame that is the used part of the buffer as nothing or as a number, and answers the new frame's length. Readings are the maybes of
 // b y n q i u x t d, counted from 0 in reading order.
 pub fn edit(
     signature: &[u8],
@@ -22,35 +22,27 @@ pub fn edit(
     buffer: &mut [u8],
     used: usize,
     number: usize,
-    new: New,
-) -> Edited
+    new: Option<usize>,
+) -> Result<usize, Refusal>
     ensures answer { answer_of result ≡ edit_of signature.now big buffer.old used number (new_of new) }
     ensures memory { buffer.new ≡ edit_buffer signature.now big buffer.old used number (new_of new) }
 {
     let mut tables = [0u16; TABLE];
     if !tables_of(signature, &mut tables) {
-        return refused(TYPE_REFUSED);
+        return Err(Refusal::TypeRefused);
     }
-    if LARGEST_FRAME < used {
-        return refused(OVER_LIMIT);
+    if LARGEST_FRAME < used || buffer.len() < used {
+        return Err(Refusal::OverLimit);
     }
-    if buffer.len() < used {
-        return refused(OVER_LIMIT);
+    match is_written(signature, big, &buffer[..used]) {
+        Err(refusal) => Err(refusal),
+        Ok(_) => edit_written(signature, &tables, buffer, used, number, Aim { big, new }),
     }
-    let strict = is_written(signature, big, &buffer[..used]);
-    if strict != 0 {
-        return refused(strict);
-    }
-    let aim = Aim { big, new };
-    edit_written(signature, &tables, buffer, used, number, aim)
 }
 
 // What a reading becomes: a number as its bits where one is present, and else nothing.
-pub fn new_of(present: bool, bits: usize) -> New
+pub fn new_of(present: bool, bits: usize) -> Option<usize>
     ensures { result ≡ new_by present bits }
 {
-    if present {
-        return New::Number { bits };
-    }
-    New::Nothing
+    present.then_some(bits)
 }

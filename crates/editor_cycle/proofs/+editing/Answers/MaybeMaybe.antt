@@ -1,5 +1,5 @@
 -- The needs of `maybe::maybe`, and what answers each.
-use Rattle.editor_steps.proofs.Values.{held_placed, held_ready, maybe_closed, maybe_deeper, maybe_empty, maybe_fits, maybe_fixed, maybe_reading, slot_laid}
+use Rattle.editor_steps.proofs.Values.{held_placed, held_ready, maybe_closed, maybe_deeper, maybe_empty, maybe_fixed, maybe_reading, slot_laid}
 use Rattle.editor_steps.proofs.WalkLaws.{counts}
 use Rattle.strict_sizes.proofs.TableLaws.{placed_at}
 use mathlib.Core.Path.{◌∙◌, refl, sym}

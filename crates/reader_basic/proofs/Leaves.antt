@@ -337,6 +337,9 @@ module _ (read : ℕ → List ℕ → Outcome) (k j e n : ℕ) (l out : List ℕ
 
 -- ---- what callees ask
 
+pub within_part : {len place position : ℕ} {d : ContainerDepths} (j e : ℕ) → Within len place position d → j ≤ e → e ≤ len → Within (e - j) (place + j) position d
+within_part j e w g h = let a = w.in_frame in record { in_frame = omega arith; near = w.near; shallow = w.shallow }
+
 pub within_child : {place position : ℕ} {d : ContainerDepths} (part : List ℕ) (j e : ℕ) → Within (length part) place position d → j ≤ e → e ≤ length part → Within (length (take (e - j) (drop j part))) (place + j) position d
 within_child {place} part j e w g h =
     let a = w.in_frame in

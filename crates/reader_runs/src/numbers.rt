@@ -1,24 +1,25 @@
 // Arrays of numbers, and of readings: numbers in maybes. What they repeat holds nothing further, so each is one loop of its own.
 ghost use Rattle.std.specs.Prelude.{◌≡◌, Bool, ℕ, ◌+◌, ◌≤◌, ◌<◌, length};
 ghost use Rattle.meaning.specs.Depths.{Depths};
-ghost use Rattle.meaning.specs.Reading.{child, child_step, elements as elements_in};
+ghost use Rattle.meaning.specs.Reading.{child_step, elements as elements_in};
 ghost use Rattle.meaning.specs.Padding.{Aligns};
 ghost use Rattle.meaning.specs.Limits.{largest_frame};
 ghost use Rattle.byte_order.specs.Standing.{number_at};
 ghost use Rattle.container_depths.specs.Opening.{depths_of};
 ghost use Rattle.utils.specs.Checks.{checked};
-ghost use Rattle.reader_basic.specs.Answers.{Whole, From, Between, counts_of};
+ghost use Rattle.reader_basic.specs.Answers.{Whole, From, counts_of};
 ghost use Rattle.reader_basic.specs.Parts.{Inside, number_by, reading_by, Tabled, elements_by};
 ghost use Rattle.reader_runs.specs.Runs.{counted_of, numbers_from};
 
+use crate::elements::{Element, each};
 use byte_order::{number as number_of, number_at};
 use de::parse_padding;
 use events::emit;
-use framing_offsets::{OffsetTable, next};
+use framing_offsets::OffsetTable;
 use meaning::letters::{MAYBE_LETTER, NOTHING_LETTER};
 use meaning::refusals::Refusal;
 use reader_basic::basic::number;
-use reader_basic::{Answer, Context, Reading, behind, done, or_stop, refused};
+use reader_basic::{Context, Reading, behind, done, or_stop, refused};
 
 // Numbers of a width in so many bytes, from event n on: counted, and not read.
 fn counted(left: usize, width: usize, n: usize) -> Reading
@@ -149,25 +150,22 @@ fn reading(
     done(lead + width, count)
 }
 
-// A reading from j to e of an array's part.
-fn child_reading(
-    part: &[u8],
-    j: usize,
-    e: usize,
-    place: usize,
+// A number of a width in a maybe, as an element.
+#[derive(Clone, Copy)]
+struct InMaybe {
     context: Context,
     code: u8,
     width: usize,
-    out: &mut [u64],
-    n: usize,
-) -> Reading
-    requires { Inside (length part.now) place context × (e ≤ length part.now) × Aligns width }
-    ensures { Between (child (reading_by context code width (depths_of context.depths)) place part.now j e) part.now j e n out.old out.new (counts_of result) }
-{
-    if e < j {
-        return refused(Refusal::OutOfBounds, 0, n);
+}
+
+impl Element for InMaybe {
+    ghost stands = { λ e len place. Inside len place e.context × Aligns e.width };
+
+    ghost reader = { λ e. reading_by e.context e.code e.width (depths_of e.context.depths) };
+
+    fn read(self, part: &[u8], place: usize, out: &mut [u64], n: usize) -> Reading {
+        reading(part, place, self.context, self.code, self.width, out, n)
     }
-    reading(&part[j..e], place + j, context, code, width, out, n)
 }
 
 // Readings, each up to the end that the table gives; then the table.
@@ -185,23 +183,10 @@ pub fn readings(
     requires { Inside (length part.now) place context × Tabled offsets part.now lead × Aligns width }
     ensures { From (elements_by (child_step (reading_by context code width) (depths_of context.depths) place part.now (lead + offsets.start)) offsets part.now lead) part.now lead n out.old out.new (counts_of result) }
 {
-    let table = &part[lead..];
-    let body_end = lead + offsets.start;
-    let mut read = Answer { used: 0, count: n };
-    for i in 0..offsets.count {
-        let end = lead + next(table, offsets, i).unwrap_or(0);
-        let r = child_reading(
-            part,
-            lead + read.used,
-            end,
-            place,
-            context,
-            code,
-            width,
-            out,
-            read.count,
-        );
-        read = behind(read.used, r)?;
-    }
-    done(read.used + (part.len() - body_end), read.count)
+    let element = InMaybe {
+        context,
+        code,
+        width,
+    };
+    each(element, offsets, part, lead, place, out, n)
 }

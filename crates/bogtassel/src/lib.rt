@@ -2,6 +2,7 @@
 #![tactic(auto)]
 
 ghost use Rattle.std.specs.Prelude.{◌≡◌};
+ghost use Rattle.std.specs.Result.{result_unwrap_or};
 ghost use Rattle.meaning.specs.Calls.{counts, size as size_of, read as read_of, read_slice};
 ghost use Rattle.meaning_writing.specs.Writing.{write_answer, write as write_of, write_slice};
 ghost use Rattle.meaning_writing.specs.Editing.{edit_answer, edit as edit_of, edit_buffer};
@@ -35,7 +36,7 @@ fn hand_counts(answer: Result<Answer, Refusal>, used: &mut usize, count: &mut us
 // A frame's length, as C has it: through the lent number, zero where it is refused; and the refusal.
 fn hand_length(answer: Result<usize, Refusal>, length: &mut usize) -> u8
     ensures refusal { result ≡ refusal_in answer }
-    ensures length { length.new ≡ unwrap_or_zero answer }
+    ensures length { length.new ≡ result_unwrap_or answer 0 }
 {
     match answer {
         Ok(bytes) => {

@@ -2,7 +2,7 @@
 use lib.Seq.{length-take-le}
 use native.Mathlib.Omega.{arith}
 use mathlib.Core.Path.{refl, sym}
-use Rattle.meaning.proofs.RefusalNumbers.{number_not_0}
+use Rattle.meaning.proofs.RefusalLaws.{number_not_0}
 use Rattle.writer_basic.proofs.Answers.{handed}
 use Rattle.writer.specs.Answers.{faulty}
 use Rattle.writer.proofs.Frames.{write_refused, judged_good, write_again, write_held, held_fits}

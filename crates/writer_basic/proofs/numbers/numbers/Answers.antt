@@ -1,7 +1,7 @@
 -- `writer_basic::numbers::numbers` meets its contract. Assumes nothing.
 use native.Mathlib.Omega.{arith}
 use mathlib.Core.Path.{refl}
-use Rattle.meaning.proofs.RefusalNumbers.{number_not_0}
+use Rattle.meaning.proofs.RefusalLaws.{number_not_0}
 use Rattle.writer_basic.proofs.Answers.{key_aligned}
 use Rattle.writer_basic.proofs.Rows.{stopped_on, left_shut, left_short}
 use Rattle.writer_basic.proofs.NumberRows.{numbers_on, numbers_stop, number_bounds}

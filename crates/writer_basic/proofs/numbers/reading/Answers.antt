@@ -1,7 +1,7 @@
 -- `writer_basic::numbers::reading` meets its contract. Assumes nothing.
 use mathlib.Core.Path.{refl}
 use borrow.Author.Tests.{not-true, not-false}
-use Rattle.meaning.proofs.RefusalNumbers.{number_not_0}
+use Rattle.meaning.proofs.RefusalLaws.{number_not_0}
 use Rattle.writer_basic.proofs.Answers.{refused_on, key_aligned}
 use Rattle.writer_basic.proofs.Openings.{maybe_empty, maybe_neither, maybe_deep}
 use Rattle.writer_basic.proofs.NumberRows.{reading_on, number_done}

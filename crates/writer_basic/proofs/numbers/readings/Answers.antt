@@ -2,7 +2,7 @@
 use native.Mathlib.Omega.{arith}
 use mathlib.Core.Path.{refl}
 use mathlib.Core.List.{[]}
-use Rattle.meaning.proofs.RefusalNumbers.{number_not_0}
+use Rattle.meaning.proofs.RefusalLaws.{number_not_0}
 use Rattle.container_depths.specs.Opening.{depths_of}
 use Rattle.signature.specs.declared.Letter.TheVariants.{Number}
 use Rattle.writer_basic.specs.Wrote.{key_basic}

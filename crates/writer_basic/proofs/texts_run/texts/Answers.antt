@@ -4,7 +4,7 @@ use mathlib.Core.Path.{refl}
 use mathlib.Core.List.{[]}
 use mathlib.Core.Bool.{false}
 use Rattle.meaning.specs.Depths.{none_open}
-use Rattle.meaning.proofs.RefusalNumbers.{number_not_0}
+use Rattle.meaning.proofs.RefusalLaws.{number_not_0}
 use Rattle.meaning_writing.proofs.EmitLaws.{basic_shorter}
 use Rattle.writer_basic.proofs.Answers.{bounds, done_near}
 use Rattle.writer_basic.proofs.Rows.{stopped_on, left_short, left_shut, left_stop, left_next}

@@ -1,7 +1,7 @@
 -- The needs of `array::array`, and what answers each.
 use Rattle.container_depths.proofs.Levels.{level_falls}
 use Rattle.writer_basic.proofs.Openings.{few_variants, raised_in}
-use Rattle.meaning.proofs.RefusalNumbers.{number_not_0}
+use Rattle.meaning.proofs.RefusalLaws.{number_not_0}
 use Rattle.writer_basic.proofs.Answers.{refused_on}
 use Rattle.writer_basic.proofs.Rounds.{array_stop, ended_stop}
 use mathlib.Core.Path.{refl}

@@ -1,5 +1,5 @@
 -- The needs of `array::items`, and what answers each.
-use Rattle.meaning.proofs.RefusalNumbers.{number_not_0}
+use Rattle.meaning.proofs.RefusalLaws.{number_not_0}
 use Rattle.writer_basic.proofs.Rows.{stopped_on, left_on, left_short, left_shut, left_stop}
 use Rattle.writer_cycle.proofs.EntryRows.{item_alignment, item_shorter}
 use Rattle.writer_cycle.proofs.Spots.{item_as}

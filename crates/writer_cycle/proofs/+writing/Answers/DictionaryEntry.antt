@@ -4,7 +4,7 @@ use Rattle.meaning.specs.Depths.{none_open}
 use Rattle.meaning.specs.Types.{basic_alignment}
 use Rattle.meaning_writing.proofs.EmitLaws.{emit_alignment}
 use Rattle.signature.proofs.TreeLaws.{described_aligned, described_alignment}
-use Rattle.meaning.proofs.RefusalNumbers.{number_not_0}
+use Rattle.meaning.proofs.RefusalLaws.{number_not_0}
 use Rattle.writer_basic.proofs.Answers.{bounds, refused_on}
 use Rattle.writer_basic.specs.Wrote.{key_basic}
 use Rattle.writer_cycle.proofs.EntryRows.{entry_key, entry_no_ends, entry_row, entry_structured, item_as_entry, item_key_stop, item_value_stop, kept_few}

@@ -4,7 +4,7 @@ use Rattle.signature.proofs.Letters.{cut}
 use Rattle.signature.proofs.TreeLaws.{described_as, described_fixed, maybe_described}
 use Rattle.signature.specs.declared.Letter.TheVariants.{Maybe}
 use Rattle.signature.specs.declared.shapes.Shape.{Shape}
-use Rattle.meaning.proofs.RefusalNumbers.{number_not_0}
+use Rattle.meaning.proofs.RefusalLaws.{number_not_0}
 use Rattle.writer_basic.proofs.Answers.{refused_on}
 use Rattle.writer_basic.proofs.Rounds.{present_stop}
 use Rattle.writer_basic.proofs.Openings.{raised_in}

@@ -2,7 +2,7 @@
 use Rattle.signature.proofs.Letters.{apart_from}
 use Rattle.signature.proofs.TreeLaws.{described_aligned, described_alignment, last_field_of, next_field_of}
 use Rattle.signature.specs.declared.Letter.TheVariants.{CloseStructure}
-use Rattle.meaning.proofs.RefusalNumbers.{number_not_0}
+use Rattle.meaning.proofs.RefusalLaws.{number_not_0}
 use Rattle.writer_basic.proofs.Rows.{stopped_on}
 use Rattle.writer_basic.proofs.Openings.{few_variants}
 use Rattle.writer_cycle.proofs.FieldRows.{field_here, fields_last, fields_next, fields_stop}

@@ -4,7 +4,7 @@ use Rattle.signature.proofs.Letters.{cut}
 use Rattle.signature.proofs.TreeLaws.{described_aligned, structure_fixed, structure_rowed}
 use Rattle.signature.specs.declared.Letter.TheVariants.{OpenStructure}
 use Rattle.writer_basic.proofs.Openings.{few_variants, raised_in}
-use Rattle.meaning.proofs.RefusalNumbers.{number_not_0}
+use Rattle.meaning.proofs.RefusalLaws.{number_not_0}
 use Rattle.writer_basic.proofs.Answers.{refused_on}
 use Rattle.writer_basic.proofs.Rows.{row_bounds}
 use Rattle.writer_basic.proofs.Rounds.{structure_stop, ended_stop}

@@ -3,7 +3,7 @@ use Rattle.container_depths.proofs.Levels.{level_falls}
 use Rattle.signature.proofs.ShapeLaws.{table_filled, table_refused, table_type}
 use Rattle.signature.proofs.TreeLaws.{described_as, front, front_described}
 use Rattle.signature.specs.declared.shapes.Shape.{Shape}
-use Rattle.meaning.proofs.RefusalNumbers.{number_not_0}
+use Rattle.meaning.proofs.RefusalLaws.{number_not_0}
 use Rattle.writer_basic.proofs.Answers.{refused_on}
 use Rattle.writer_basic.proofs.Rounds.{value_stop}
 use Rattle.writer_basic.proofs.Openings.{few_variants, raised_in}

@@ -10,7 +10,7 @@ ghost use Rattle.framing_offset_size.specs.Widths.{width_of};
 ghost use Rattle.reader_basic.specs.Answers.{Done, Whole, counts_of};
 ghost use Rattle.reader_basic.specs.Parts.{Inside, number_by, offset_answer};
 
-use crate::{Context, Reading, done, or_stop, refused};
+use crate::{Context, Reading, done, or_stop};
 use byte_order::{number as number_of, number_at};
 use de::{parse_padding, read_bool};
 use events::emit;

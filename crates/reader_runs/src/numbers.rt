@@ -1,5 +1,5 @@
 // Arrays of numbers, and of readings: numbers in maybes. What they repeat holds nothing further, so each is one loop of its own.
-ghost use Rattle.std.specs.Prelude.{◌≡◌, Bool, ℕ, ◌+◌, ◌≤◌, ◌<◌, length};
+ghost use Rattle.std.specs.Prelude.{◌≡◌, ℕ, ◌+◌, ◌≤◌, ◌<◌, length};
 ghost use Rattle.meaning.specs.Depths.{Depths};
 ghost use Rattle.meaning.specs.Reading.{child_step, elements as elements_in};
 ghost use Rattle.meaning.specs.Padding.{Aligns};

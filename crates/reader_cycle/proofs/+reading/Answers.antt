@@ -26,59 +26,26 @@ array::array-overflow_add-at = ArrayArray.overflow_add-at
 pub array::array-bounds-text-at : goal.array::array-bounds-text-at
 array::array-bounds-text-at = ArrayArray.bounds-text-at
 
-pub array::array-overflow_add-place : goal.array::array-overflow_add-place
-array::array-overflow_add-place = ArrayArray.overflow_add-place
-
 pub array::array-returns-then-lead-part : goal.array::array-returns-then-lead-part
 array::array-returns-then-lead-part = ArrayArray.returns-then-lead-part
 
 pub array::array-repeats_fixed-requires : goal.array::array-repeats_fixed-requires
 array::array-repeats_fixed-requires = ArrayArray.repeats_fixed-requires
 
-pub array::array-overflow_add-place-then-repeats_fixed : goal.array::array-overflow_add-place-then-repeats_fixed
-array::array-overflow_add-place-then-repeats_fixed = ArrayArray.overflow_add-place-then-repeats_fixed
-
 pub array::array-elements-r-requires : goal.array::array-elements-r-requires
 array::array-elements-r-requires = ArrayArray.elements-r-requires
-
-pub array::array-overflow_add-place-then-repeats_fixed-2 : goal.array::array-overflow_add-place-then-repeats_fixed-2
-array::array-overflow_add-place-then-repeats_fixed-2 = ArrayArray.overflow_add-place-then-repeats_fixed-2
-
-pub array::array-close-requires : goal.array::array-close-requires
-array::array-close-requires = ArrayArray.close-requires
 
 pub array::array-returns-then-repeats_fixed : goal.array::array-returns-then-repeats_fixed
 array::array-returns-then-repeats_fixed = ArrayArray.returns-then-repeats_fixed
 
-pub array::array-slice_bounds-from_encoded_array-count : goal.array::array-slice_bounds-from_encoded_array-count
-array::array-slice_bounds-from_encoded_array-count = ArrayArray.slice_bounds-from_encoded_array-count
-
-pub array::array-slice_bounds-from_encoded_array-start : goal.array::array-slice_bounds-from_encoded_array-start
-array::array-slice_bounds-from_encoded_array-start = ArrayArray.slice_bounds-from_encoded_array-start
-
-pub array::array-slice_bounds-from_encoded_array-end : goal.array::array-slice_bounds-from_encoded_array-end
-array::array-slice_bounds-from_encoded_array-end = ArrayArray.slice_bounds-from_encoded_array-end
-
 pub array::array-returns-in_err-ends : goal.array::array-returns-in_err-ends
 array::array-returns-in_err-ends = ArrayArray.returns-in_err-ends
-
-pub array::array-overflow_add-place-2 : goal.array::array-overflow_add-place-2
-array::array-overflow_add-place-2 = ArrayArray.overflow_add-place-2
 
 pub array::array-framed-r-requires : goal.array::array-framed-r-requires
 array::array-framed-r-requires = ArrayArray.framed-r-requires
 
-pub array::array-overflow_add-place-3 : goal.array::array-overflow_add-place-3
-array::array-overflow_add-place-3 = ArrayArray.overflow_add-place-3
-
-pub array::array-close-requires-2 : goal.array::array-close-requires-2
-array::array-close-requires-2 = ArrayArray.close-requires-2
-
 pub array::array-returns : goal.array::array-returns
 array::array-returns = ArrayArray.returns
-
-pub array::elements-overflow_add-child : goal.array::elements-overflow_add-child
-array::elements-overflow_add-child = ArrayElements.overflow_add-child
 
 pub array::elements-bounds-text-child : goal.array::elements-bounds-text-child
 array::elements-bounds-text-child = ArrayElements.bounds-text-child
@@ -91,12 +58,6 @@ array::elements-returns-in-Some = ArrayElements.returns-in-Some
 
 pub array::elements-loop-read-init : goal.array::elements-loop-read-init
 array::elements-loop-read-init = ArrayElements.loop-read-init
-
-pub array::elements-overflow_add-lead : goal.array::elements-overflow_add-lead
-array::elements-overflow_add-lead = ArrayElements.overflow_add-lead
-
-pub array::elements-overflow_add-j : goal.array::elements-overflow_add-j
-array::elements-overflow_add-j = ArrayElements.overflow_add-j
 
 pub array::elements-entry-r-requires : goal.array::elements-entry-r-requires
 array::elements-entry-r-requires = ArrayElements.entry-r-requires
@@ -128,12 +89,6 @@ array::framed-overflow_add-child = ArrayFramed.overflow_add-child
 pub array::framed-held_width-requires : goal.array::framed-held_width-requires
 array::framed-held_width-requires = ArrayFramed.held_width-requires
 
-pub array::framed-overflow_add-held : goal.array::framed-overflow_add-held
-array::framed-overflow_add-held = ArrayFramed.overflow_add-held
-
-pub array::framed-bounds-text-at : goal.array::framed-bounds-text-at
-array::framed-bounds-text-at = ArrayFramed.bounds-text-at
-
 pub array::framed-readings-requires : goal.array::framed-readings-requires
 array::framed-readings-requires = ArrayFramed.readings-requires
 
@@ -149,23 +104,8 @@ array::framed-texts-requires = ArrayFramed.texts-requires
 pub array::framed-returns-then-is_text : goal.array::framed-returns-then-is_text
 array::framed-returns-then-is_text = ArrayFramed.returns-then-is_text
 
-pub array::framed-overflow_add-b : goal.array::framed-overflow_add-b
-array::framed-overflow_add-b = ArrayFramed.overflow_add-b
-
-pub array::framed-slice_bounds-table-count : goal.array::framed-slice_bounds-table-count
-array::framed-slice_bounds-table-count = ArrayFramed.slice_bounds-table-count
-
-pub array::framed-slice_bounds-table-start : goal.array::framed-slice_bounds-table-start
-array::framed-slice_bounds-table-start = ArrayFramed.slice_bounds-table-start
-
-pub array::framed-slice_bounds-table-end : goal.array::framed-slice_bounds-table-end
-array::framed-slice_bounds-table-end = ArrayFramed.slice_bounds-table-end
-
 pub array::framed-loop-i-init : goal.array::framed-loop-i-init
 array::framed-loop-i-init = ArrayFramed.loop-i-init
-
-pub array::framed-overflow_add-j : goal.array::framed-overflow_add-j
-array::framed-overflow_add-j = ArrayFramed.overflow_add-j
 
 pub array::framed-overflow_add-e : goal.array::framed-overflow_add-e
 array::framed-overflow_add-e = ArrayFramed.overflow_add-e
@@ -187,12 +127,6 @@ array::framed-returns-in_err-so_far = ArrayFramed.returns-in_err-so_far
 
 pub array::framed-loop-i-preserved : goal.array::framed-loop-i-preserved
 array::framed-loop-i-preserved = ArrayFramed.loop-i-preserved
-
-pub array::framed-overflow_sub-part : goal.array::framed-overflow_sub-part
-array::framed-overflow_sub-part = ArrayFramed.overflow_sub-part
-
-pub array::framed-overflow_add-so_far : goal.array::framed-overflow_add-so_far
-array::framed-overflow_add-so_far = ArrayFramed.overflow_add-so_far
 
 pub array::framed-returns : goal.array::framed-returns
 array::framed-returns = ArrayFramed.returns
@@ -299,15 +233,6 @@ dictionary::fixed_key-overflow_add-at = DictionaryFixedKey.overflow_add-at
 pub dictionary::fixed_key-bounds-text-at : goal.dictionary::fixed_key-bounds-text-at
 dictionary::fixed_key-bounds-text-at = DictionaryFixedKey.bounds-text-at
 
-pub dictionary::fixed_key-slice_bounds-leaf-start : goal.dictionary::fixed_key-slice_bounds-leaf-start
-dictionary::fixed_key-slice_bounds-leaf-start = DictionaryFixedKey.slice_bounds-leaf-start
-
-pub dictionary::fixed_key-slice_bounds-leaf-end : goal.dictionary::fixed_key-slice_bounds-leaf-end
-dictionary::fixed_key-slice_bounds-leaf-end = DictionaryFixedKey.slice_bounds-leaf-end
-
-pub dictionary::fixed_key-overflow_add-place : goal.dictionary::fixed_key-overflow_add-place
-dictionary::fixed_key-overflow_add-place = DictionaryFixedKey.overflow_add-place
-
 pub dictionary::fixed_key-leaf-requires : goal.dictionary::fixed_key-leaf-requires
 dictionary::fixed_key-leaf-requires = DictionaryFixedKey.leaf-requires
 
@@ -331,12 +256,6 @@ dictionary::fixed_key-offset_bounds-shapes-at = DictionaryFixedKey.offset_bounds
 
 pub dictionary::fixed_key-bounds-shapes-at : goal.dictionary::fixed_key-bounds-shapes-at
 dictionary::fixed_key-bounds-shapes-at = DictionaryFixedKey.bounds-shapes-at
-
-pub dictionary::fixed_key-offset_bounds-shapes-at-then-fixed_of : goal.dictionary::fixed_key-offset_bounds-shapes-at-then-fixed_of
-dictionary::fixed_key-offset_bounds-shapes-at-then-fixed_of = DictionaryFixedKey.offset_bounds-shapes-at-then-fixed_of
-
-pub dictionary::fixed_key-bounds-shapes-at-then-fixed_of : goal.dictionary::fixed_key-bounds-shapes-at-then-fixed_of
-dictionary::fixed_key-bounds-shapes-at-then-fixed_of = DictionaryFixedKey.bounds-shapes-at-then-fixed_of
 
 pub dictionary::fixed_key-end_padded-r-requires : goal.dictionary::fixed_key-end_padded-r-requires
 dictionary::fixed_key-end_padded-r-requires = DictionaryFixedKey.end_padded-r-requires
@@ -374,9 +293,6 @@ dictionary::text_key-slice_bounds-leaf-start = DictionaryTextKey.slice_bounds-le
 pub dictionary::text_key-slice_bounds-leaf-end : goal.dictionary::text_key-slice_bounds-leaf-end
 dictionary::text_key-slice_bounds-leaf-end = DictionaryTextKey.slice_bounds-leaf-end
 
-pub dictionary::text_key-overflow_add-place : goal.dictionary::text_key-overflow_add-place
-dictionary::text_key-overflow_add-place = DictionaryTextKey.overflow_add-place
-
 pub dictionary::text_key-leaf-requires : goal.dictionary::text_key-leaf-requires
 dictionary::text_key-leaf-requires = DictionaryTextKey.leaf-requires
 
@@ -391,9 +307,6 @@ dictionary::text_key-overflow_add-from-2 = DictionaryTextKey.overflow_add-from-2
 
 pub dictionary::text_key-returns-then-e-from : goal.dictionary::text_key-returns-then-e-from
 dictionary::text_key-returns-then-e-from = DictionaryTextKey.returns-then-e-from
-
-pub dictionary::text_key-overflow_sub-end : goal.dictionary::text_key-overflow_sub-end
-dictionary::text_key-overflow_sub-end = DictionaryTextKey.overflow_sub-end
 
 pub dictionary::text_key-overflow_add-at-2 : goal.dictionary::text_key-overflow_add-at-2
 dictionary::text_key-overflow_add-at-2 = DictionaryTextKey.overflow_add-at-2
@@ -410,9 +323,6 @@ dictionary::text_key-behind-requires = DictionaryTextKey.behind-requires
 pub dictionary::text_key-returns : goal.dictionary::text_key-returns
 dictionary::text_key-returns = DictionaryTextKey.returns
 
-pub maybe::maybe-overflow_add-place : goal.maybe::maybe-overflow_add-place
-maybe::maybe-overflow_add-place = MaybeMaybe.overflow_add-place
-
 pub maybe::maybe-returns-then-part-lead : goal.maybe::maybe-returns-then-part-lead
 maybe::maybe-returns-then-part-lead = MaybeMaybe.returns-then-part-lead
 
@@ -421,9 +331,6 @@ maybe::maybe-in_maybe-requires = MaybeMaybe.in_maybe-requires
 
 pub maybe::maybe-returns-in_err-deeper : goal.maybe::maybe-returns-in_err-deeper
 maybe::maybe-returns-in_err-deeper = MaybeMaybe.returns-in_err-deeper
-
-pub maybe::maybe-overflow_add-place-2 : goal.maybe::maybe-overflow_add-place-2
-maybe::maybe-overflow_add-place-2 = MaybeMaybe.overflow_add-place-2
 
 pub maybe::maybe-overflow_add-held : goal.maybe::maybe-overflow_add-held
 maybe::maybe-overflow_add-held = MaybeMaybe.overflow_add-held
@@ -440,9 +347,6 @@ maybe::maybe-value-requires = MaybeMaybe.value-requires
 pub maybe::maybe-returns-then-fixed : goal.maybe::maybe-returns-then-fixed
 maybe::maybe-returns-then-fixed = MaybeMaybe.returns-then-fixed
 
-pub maybe::maybe-overflow_sub-stop : goal.maybe::maybe-overflow_sub-stop
-maybe::maybe-overflow_sub-stop = MaybeMaybe.overflow_sub-stop
-
 pub maybe::maybe-value-r-requires : goal.maybe::maybe-value-r-requires
 maybe::maybe-value-r-requires = MaybeMaybe.value-r-requires
 
@@ -457,9 +361,6 @@ structure::structure-in_structure-requires = StructureStructure.in_structure-req
 
 pub structure::structure-returns-in_err-deeper : goal.structure::structure-returns-in_err-deeper
 structure::structure-returns-in_err-deeper = StructureStructure.returns-in_err-deeper
-
-pub structure::structure-overflow_add-place : goal.structure::structure-overflow_add-place
-structure::structure-overflow_add-place = StructureStructure.overflow_add-place
 
 pub structure::structure-overflow_add-i : goal.structure::structure-overflow_add-i
 structure::structure-overflow_add-i = StructureStructure.overflow_add-i
@@ -527,9 +428,6 @@ structure::structure-close_fields-s-requires = StructureStructure.close_fields-s
 pub structure::structure-behind-all-requires : goal.structure::structure-behind-all-requires
 structure::structure-behind-all-requires = StructureStructure.behind-all-requires
 
-pub structure::structure-overflow_add-place-2 : goal.structure::structure-overflow_add-place-2
-structure::structure-overflow_add-place-2 = StructureStructure.overflow_add-place-2
-
 pub structure::structure-close-requires : goal.structure::structure-close-requires
 structure::structure-close-requires = StructureStructure.close-requires
 
@@ -541,15 +439,6 @@ structure::structure-returns = StructureStructure.returns
 
 pub value-returns-then-e-j : goal.value-returns-then-e-j
 value-returns-then-e-j = Value.returns-then-e-j
-
-pub value-slice_bounds-own-start : goal.value-slice_bounds-own-start
-value-slice_bounds-own-start = Value.slice_bounds-own-start
-
-pub value-slice_bounds-own-end : goal.value-slice_bounds-own-end
-value-slice_bounds-own-end = Value.slice_bounds-own-end
-
-pub value-overflow_add-from : goal.value-overflow_add-from
-value-overflow_add-from = Value.overflow_add-from
 
 pub value-bounds-text-at : goal.value-bounds-text-at
 value-bounds-text-at = Value.bounds-text-at
@@ -566,38 +455,17 @@ value-returns-in-97 = Value.returns-in-97
 pub value-returns-in_default : goal.value-returns-in_default
 value-returns-in_default = Value.returns-in_default
 
-pub variant::variant-slice_bounds-separator-count : goal.variant::variant-slice_bounds-separator-count
-variant::variant-slice_bounds-separator-count = VariantVariant.slice_bounds-separator-count
-
-pub variant::variant-slice_bounds-separator-start : goal.variant::variant-slice_bounds-separator-start
-variant::variant-slice_bounds-separator-start = VariantVariant.slice_bounds-separator-start
-
-pub variant::variant-slice_bounds-separator-end : goal.variant::variant-slice_bounds-separator-end
-variant::variant-slice_bounds-separator-end = VariantVariant.slice_bounds-separator-end
-
 pub variant::variant-returns-in_default : goal.variant::variant-returns-in_default
 variant::variant-returns-in_default = VariantVariant.returns-in_default
 
 pub variant::variant-overflow_add-from : goal.variant::variant-overflow_add-from
 variant::variant-overflow_add-from = VariantVariant.overflow_add-from
 
-pub variant::variant-slice_bounds-text-count : goal.variant::variant-slice_bounds-text-count
-variant::variant-slice_bounds-text-count = VariantVariant.slice_bounds-text-count
-
-pub variant::variant-slice_bounds-text-start : goal.variant::variant-slice_bounds-text-start
-variant::variant-slice_bounds-text-start = VariantVariant.slice_bounds-text-start
-
-pub variant::variant-slice_bounds-text-end : goal.variant::variant-slice_bounds-text-end
-variant::variant-slice_bounds-text-end = VariantVariant.slice_bounds-text-end
-
 pub variant::variant-basic_variant-requires : goal.variant::variant-basic_variant-requires
 variant::variant-basic_variant-requires = VariantVariant.basic_variant-requires
 
 pub variant::variant-returns-in-Some-only_basic : goal.variant::variant-returns-in-Some-only_basic
 variant::variant-returns-in-Some-only_basic = VariantVariant.returns-in-Some-only_basic
-
-pub variant::variant-overflow_add-place : goal.variant::variant-overflow_add-place
-variant::variant-overflow_add-place = VariantVariant.overflow_add-place
 
 pub variant::variant-overflow_add-place-2 : goal.variant::variant-overflow_add-place-2
 variant::variant-overflow_add-place-2 = VariantVariant.overflow_add-place-2
@@ -613,9 +481,6 @@ variant::variant-in_variant-requires = VariantVariant.in_variant-requires
 
 pub variant::variant-returns-in_err-deeper : goal.variant::variant-returns-in_err-deeper
 variant::variant-returns-in_err-deeper = VariantVariant.returns-in_err-deeper
-
-pub variant::variant-overflow_sub-e : goal.variant::variant-overflow_sub-e
-variant::variant-overflow_sub-e = VariantVariant.overflow_sub-e
 
 pub variant::variant-value-r-requires : goal.variant::variant-value-r-requires
 variant::variant-value-r-requires = VariantVariant.value-r-requires

@@ -27,10 +27,6 @@ pub bounds-text-at : goal.array::array-bounds-text-at
 bounds-text-at t c =
     omega (arith, item_within _ _ _ _ (repeats _ _ _ c.requires.0 c.requires.1).repeated)
 
-pub overflow_add-place : goal.array::array-overflow_add-place
-overflow_add-place t c =
-    omega (arith, c.requires.2.in_frame, c.requires.3)
-
 pub returns-then-lead-part : goal.array::array-returns-then-lead-part
 returns-then-lead-part t c =
     array_empty (repeats _ _ _ c.requires.0 c.requires.1) _ _ _ _ _ _ ((rw c.in_ok-deeper.ensures at c.in_array.ensures).deeper refl) _ _ _
@@ -39,10 +35,6 @@ returns-then-lead-part t c =
 pub repeats_fixed-requires : goal.array::array-repeats_fixed-requires
 repeats_fixed-requires t c =
     (repeats _ _ _ c.requires.0 c.requires.1).repeated
-
-pub overflow_add-place-then-repeats_fixed : goal.array::array-overflow_add-place-then-repeats_fixed
-overflow_add-place-then-repeats_fixed t c =
-    omega (arith, c.requires.2.in_frame, c.requires.3)
 
 pub elements-r-requires : goal.array::array-elements-r-requires
 elements-r-requires t c = (
@@ -56,28 +48,11 @@ elements-r-requires t c = (
   ),
 )
 
-pub overflow_add-place-then-repeats_fixed-2 : goal.array::array-overflow_add-place-then-repeats_fixed-2
-overflow_add-place-then-repeats_fixed-2 t c =
-    omega (arith, c.requires.2.in_frame, c.requires.3)
-
-pub close-requires : goal.array::array-close-requires
-close-requires t c =
-    omega (arith, c.elements-r.ensures.fits, c.requires.2.in_frame, c.requires.3)
-
 pub returns-then-repeats_fixed : goal.array::array-returns-then-repeats_fixed
 returns-then-repeats_fixed t c =
     array_fixed (repeats _ _ _ c.requires.0 c.requires.1) _ _ _ _ _ _
     ((rw c.in_ok-deeper.ensures at c.in_array.ensures).deeper refl) _ _ _ _ (sym c.repeats_fixed.ensures ∙ c.if-repeats_fixed.true) c.emit-m.ensures.counted
     (rw c.kind_by-kind.ensures at c.emit-m.ensures.written) (c.close.ensures _ _ _ _ _ c.elements-r.ensures)
-
-pub slice_bounds-from_encoded_array-count : goal.array::array-slice_bounds-from_encoded_array-count
-slice_bounds-from_encoded_array-count t c = omega arith
-
-pub slice_bounds-from_encoded_array-start : goal.array::array-slice_bounds-from_encoded_array-start
-slice_bounds-from_encoded_array-start t c = omega arith
-
-pub slice_bounds-from_encoded_array-end : goal.array::array-slice_bounds-from_encoded_array-end
-slice_bounds-from_encoded_array-end t c = omega arith
 
 pub returns-in_err-ends : goal.array::array-returns-in_err-ends
 returns-in_err-ends t c =
@@ -85,10 +60,6 @@ returns-in_err-ends t c =
     refused_at _ _ c.from_residual-in_err-ends.ensures s (array_no_table (repeats _ _ _ c.requires.0 c.requires.1) _ _ _ _ _ _
     ((rw c.in_ok-deeper.ensures at c.in_array.ensures).deeper refl) (sym c.repeats_fixed.ensures ∙ c.if-repeats_fixed.false) _
     (rw (tail c.args.lead c.args.part.now, s.refusal) at c.from_encoded_array.ensures) (number_not_0 _))
-
-pub overflow_add-place-2 : goal.array::array-overflow_add-place-2
-overflow_add-place-2 t c =
-    omega (arith, c.requires.2.in_frame, c.requires.3)
 
 pub framed-r-requires : goal.array::array-framed-r-requires
 framed-r-requires t c = (
@@ -103,14 +74,6 @@ framed-r-requires t c = (
         (rw (tail c.args.lead c.args.part.now, c.in_ok-ends.ensures) at c.from_encoded_array.ensures) refl,
   ),
 )
-
-pub overflow_add-place-3 : goal.array::array-overflow_add-place-3
-overflow_add-place-3 t c =
-    omega (arith, c.requires.2.in_frame, c.requires.3)
-
-pub close-requires-2 : goal.array::array-close-requires-2
-close-requires-2 t c =
-    omega (arith, c.framed-r.ensures.fits, c.requires.2.in_frame, c.requires.3)
 
 pub returns : goal.array::array-returns
 returns t c =

@@ -19,10 +19,6 @@ use native.Mathlib.Omega.{arith}
 use Rattle.reader_cycle.proofs.+reading.Goals as goal
 use Rattle.reader_cycle.proofs.+reading.Goals.{array::elements-then-is_entry, array::elements-else-is_entry}
 
-pub overflow_add-child : goal.array::elements-overflow_add-child
-overflow_add-child t c =
-    omega (arith, item_within c.args.text.now c.args.shapes.now c.args.at _ c.requires.0, c.requires.0.child.typed.short)
-
 pub bounds-text-child : goal.array::elements-bounds-text-child
 bounds-text-child t c =
     omega (arith, item_within c.args.text.now c.args.shapes.now c.args.at _ c.requires.0)
@@ -46,14 +42,6 @@ returns-in-Some t c =
 pub loop-read-init : goal.array::elements-loop-read-init
 loop-read-init t c =
     elements_begin _ _ _ _ _ c.requires.3
-
-pub overflow_add-lead : goal.array::elements-overflow_add-lead
-overflow_add-lead t c =
-    omega (arith, c.loop-read.invariant.bound, c.requires.2.in_frame)
-
-pub overflow_add-j : goal.array::elements-overflow_add-j
-overflow_add-j t c =
-    omega (arith, c.loop-read.invariant.bound, c.requires.2.in_frame)
 
 pub entry-r-requires : goal.array::elements-entry-r-requires
 entry-r-requires t c =

@@ -30,14 +30,6 @@ pub held_width-requires : goal.array::framed-held_width-requires
 held_width-requires t c =
     omega (arith, item_within c.args.text.now c.args.shapes.now c.args.at _ c.requires.0)
 
-pub overflow_add-held : goal.array::framed-overflow_add-held
-overflow_add-held t c =
-    omega (arith, item_within c.args.text.now c.args.shapes.now c.args.at _ c.requires.0, c.requires.0.child.typed.short)
-
-pub bounds-text-at : goal.array::framed-bounds-text-at
-bounds-text-at t c =
-    omega (arith, c.in-Some.ensures.within)
-
 pub readings-requires : goal.array::framed-readings-requires
 readings-requires t c = (
   inside_as c.context_of-context.ensures c.requires.2,
@@ -67,28 +59,8 @@ returns-then-is_text t c =
     c.if-is_text.true ∙ c.is_text.ensures)) c.args.offsets c.args.place c.args.part.now
     c.args.lead _ _ _ _ _ _ c.texts.ensures
 
-pub overflow_add-b : goal.array::framed-overflow_add-b
-overflow_add-b t c =
-    omega (arith, c.requires.4.start, length-drop c.args.lead c.args.part.now, c.requires.2.in_frame, c.requires.3)
-
-pub slice_bounds-table-count : goal.array::framed-slice_bounds-table-count
-slice_bounds-table-count t c =
-    omega (arith, c.requires.4.start, length-drop c.args.lead c.args.part.now, c.requires.2.in_frame, c.requires.3)
-
-pub slice_bounds-table-start : goal.array::framed-slice_bounds-table-start
-slice_bounds-table-start t c =
-    omega (arith, c.requires.4.start, length-drop c.args.lead c.args.part.now, c.requires.2.in_frame, c.requires.3)
-
-pub slice_bounds-table-end : goal.array::framed-slice_bounds-table-end
-slice_bounds-table-end t c =
-    omega (arith, c.requires.4.start, length-drop c.args.lead c.args.part.now, c.requires.2.in_frame, c.requires.3)
-
 pub loop-i-init : goal.array::framed-loop-i-init
 loop-i-init t c = framed_begin _ _ _ _ _ _ _ (omega arith)
-
-pub overflow_add-j : goal.array::framed-overflow_add-j
-overflow_add-j t c =
-    omega (arith, c.loop-i.invariant.bound, c.requires.4.start, length-drop c.args.lead c.args.part.now, c.requires.2.in_frame, c.requires.3)
 
 pub overflow_add-e : goal.array::framed-overflow_add-e
 overflow_add-e t c =
@@ -194,14 +166,6 @@ loop-i-preserved t c =
     (omega (arith, ends_below c.requires.4 c.loop-i.i))
     (rw (c.unwrap_or-offset.ensures ∙ checked_value c.next_in.result ∙ next_end c.requires.4 c.loop-i.i _ c.loop-i-test.true
     (offset_told c.args.offsets c.loop-i.i c.args.lead c.args.part.now c.loop-i-test.true c.next_in.ensures)) at turned) (sym (ap (λ (x : Counts). x.refusal) e)))
-
-pub overflow_sub-part : goal.array::framed-overflow_sub-part
-overflow_sub-part t c =
-    omega (arith, c.requires.4.start, length-drop c.args.lead c.args.part.now, c.requires.3)
-
-pub overflow_add-so_far : goal.array::framed-overflow_add-so_far
-overflow_add-so_far t c =
-    omega (arith, c.loop-i.invariant.bound, c.requires.4.start, length-drop c.args.lead c.args.part.now, c.requires.2.in_frame, c.requires.3)
 
 pub returns : goal.array::framed-returns
 returns t c =

@@ -25,18 +25,6 @@ pub bounds-text-at : goal.dictionary::fixed_key-bounds-text-at
 bounds-text-at t c =
     omega (arith, value_within c.args.text.now c.args.shapes.now c.args.at c.requires.0)
 
-pub slice_bounds-leaf-start : goal.dictionary::fixed_key-slice_bounds-leaf-start
-slice_bounds-leaf-start t c =
-    omega (arith, c.if-e-j.false, c.requires.3)
-
-pub slice_bounds-leaf-end : goal.dictionary::fixed_key-slice_bounds-leaf-end
-slice_bounds-leaf-end t c =
-    omega (arith, c.if-e-j.false, c.requires.3)
-
-pub overflow_add-place : goal.dictionary::fixed_key-overflow_add-place
-overflow_add-place t c =
-    omega (arith, c.requires.1.in_frame, c.requires.2)
-
 pub leaf-requires : goal.dictionary::fixed_key-leaf-requires
 leaf-requires t c =
     within_child _ _ _ c.requires.1 c.if-e-j.false c.requires.3
@@ -69,14 +57,6 @@ offset_bounds-shapes-at t c =
 
 pub bounds-shapes-at : goal.dictionary::fixed_key-bounds-shapes-at
 bounds-shapes-at t c =
-    omega (arith, value_within c.args.text.now c.args.shapes.now c.args.at c.requires.0, c.requires.0.child.typed.short)
-
-pub offset_bounds-shapes-at-then-fixed_of : goal.dictionary::fixed_key-offset_bounds-shapes-at-then-fixed_of
-offset_bounds-shapes-at-then-fixed_of t c =
-    omega (arith, value_within c.args.text.now c.args.shapes.now c.args.at c.requires.0, c.requires.0.child.typed.short)
-
-pub bounds-shapes-at-then-fixed_of : goal.dictionary::fixed_key-bounds-shapes-at-then-fixed_of
-bounds-shapes-at-then-fixed_of t c =
     omega (arith, value_within c.args.text.now c.args.shapes.now c.args.at c.requires.0, c.requires.0.child.typed.short)
 
 pub end_padded-r-requires : goal.dictionary::fixed_key-end_padded-r-requires

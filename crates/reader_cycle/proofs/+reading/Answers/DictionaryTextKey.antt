@@ -44,10 +44,6 @@ pub slice_bounds-leaf-end : goal.dictionary::text_key-slice_bounds-leaf-end
 slice_bounds-leaf-end t c =
     omega (arith, (key_there _ _ _ _ _ (rw c.in_ok-ends.ensures at c.key_ends.ensures) refl).end, (key_there _ _ _ _ _ (rw c.in_ok-ends.ensures at c.key_ends.ensures) refl).within, c.requires.4)
 
-pub overflow_add-place : goal.dictionary::text_key-overflow_add-place
-overflow_add-place t c =
-    omega (arith, c.requires.1.in_frame, c.requires.2)
-
 pub leaf-requires : goal.dictionary::text_key-leaf-requires
 leaf-requires t c =
     within_child c.args.part.now c.args.j c.in_ok-ends.ends.child c.requires.1 (omega (arith, (key_there _ _ _ _ _ (rw c.in_ok-ends.ensures at c.key_ends.ensures) refl).end))
@@ -82,9 +78,6 @@ returns-then-e-from t c =
     c.args.place c.args.part.now c.args.j c.in_ok-ends.ends.child _ _ _ _ (omega (arith, (key_there _ _ _ _ _ (rw c.in_ok-ends.ensures at c.key_ends.ensures) refl).end)) (omega
     (arith, (key_there _ _ _ _ _ (rw c.in_ok-ends.ensures at c.key_ends.ensures) refl).within, c.requires.4)) c.in_ok-k.ensures (depths_of (context_of c.args.ride).depths) in
     told_by c.refused.ensures (text_key_narrow _ _ _ _ _ _ _ (key_there _ _ _ _ _ (rw c.in_ok-ends.ensures at c.key_ends.ensures) refl) _ _ c.requires.3 c.requires.4 _ _ key refl c.if-e-from.true)
-
-pub overflow_sub-end : goal.dictionary::text_key-overflow_sub-end
-overflow_sub-end t c = omega (arith, c.if-e-from.false)
 
 pub overflow_add-at-2 : goal.dictionary::text_key-overflow_add-at-2
 overflow_add-at-2 t c =

@@ -9,10 +9,6 @@ use mathlib.Core.Path.{◌∙◌, refl}
 use native.Mathlib.Omega.{arith}
 use Rattle.reader_cycle.proofs.+reading.Goals as goal
 
-pub overflow_add-place : goal.maybe::maybe-overflow_add-place
-overflow_add-place t c =
-    omega (arith, c.requires.2.in_frame, c.requires.3)
-
 pub returns-then-part-lead : goal.maybe::maybe-returns-then-part-lead
 returns-then-part-lead t c =
     told_by c.done.ensures (maybe_none c.requires.0.typed c.requires.1 _ _ _ _ _ _ _ _ c.if-part-lead.true c.emit-m.ensures.counted c.emit-m.ensures.written)
@@ -25,10 +21,6 @@ pub returns-in_err-deeper : goal.maybe::maybe-returns-in_err-deeper
 returns-in_err-deeper t c =
     let s = c.in_err-deeper.ensures in
     refused_at _ _ c.from_residual.ensures s (maybe_deep c.requires.0.typed c.requires.1 _ _ _ _ _ _ c.if-part-lead.false (rw s.refusal at c.in_maybe.ensures) (number_not_0 _))
-
-pub overflow_add-place-2 : goal.maybe::maybe-overflow_add-place-2
-overflow_add-place-2 t c =
-    omega (arith, c.requires.2.in_frame, c.requires.3)
 
 pub overflow_add-held : goal.maybe::maybe-overflow_add-held
 overflow_add-held t c =
@@ -57,9 +49,6 @@ returns-then-fixed t c =
     maybe_fixed c.requires.0.typed c.requires.1 _ _ _ _ _ _ c.if-part-lead.false ((rw c.in_ok-deeper.ensures at c.in_maybe.ensures).deeper refl)
     c.emit-m-2.ensures.counted c.emit-m-2.ensures.written refl
     (c.fixed_of-fixed.ensures ∙ described_fixed (maybe_described _ _ c.requires.0.typed c.requires.1 _ c.requires.0.table)) _ _ c.if-fixed.true c.value.ensures
-
-pub overflow_sub-stop : goal.maybe::maybe-overflow_sub-stop
-overflow_sub-stop t c = omega arith
 
 pub value-r-requires : goal.maybe::maybe-value-r-requires
 value-r-requires t c = (

@@ -24,10 +24,6 @@ returns-in_err-deeper t c =
     let s = c.in_err-deeper.ensures in
     refused_at _ _ c.from_residual.ensures s (structure_deep c.requires.0 c.requires.1 _ _ _ _ _ _ (rw s.refusal at c.in_structure.ensures) (number_not_0 _))
 
-pub overflow_add-place : goal.structure::structure-overflow_add-place
-overflow_add-place t c =
-    omega (arith, c.requires.2.in_frame, c.requires.3)
-
 pub overflow_add-i : goal.structure::structure-overflow_add-i
 overflow_add-i t c =
     omega (arith, (cut c.args.text.now c.args.at OpenStructure 40 c.requires.1 refl).within, c.requires.0.typed.short)
@@ -145,10 +141,6 @@ pub behind-all-requires : goal.structure::structure-behind-all-requires
 behind-all-requires t c =
     let d = (rw c.in_ok-deeper.ensures at c.in_structure.ensures).deeper refl in
     omega (arith, (c.close_fields-s.ensures _ _ _ _ c.value-r-2.ensures).fits, c.requires.2.in_frame, c.loop-field.invariant.within)
-
-pub overflow_add-place-2 : goal.structure::structure-overflow_add-place-2
-overflow_add-place-2 t c =
-    omega (arith, c.requires.2.in_frame, c.requires.3)
 
 pub close-requires : goal.structure::structure-close-requires
 close-requires t c =

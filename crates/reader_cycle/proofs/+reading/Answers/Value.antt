@@ -12,16 +12,6 @@ returns-then-e-j t c = told_by c.refused.ensures (elim c.then-e-j.branch [
   | value-then-e-j-via-else-e-j+then-part-e w ↦ child_past _ _ _ _ _ _ _ _ _ w.if-e-j.false w.if-part-e.true
 ])
 
-pub slice_bounds-own-start : goal.value-slice_bounds-own-start
-slice_bounds-own-start t c = omega arith
-
-pub slice_bounds-own-end : goal.value-slice_bounds-own-end
-slice_bounds-own-end t c = omega arith
-
-pub overflow_add-from : goal.value-overflow_add-from
-overflow_add-from t c =
-    omega (arith, c.requires.1.in_frame, c.requires.2)
-
 pub bounds-text-at : goal.value-bounds-text-at
 bounds-text-at t c =
     omega (arith, typed_within c.requires.0.typed)

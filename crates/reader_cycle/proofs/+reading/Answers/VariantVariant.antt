@@ -16,15 +16,6 @@ use mathlib.Core.Path.{◌≡◌, ◌∙◌, ap, refl, sym}
 use native.Mathlib.Omega.{arith}
 use Rattle.reader_cycle.proofs.+reading.Goals as goal
 
-pub slice_bounds-separator-count : goal.variant::variant-slice_bounds-separator-count
-slice_bounds-separator-count t c = omega arith
-
-pub slice_bounds-separator-start : goal.variant::variant-slice_bounds-separator-start
-slice_bounds-separator-start t c = omega arith
-
-pub slice_bounds-separator-end : goal.variant::variant-slice_bounds-separator-end
-slice_bounds-separator-end t c = omega arith
-
 pub returns-in_default : goal.variant::variant-returns-in_default
 returns-in_default t c =
     told_by c.refused.ensures (variant_none _ _ _ _ _ _ 0 (rw (tail c.args.lead c.args.part.now) at (sym c.in_default.ensures)) refl)
@@ -32,15 +23,6 @@ returns-in_default t c =
 pub overflow_add-from : goal.variant::variant-overflow_add-from
 overflow_add-from t c =
     omega (arith, c.requires.0.in_frame, c.requires.1, c.in-Some.ensures.2, length-take (length c.args.part.now - c.args.lead) (drop c.args.lead c.args.part.now))
-
-pub slice_bounds-text-count : goal.variant::variant-slice_bounds-text-count
-slice_bounds-text-count t c = omega arith
-
-pub slice_bounds-text-start : goal.variant::variant-slice_bounds-text-start
-slice_bounds-text-start t c = omega arith
-
-pub slice_bounds-text-end : goal.variant::variant-slice_bounds-text-end
-slice_bounds-text-end t c = omega arith
 
 pub basic_variant-requires : goal.variant::variant-basic_variant-requires
 basic_variant-requires t c = (
@@ -60,17 +42,14 @@ basic_variant-requires t c = (
 pub returns-in-Some-only_basic : goal.variant::variant-returns-in-Some-only_basic
 returns-in-Some-only_basic t c = c.basic_variant.ensures
 
-pub overflow_add-place : goal.variant::variant-overflow_add-place
-overflow_add-place t c =
-    omega (arith, c.requires.0.in_frame, c.requires.1)
-
 pub overflow_add-place-2 : goal.variant::variant-overflow_add-place-2
 overflow_add-place-2 t c =
     omega (arith, c.requires.0.in_frame, c.requires.1, c.in-Some.ensures.2, length-take (length c.args.part.now - c.args.lead) (drop c.args.lead c.args.part.now))
 
 pub returns-in_err-head : goal.variant::variant-returns-in_err-head
 returns-in_err-head t c =
-    handed_on _ _ c.from_residual.ensures (variant_text_lem _ _ _ _ _ _ _ (rw (tail c.args.lead c.args.part.now) at c.in-Some.ensures.0) (λ (z : c.in-Some.s ≡ 0). omega (arith, c.in-Some.ensures.1)) _ _ (rw (tail (c.args.lead + c.in-Some.s) c.args.part.now) at c.in_err-head.ensures) (number_not_0 _))
+    handed_on _ _ c.from_residual.ensures
+    (variant_text_lem _ _ _ _ _ _ _ (rw (tail c.args.lead c.args.part.now) at c.in-Some.ensures.0) (λ (z : c.in-Some.s ≡ 0). omega (arith, c.in-Some.ensures.1)) _ _ (rw (tail (c.args.lead + c.in-Some.s) c.args.part.now) at c.in_err-head.ensures) (number_not_0 _))
 
 pub returns-then-not-shapes_of : goal.variant::variant-returns-then-not-shapes_of
 returns-then-not-shapes_of t c =
@@ -93,10 +72,6 @@ returns-in_err-deeper t c =
     _ (front _ (rw (tail (c.args.lead + c.in-Some.s) c.args.part.now) at
     (table_type _ _ _ _ refl c.shapes_of.ensures (not-false _ c.if-not-shapes_of.false-raw)))).type (rw s.refusal at c.in_variant.ensures)
     (number_not_0 _))
-
-pub overflow_sub-e : goal.variant::variant-overflow_sub-e
-overflow_sub-e t c =
-    omega (arith, c.in-Some.ensures.1)
 
 pub value-r-requires : goal.variant::variant-value-r-requires
 value-r-requires t c = (

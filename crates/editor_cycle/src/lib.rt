@@ -1,6 +1,8 @@
 // The walk of the edit: functions that call each other as containers nest. It counts readings until it meets the one that is asked for, puts
 // that at the front of the tail that it is lent, and on its way back puts what stands behind it, container after container outwards. Into a
 // tail of no length nothing is put, and the walk only measures. Here: a value; each kind of container has a module.
+// A type (text, tables), a place (part, place) and what is asked (number, aim) are passed one by one: a struct of more than two words is kept in
+// memory, in the stack frame of each level of nesting, and the stack that a level takes is bounded.
 #![tactic(auto)]
 
 mod array;

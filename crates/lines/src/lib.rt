@@ -6,7 +6,7 @@ ghost use Rattle.lines.specs.Lines.{more, stored, Gathers};
 ghost use Rattle.lines.specs.Words.{place, word_at};
 
 // What `gather` did: how many bytes the line has so far, counted to one above what its memory holds; how many bytes of the block it
-// passed; and whether the line ended.
+// passed; and whether the line ended. `ended` is no flag over the other two, which count either way.
 #[derive(Clone, Copy)]
 pub struct Gathered {
     pub kept: usize,

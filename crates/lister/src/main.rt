@@ -18,6 +18,7 @@ fn list_block(
 ) -> io::Result<State> {
     let mut lines = [0u8; 8192];
     let mut rest = block;
+    // The lister says how much of the block it passed, so no iterator over the block goes with it.
     while !rest.is_empty() {
         let progress = list(state, text, frame, rest, &mut lines);
         state = progress.state;

@@ -6,7 +6,7 @@ use Prim.Native.Nat.{ℕ, suc, ◌+◌, ◌≤◌, ◌<◌}
 use native.Mathlib.Nat.{add-zero}
 use native.Mathlib.Omega.{arith}
 use lib.ListN.{length, set, length-append}
-use lib.Seq.{sets, length-sets, set_comm}
+use lib.Seq.{sets, length-sets}
 use borrow.Author.Tests.{le-leb, lt-leb, leb-true}
 use Rattle.meaning.specs.Choice.{pick}
 use Rattle.numerals.specs.Storing.{Puts, Stores, has_room}
@@ -16,19 +16,6 @@ sets_append [] u l i = ap (λ (k : ℕ). sets l k u) (sym (add-zero i))
 sets_append (b ∷ t) u l i =
     let e : suc i + length t ≡ i + suc (length t) = omega arith in
     sets_append t u (set l i b) (suc i) ∙ ap (λ (k : ℕ). sets (sets (set l i b) (suc i) t) k u) e
-
--- a byte stored behind a text, before it or after it
-sets_set : (t l : List ℕ) (i j b : ℕ) → i + length t ≤ j → sets (set l j b) i t ≡ set (sets l i t) j b
-sets_set [] l i j b h = refl
-sets_set (c ∷ t) l i j b h =
-    let apart : j ≡ i → ⊥ = λ e. omega arith in
-    ap (λ (x : List ℕ). sets x (suc i) t) (set_comm l j i b c apart) ∙ sets_set t (set l i c) (suc i) j b (omega arith)
-
-pub sets_last : (t l : List ℕ) (at b i : ℕ) → length t ≡ i → sets (set l (at + i) b) at t ≡ sets l at (t ++ (b ∷ []))
-sets_last t l at b i e =
-    sets_set t l at (at + i) b (omega arith)
-    ∙ ap (λ (k : ℕ). set (sets l at t) (at + k) b) (sym e)
-    ∙ sym (sets_append t (b ∷ []) l at)
 
 pub puts_none : (l : List ℕ) (at : ℕ) → Puts l l at [] at
 puts_none l at = record { next = sym (add-zero at); slice = refl }

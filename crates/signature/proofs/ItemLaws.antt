@@ -17,7 +17,6 @@ use Rattle.signature.specs.Items.{held_number, opens_entry, entry_item, element_
 use Rattle.signature.specs.declared.Letter.{Letter}
 use Rattle.signature.specs.declared.Letter.TheVariants.{End, Bad, Boolean, Number, Text, Variant, Maybe, Array, OpenStructure, CloseStructure, OpenEntry, CloseEntry}
 use Rattle.signature.specs.declared.shapes.Shape.{Shape}
-use Rattle.signature.proofs.Letters.{others, apart_from}
 use Rattle.signature.proofs.Dispatch.{is_array, is_dictionary}
 use Rattle.signature.proofs.TreeLaws.{tree_by_lem, described_by, described_alignment, described_fixed}
 use Rattle.signature.proofs.Children.{key_fixed_lem}

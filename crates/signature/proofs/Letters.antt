@@ -168,21 +168,6 @@ pub closes_entry : (l : List ℕ) (at : ℕ) → (at < length l) × (get_or l at
 unfolding letter_by basic_among
 closes_entry l at h = letter_some l at h.0 ∙ rw h.1
 
--- what is no key
-pub no_alignment : (k : Letter) → OneOf (0 ∷ 1 ∷ 5 ∷ 6 ∷ 7 ∷ 8 ∷ 9 ∷ 10 ∷ 11 ∷ []) (tag_of the_type k) → 0 ≡ key_alignment k
-no_alignment End w = refl
-no_alignment Bad w = refl
-no_alignment Boolean w = absurd (miss (0 ∷ 1 ∷ 5 ∷ 6 ∷ 7 ∷ 8 ∷ 9 ∷ 10 ∷ 11 ∷ []) 2 tt w)
-no_alignment (Number c n) w = absurd (miss (0 ∷ 1 ∷ 5 ∷ 6 ∷ 7 ∷ 8 ∷ 9 ∷ 10 ∷ 11 ∷ []) 3 tt w)
-no_alignment (Text c) w = absurd (miss (0 ∷ 1 ∷ 5 ∷ 6 ∷ 7 ∷ 8 ∷ 9 ∷ 10 ∷ 11 ∷ []) 4 tt w)
-no_alignment Variant w = refl
-no_alignment Maybe w = refl
-no_alignment Array w = refl
-no_alignment OpenStructure w = refl
-no_alignment CloseStructure w = refl
-no_alignment OpenEntry w = refl
-no_alignment CloseEntry w = refl
-
 -- a key stands at a place, or none
 pub record Key (l : List ℕ) (at : ℕ) : Type 0 where
   pub it : Basic

@@ -9,7 +9,7 @@
 // made and opened again at both ends. So is a key's alignment, 0 for what is no key.
 #![tactic(auto)]
 
-ghost use Rattle.std.specs.Prelude.{◌≡◌, ℕ, ◌+◌, ◌-◌, ◌*◌, ◌%◌, ◌/◌, ◌≤◌, ◌<◌, max, length, set};
+ghost use Rattle.std.specs.Prelude.{◌≡◌, ℕ, ◌+◌, ◌-◌, ◌*◌, ◌%◌, ◌/◌, ◌≤◌, ◌<◌, length, set};
 ghost use Rattle.meaning.specs.Limits.{longest_type};
 ghost use Rattle.signature.specs.Places.{is_type, letter_at};
 ghost use Rattle.signature.specs.Shapes.{packed, shape_at, CharacterAt, ShapedFrom, Behind, Filled, Answered};

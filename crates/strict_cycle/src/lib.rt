@@ -1,5 +1,7 @@
 // The walk of the strict test: functions that call each other as containers nest. Here: a value, and a child; each kind of container has
 // a module. What is repeated in a container is passed in a loop.
+// A type (text, tables, shape) is passed piece by piece: a struct of more than two words is kept in memory, in the stack frame of each level of
+// nesting, and the stack that a level takes is bounded.
 #![tactic(auto)]
 
 mod array;

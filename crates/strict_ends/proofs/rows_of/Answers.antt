@@ -1,5 +1,5 @@
 -- `rows_of` meets its contract. Assumes nothing.
-use Rattle.strict_ends.proofs.EndLaws.{rows_fixed, rows_other}
+use Rattle.strict_ends.proofs.EndLaws.{rows_fixed}
 use Rattle.strict_ends.proofs.rows_of.Goals as goal
 
 pub returns-then-x : goal.returns-then-x

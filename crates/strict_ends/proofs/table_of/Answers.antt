@@ -1,10 +1,9 @@
 -- `table_of` meets its contract. Assumes nothing.
 use mathlib.Core.Path.{sym, ap, ◌∙◌}
-use native.Mathlib.Omega.{arith}
 use Prim.Native.Nat.{ℕ, ◌-◌, ◌/◌}
 use lib.ListN.{length}
 use Rattle.utils.proofs.Answered.{checked_value}
-use Rattle.strict_ends.proofs.EndLaws.{last_offset_is, table_past, table_odd, table_wide, table_stands_lem, count_small}
+use Rattle.strict_ends.proofs.EndLaws.{last_offset_is, table_past, table_odd, table_wide, table_stands_lem}
 use Rattle.strict_ends.proofs.table_of.Goals as goal
 use Rattle.strict_ends.proofs.table_of.Goals.{then-body-count-via-then-body-count, then-body-count-via-else-body-count+then-not-smallest}
 
@@ -12,7 +11,6 @@ pub returns-then-len-body : goal.returns-then-len-body
 returns-then-len-body c =
     table_past _ _ _ (c.width-width.ensures ∙ c.for_encoded_container-size.ensures)
     (c.unwrap_or-body.ensures ∙ checked_value c.last_in.result ∙ last_offset_is _ _ _ c.for_encoded_container-size.ensures c.last_in.ensures) c.if-len-body.true
-
 
 pub returns-then-body-count : goal.returns-then-body-count
 returns-then-body-count c =

@@ -1,8 +1,6 @@
 -- `key_written` meets its contract. Assumes nothing.
-use native.Mathlib.Omega.{arith}
-use Rattle.strict_basic.proofs.BasicLaws.{laid_as, key_not, key_on}
+use Rattle.strict_basic.proofs.BasicLaws.{key_not, key_on}
 use Rattle.strict_basic.proofs.basic.key_written.Goals as goal
-
 
 pub returns-in_default : goal.returns-in_default
 returns-in_default c =

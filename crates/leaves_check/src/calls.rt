@@ -64,7 +64,9 @@ fn print_raised(
 fn print_fitting(out: &impl Print, fitting: Option<FramingOffsetSize>) -> io::Result<()> {
     print::answer(
         out,
-        fitting.map(|size| size.width()).ok_or(Refusal::OverLimit),
+        fitting
+            .map(FramingOffsetSize::width)
+            .ok_or(Refusal::OverLimit),
     )
 }
 
@@ -110,6 +112,10 @@ fn print_text(out: &impl Print, part: &[u8]) -> io::Result<()> {
     print::answer(out, texts::check(text).map(|()| text.len()))
 }
 
+fn print_bool(out: &impl Print, part: &[u8]) -> io::Result<()> {
+    print::answer(out, de::read_bool(part, 0).map(usize::from))
+}
+
 fn print_padding(out: &impl Print, line: &[u8], part: &[u8]) -> io::Result<()> {
     let place = number(line, 2);
     match de::parse_padding(number(line, 1), place, number(line, 3), part) {
@@ -141,34 +147,13 @@ fn print_last_offset(out: &impl Print, line: &[u8], part: &[u8]) -> io::Result<(
     print::answer(out, size.read_last_offset_from_buffer(part))
 }
 
-// Which word of a line holds the bytes that the leaf reads, if it reads any.
-fn bytes_word(name: &[u8]) -> Option<usize> {
-    match name {
-        b"from_encoded_array" | b"text" | b"bool" => Some(1),
-        b"read_last_offset_from_buffer" => Some(2),
-        b"next_slice" | b"number" => Some(3),
-        b"parse_padding" => Some(4),
-        _ => None,
-    }
-}
-
-fn read_part(out: &impl Print, name: &[u8], line: &[u8], part: &[u8]) -> io::Result<()> {
-    match name {
-        b"from_encoded_array" => print_table(out, part),
-        b"text" => print_text(out, part),
-        b"bool" => print::answer(out, de::read_bool(part, 0).map(|truth| usize::from(truth))),
-        b"read_last_offset_from_buffer" => print_last_offset(out, line, part),
-        b"next_slice" => print_slice(out, line, part),
-        b"number" => print_number(out, line, part),
-        _ => print_padding(out, line, part),
-    }
-}
-
 // The answer of a leaf that reads the bytes of a word.
-fn read(out: &impl Print, name: &[u8], line: &[u8], at: usize) -> io::Result<()> {
+fn read<F: FnOnce(&[u8]) -> io::Result<()>>(line: &[u8], at: usize, print: F) -> io::Result<()>
+    requires { F.IsAlwaysCallable print }
+{
     let mut space = [0u8; 1024];
     let n = bytes(line, at, &mut space);
-    read_part(out, name, line, &space[..n])
+    print(&space[..n])
 }
 
 // The answer of a leaf that counts containers. A name of no leaf has none.
@@ -206,9 +191,16 @@ fn compute(out: &impl Print, name: &[u8], line: &[u8]) -> io::Result<()> {
 }
 
 pub fn answer(out: &impl Print, line: &[u8]) -> io::Result<()> {
-    let name = word(line, 0);
-    match bytes_word(name) {
-        Some(at) => read(out, name, line, at),
-        None => compute(out, name, line),
+    match word(line, 0) {
+        b"from_encoded_array" => read(line, 1, |part| print_table(out, part)),
+        b"text" => read(line, 1, |part| print_text(out, part)),
+        b"bool" => read(line, 1, |part| print_bool(out, part)),
+        b"read_last_offset_from_buffer" => {
+            read(line, 2, |part| print_last_offset(out, line, part))
+        }
+        b"next_slice" => read(line, 3, |part| print_slice(out, line, part)),
+        b"number" => read(line, 3, |part| print_number(out, line, part)),
+        b"parse_padding" => read(line, 4, |part| print_padding(out, line, part)),
+        name => compute(out, name, line),
     }
 }

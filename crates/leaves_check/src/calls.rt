@@ -1,24 +1,21 @@
 // A call of each leaf by its name.
 use crate::print;
 use crate::words::{bytes, number};
-use container_depths::{ContainerDepths, Raised};
-use framing_offset_size::{Fitting, FramingOffsetSize};
+use container_depths::ContainerDepths;
+use framing_offset_size::FramingOffsetSize;
 use framing_offsets::OffsetTable;
 use lines::word;
+use meaning::refusals::Refusal;
 use std::io;
 use utils::padding_for_n_bytes;
 
 fn size_of(width: usize) -> FramingOffsetSize {
-    if width == 1 {
-        return FramingOffsetSize::U8;
+    match width {
+        1 => FramingOffsetSize::U8,
+        2 => FramingOffsetSize::U16,
+        4 => FramingOffsetSize::U32,
+        _ => FramingOffsetSize::U64,
     }
-    if width == 2 {
-        return FramingOffsetSize::U16;
-    }
-    if width == 4 {
-        return FramingOffsetSize::U32;
-    }
-    FramingOffsetSize::U64
 }
 
 // The width of a number's letter: y, n q, i u, and the others.
@@ -32,183 +29,111 @@ fn size_of_letter(letter: &[u8]) -> FramingOffsetSize {
 }
 
 fn counter(line: &[u8], n: usize) -> u8 {
-    let count = number(line, n);
-    if 255 < count {
-        return 255;
-    }
-    count as u8
+    u8::try_from(number(line, n)).unwrap_or(255)
 }
 
 fn depths(line: &[u8]) -> ContainerDepths {
-    let structure = counter(line, 1);
-    let array = counter(line, 2);
-    let variant = counter(line, 3);
-    let maybe = counter(line, 4);
     ContainerDepths {
-        structure,
-        array,
-        variant,
-        maybe,
+        structure: counter(line, 1),
+        array: counter(line, 2),
+        variant: counter(line, 3),
+        maybe: counter(line, 4),
     }
 }
 
 fn print_depths(out: &impl Print, refusal: u8, depths: ContainerDepths) -> io::Result<()> {
-    print::first(out, refusal as usize)?;
-    print::then(out, depths.structure as usize)?;
-    print::then(out, depths.array as usize)?;
-    print::then(out, depths.variant as usize)?;
-    print::then(out, depths.maybe as usize)?;
-    print::end(out)
+    println!(out;
+        "{refusal} {} {} {} {}",
+        depths.structure, depths.array, depths.variant, depths.maybe
+    )
 }
 
-fn print_raised(out: &impl Print, raised: Raised) -> io::Result<()> {
-    let depths = raised.depths;
-    print_depths(out, raised.refusal, depths)
-}
-
-fn print_fitting(out: &impl Print, fitting: Fitting) -> io::Result<()> {
-    match fitting {
-        Fitting::Size(size) => {
-            print::first(out, 0)?;
-            print::then(out, size.width())?;
-        }
-        Fitting::Nothing => {
-            print::first(out, 2)?;
-            print::then(out, 0)?;
-        }
-    }
-    print::end(out)
-}
-
-fn raise(out: &impl Print, name: &[u8], line: &[u8]) -> io::Result<bool> {
-    match name {
-        b"inc_structure" => print_raised(out, depths(line).inc_structure())?,
-        b"inc_array" => print_raised(out, depths(line).inc_array())?,
-        b"inc_variant" => print_raised(out, depths(line).inc_variant())?,
-        b"inc_maybe" => print_raised(out, depths(line).inc_maybe())?,
-        _ => return Ok(false),
-    }
-    Ok(true)
-}
-
-fn lower(out: &impl Print, name: &[u8], line: &[u8]) -> io::Result<bool> {
-    match name {
-        b"dec_structure" => print_depths(out, 0, depths(line).dec_structure())?,
-        b"dec_array" => print_depths(out, 0, depths(line).dec_array())?,
-        b"dec_maybe" => print_depths(out, 0, depths(line).dec_maybe())?,
-        _ => return Ok(false),
-    }
-    Ok(true)
-}
-
-fn one(out: &impl Print, value: usize) -> io::Result<()> {
-    print::first(out, 0)?;
-    print::then(out, value)?;
-    print::end(out)
-}
-
-fn find_width(out: &impl Print, name: &[u8], line: &[u8]) -> io::Result<bool> {
-    let given = number(line, 1);
-    match name {
-        b"for_bare_container" => {
-            print_fitting(
-                out,
-                FramingOffsetSize::for_bare_container(given, number(line, 2)),
-            )?
-        }
-        b"for_encoded_container" => {
-            one(out, FramingOffsetSize::for_encoded_container(given).width())?
-        }
-        b"max" => one(out, size_of(given).max())?,
-        b"bump_up" => print_fitting(out, size_of(given).bump_up())?,
-        _ => return Ok(false),
-    }
-    Ok(true)
-}
-
-fn print_written(
+// The depths that are raised, or those before where the call is refused.
+fn print_raised(
     out: &impl Print,
-    size: FramingOffsetSize,
-    offset: usize,
-    buffer: &mut [u8],
+    before: ContainerDepths,
+    raised: Result<ContainerDepths, Refusal>,
 ) -> io::Result<()> {
-    let refusal = size.write_offset(buffer, offset);
-    print::first(out, refusal as usize)?;
-    print::then_bytes(out, &buffer[..])?;
-    print::end(out)
+    match raised {
+        Ok(after) => print_depths(out, 0, after),
+        Err(refusal) => print_depths(out, refusal.number(), before),
+    }
+}
+
+// No width fits where the offsets are over the limit of the widest.
+fn print_fitting(out: &impl Print, fitting: Option<FramingOffsetSize>) -> io::Result<()> {
+    print::answer(
+        out,
+        fitting
+            .map(FramingOffsetSize::width)
+            .ok_or(Refusal::OverLimit),
+    )
 }
 
 fn write_offset(out: &impl Print, line: &[u8]) -> io::Result<()> {
     let mut space = [0u8; 1024];
     let n = bytes(line, 3, &mut space);
     let size = size_of(number(line, 1));
-    print_written(out, size, number(line, 2), &mut space[..n])
+    let refusal = match size.write_offset(&mut space[..n], number(line, 2)) {
+        Ok(()) => 0,
+        Err(refusal) => refusal.number(),
+    };
+    print!(out; "{refusal} ")?;
+    print::bytes(out, &space[..n])?;
+    out.print("\n")
 }
 
 fn print_offsets(out: &impl Print, container: &[u8], offsets: OffsetTable) -> io::Result<()> {
     for i in 0..offsets.count {
-        if i == 0 {
-            print::then(out, framing_offsets::first(container, offsets).value)?;
+        let offset = if i == 0 {
+            framing_offsets::first(container, offsets)
         } else {
-            print::then(out, framing_offsets::next(container, offsets, i).value)?;
-        }
+            framing_offsets::next(container, offsets, i)
+        };
+        print!(out; " {}", offset.unwrap_or(0))?;
     }
     Ok(())
 }
 
 fn print_table(out: &impl Print, container: &[u8]) -> io::Result<()> {
-    let table = framing_offsets::from_encoded_array(container);
-    let refusal = table.refusal;
-    let offsets = table.offsets;
-    let start = offsets.start;
-    let size = offsets.size;
-    print::first(out, refusal as usize)?;
-    print::then(out, start)?;
-    if refusal == 0 {
-        print::then(out, framing_offsets::count(container, start, size))?;
-        print::then(out, size.width())?;
-        print_offsets(out, container, offsets)?;
-    } else {
-        print::then(out, 0)?;
-        print::then(out, 0)?;
+    match framing_offsets::from_encoded_array(container) {
+        Ok(offsets) => {
+            let count = framing_offsets::count(container, offsets.start, offsets.size);
+            print!(out; "0 {} {count} {}", offsets.start, offsets.size.width())?;
+            print_offsets(out, container, offsets)?;
+            out.print("\n")
+        }
+        Err(refusal) => println!(out; "{} 0 0 0", refusal.number()),
     }
-    print::end(out)
 }
 
 fn print_text(out: &impl Print, part: &[u8]) -> io::Result<()> {
     let text = texts::text(part);
-    let refusal = texts::text_refusal(text);
-    print::first(out, refusal as usize)?;
-    if refusal == 0 {
-        print::then(out, text.len())?;
-    } else {
-        print::then(out, 0)?;
-    }
-    print::end(out)
+    print::answer(out, texts::check(text).map(|()| text.len()))
+}
+
+fn print_bool(out: &impl Print, part: &[u8]) -> io::Result<()> {
+    print::answer(out, de::read_bool(part, 0).map(usize::from))
 }
 
 fn print_padding(out: &impl Print, line: &[u8], part: &[u8]) -> io::Result<()> {
     let place = number(line, 2);
-    let padding = de::parse_padding(number(line, 1), place, number(line, 3), part);
-    let refusal = padding.refusal;
-    print::first(out, refusal as usize)?;
-    print::then(out, padding.value)?;
-    if refusal == 0 {
-        print::then(out, place.wrapping_add(padding.value))?;
-    } else {
-        print::then(out, 0)?;
+    match de::parse_padding(number(line, 1), place, number(line, 3), part) {
+        Ok(padding) => println!(out; "0 {padding} {}", place.wrapping_add(padding)),
+        Err(refusal) => println!(out; "{} 0 0", refusal.number()),
     }
-    print::end(out)
 }
 
 fn print_slice(out: &impl Print, line: &[u8], part: &[u8]) -> io::Result<()> {
     let place = number(line, 1);
     let len = number(line, 2);
-    let next = de::next_place(part, place, len);
-    print::first(out, next.refusal as usize)?;
-    print::then_bytes(out, de::next_slice(part, place, len))?;
-    print::then(out, next.value)?;
-    print::end(out)
+    let (refusal, next) = match de::next_place(part, place, len) {
+        Ok(next) => (0, next),
+        Err(refusal) => (refusal.number(), 0),
+    };
+    print!(out; "{refusal} ")?;
+    print::bytes(out, de::next_slice(part, place, len))?;
+    println!(out; " {next}")
 }
 
 fn print_number(out: &impl Print, line: &[u8], part: &[u8]) -> io::Result<()> {
@@ -217,64 +142,65 @@ fn print_number(out: &impl Print, line: &[u8], part: &[u8]) -> io::Result<()> {
     print::answer(out, de::read_number(part, 0, size, big))
 }
 
-// Which word of a line holds the bytes that the leaf reads, 0 where it reads none.
-fn bytes_word(name: &[u8]) -> usize {
-    match name {
-        b"from_encoded_array" | b"text" | b"bool" => 1,
-        b"read_last_offset_from_buffer" => 2,
-        b"next_slice" | b"number" => 3,
-        b"parse_padding" => 4,
-        _ => 0,
-    }
-}
-
 fn print_last_offset(out: &impl Print, line: &[u8], part: &[u8]) -> io::Result<()> {
     let size = size_of(number(line, 1));
     print::answer(out, size.read_last_offset_from_buffer(part))
 }
 
-fn read_part(out: &impl Print, name: &[u8], line: &[u8], part: &[u8]) -> io::Result<()> {
-    match name {
-        b"from_encoded_array" => print_table(out, part),
-        b"text" => print_text(out, part),
-        b"bool" => print::answer(out, de::read_bool(part, 0)),
-        b"read_last_offset_from_buffer" => print_last_offset(out, line, part),
-        b"next_slice" => print_slice(out, line, part),
-        b"number" => print_number(out, line, part),
-        _ => print_padding(out, line, part),
-    }
-}
-
 // The answer of a leaf that reads the bytes of a word.
-fn read(out: &impl Print, name: &[u8], line: &[u8], at: usize) -> io::Result<()> {
+fn read<F: FnOnce(&[u8]) -> io::Result<()>>(line: &[u8], at: usize, print: F) -> io::Result<()>
+    requires { F.IsAlwaysCallable print }
+{
     let mut space = [0u8; 1024];
     let n = bytes(line, at, &mut space);
-    read_part(out, name, line, &space[..n])
+    print(&space[..n])
 }
 
-// The answer of a leaf that reads numbers alone. A name of no leaf has none.
+// The answer of a leaf that counts containers. A name of no leaf has none.
+fn count(out: &impl Print, name: &[u8], before: ContainerDepths) -> io::Result<()> {
+    match name {
+        b"inc_structure" => print_raised(out, before, before.inc_structure()),
+        b"inc_array" => print_raised(out, before, before.inc_array()),
+        b"inc_variant" => print_raised(out, before, before.inc_variant()),
+        b"inc_maybe" => print_raised(out, before, before.inc_maybe()),
+        b"dec_structure" => print_depths(out, 0, before.dec_structure()),
+        b"dec_array" => print_depths(out, 0, before.dec_array()),
+        b"dec_maybe" => print_depths(out, 0, before.dec_maybe()),
+        _ => Ok(()),
+    }
+}
+
+// The answer of a leaf that reads numbers alone, or writes an offset.
 fn compute(out: &impl Print, name: &[u8], line: &[u8]) -> io::Result<()> {
-    if raise(out, name, line)? {
-        return Ok(());
+    let first = number(line, 1);
+    let second = number(line, 2);
+    match name {
+        b"for_bare_container" => {
+            print_fitting(out, FramingOffsetSize::for_bare_container(first, second))
+        }
+        b"for_encoded_container" => print::answer(
+            out,
+            Ok(FramingOffsetSize::for_encoded_container(first).width()),
+        ),
+        b"max" => print::answer(out, Ok(size_of(first).max())),
+        b"bump_up" => print_fitting(out, size_of(first).bump_up()),
+        b"padding_for_n_bytes" => print::answer(out, padding_for_n_bytes(first, second)),
+        b"write_offset" => write_offset(out, line),
+        _ => count(out, name, depths(line)),
     }
-    if lower(out, name, line)? {
-        return Ok(());
-    }
-    find_width(out, name, line)?;
-    Ok(())
 }
 
 pub fn answer(out: &impl Print, line: &[u8]) -> io::Result<()> {
-    let name = word(line, 0);
-    let at = bytes_word(name);
-    if at != 0 {
-        return read(out, name, line, at);
-    }
-    match name {
-        b"padding_for_n_bytes" => {
-            print::answer(out, padding_for_n_bytes(number(line, 1), number(line, 2)))
+    match word(line, 0) {
+        b"from_encoded_array" => read(line, 1, |part| print_table(out, part)),
+        b"text" => read(line, 1, |part| print_text(out, part)),
+        b"bool" => read(line, 1, |part| print_bool(out, part)),
+        b"read_last_offset_from_buffer" => {
+            read(line, 2, |part| print_last_offset(out, line, part))
         }
-        b"write_offset" => write_offset(out, line),
-        _ => compute(out, name, line),
+        b"next_slice" => read(line, 3, |part| print_slice(out, line, part)),
+        b"number" => read(line, 3, |part| print_number(out, line, part)),
+        b"parse_padding" => read(line, 4, |part| print_padding(out, line, part)),
+        name => compute(out, name, line),
     }
 }

@@ -21,16 +21,13 @@ fn answer_block(
     before: usize,
 ) -> io::Result<usize> {
     let mut kept = before;
-    let mut from = 0;
-    while from < block.len() {
-        let gathered = gather(&block[from..], line, kept);
+    for part in block.split_inclusive(|byte| *byte == b'\n') {
+        let gathered = gather(part, line, kept);
         kept = gathered.kept;
-        if !gathered.ended {
-            return Ok(kept);
+        if gathered.ended {
+            answer(out, front(line, kept))?;
+            kept = 0;
         }
-        from += gathered.passed;
-        answer(out, front(line, kept))?;
-        kept = 0;
     }
     Ok(kept)
 }

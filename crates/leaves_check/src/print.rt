@@ -1,32 +1,21 @@
-// The answers, put out piece by piece.
+// The answers, put out with the refusal's number in front, 0 where there is none.
+use meaning::refusals::Refusal;
 use std::io;
-use utils::Checked;
 
-pub fn first(out: &impl Print, number: usize) -> io::Result<()> {
-    out.print(number)
+pub fn answer(out: &impl Print, answer: Result<usize, Refusal>) -> io::Result<()> {
+    match answer {
+        Ok(value) => println!(out; "0 {value}"),
+        Err(refusal) => println!(out; "{} 0", refusal.number()),
+    }
 }
 
-pub fn then(out: &impl Print, number: usize) -> io::Result<()> {
-    print!(out; " {number}")
-}
-
-pub fn then_bytes(out: &impl Print, bytes: &[u8]) -> io::Result<()> {
-    out.print(" ")?;
-    if bytes.len() == 0 {
-        out.print("-")?;
+// Two digits for each byte, `-` for none.
+pub fn bytes(out: &impl Print, bytes: &[u8]) -> io::Result<()> {
+    if bytes.is_empty() {
+        return out.print("-");
     }
     for byte in bytes {
         print!(out; "{byte:02x}")?;
     }
     Ok(())
-}
-
-pub fn end(out: &impl Print) -> io::Result<()> {
-    out.print("\n")
-}
-
-pub fn answer(out: &impl Print, a: Checked) -> io::Result<()> {
-    first(out, a.refusal as usize)?;
-    then(out, a.value)?;
-    end(out)
 }

@@ -1,9 +1,0 @@
--- A gathered part of a block that has bytes left passes at least one of them, and no more than are left.
-use Rattle.std.proofs.Common.{arith}
-use Rattle.lines.proofs.GatherLaws.{part_passed}
-use Rattle.leaves_check.proofs.answer_block.Goals as goal
-
-pub loop-from-smaller : goal.loop-from-smaller
-loop-from-smaller g c =
-    let b = part_passed _ _ _ _ _ _ c.gather-gathered.ensures c.loop-from-test.true in
-    omega arith

@@ -52,13 +52,13 @@ written_bare n m = go (leb (n + m * 1) (largest 1)) (leb (n + m * 2) (largest 2)
     go false false false true = refl
     go false false false false = refl
 
-written_size : (n m : ℕ) (s : FramingOffsetSize) {f : Option FramingOffsetSize} → Some s ≡ f → fitting_width f ≡ bare_width n m → width_of s ≡ written_width n m
+pub written_size : (n m : ℕ) (s : FramingOffsetSize) {f : Option FramingOffsetSize} → Some s ≡ f → fitting_width f ≡ bare_width n m → width_of s ≡ written_width n m
 written_size n m s e h =
     let w : width_of s ≡ bare_width n m = ap fitting_width e ∙ h in
     let p : 0 < bare_width n m = omega (arith, width_positive s, w) in
     w ∙ sym (written_bare n m ∙ rw (ne_eqb (bare_width n m) 0 (λ z. omega arith)))
 
-written_none : (n m : ℕ) {f : Option FramingOffsetSize} → None ≡ f → fitting_width f ≡ bare_width n m → 8 ≡ written_width n m
+pub written_none : (n m : ℕ) {f : Option FramingOffsetSize} → None ≡ f → fitting_width f ≡ bare_width n m → 8 ≡ written_width n m
 written_none n m e h = sym (written_bare n m ∙ rw (eq-eqb (bare_width n m) 0 (sym (ap fitting_width e ∙ h))))
 
 pub written_fitting : (n m : ℕ) (f : Option FramingOffsetSize) → fitting_width f ≡ bare_width n m → width_of (unwrap_or f U64) ≡ written_width n m

@@ -1,4 +1,5 @@
 pub mod TableLaws
 pub mod HeldLaws
+pub mod HeldWalk
 pub mod HeldUnique
 pub mod Unique

@@ -24,3 +24,4 @@ pub mod Faithful
 pub mod Enough
 pub mod FixedSizes
 pub mod RefusalLaws
+pub mod Unique

@@ -10,7 +10,7 @@ use lib.ListN.{length, take, drop, get_or, drop_of_length-le}
 use lib.Seq.{drop-cons}
 use borrow.Author.Tests.{le-leb, lt-leb, leb-true, leb-false, eq-eqb, ne_eqb}
 use Rattle.meaning.specs.Padding.{leading_zeros}
-use Rattle.meaning.specs.Texts.{without_final_nul, no_nul, Wanted, wanted, letter, between, following, after_byte, utf8_from, utf8, text_refusal}
+use Rattle.meaning.specs.Texts.{without_final_nul, no_nul, Wanted, wanted, letter, impossible, between, following, after_byte, utf8_from, utf8, text_refusal}
 
 -- the rest of a list from a place on, when its first byte is known
 module _ (l : List ℕ) (i : ℕ) (h : i < length l) where
@@ -95,9 +95,31 @@ module _ (x : ℕ) where
   unfolding following
   following_ascii h = rw (inside 0 x 127 (omega arith) h)
 
+  pub following_low : 127 < x → x < 194 → following x ≡ impossible
+  unfolding following
+  following_low g h =
+      rw (
+        above 0 x 127 (omega arith) g,
+        below 194 x 223 h,
+        ne_eqb x 224 (λ e. omega arith),
+        ne_eqb x 237 (λ e. omega arith),
+        below 225 x 239 (omega arith),
+        ne_eqb x 240 (λ e. omega arith),
+        below 241 x 243 (omega arith),
+        ne_eqb x 244 (λ e. omega arith),
+      )
+
   pub following_two : 194 ≤ x → x ≤ 223 → following x ≡ wanted 1 128 191
   unfolding following
   following_two g h = rw (above 0 x 127 (omega arith) (omega arith), inside 194 x 223 g h)
+
+  pub following_224 : x ≡ 224 → following x ≡ wanted 2 160 191
+  unfolding following
+  following_224 h = rw h
+
+  pub following_237 : x ≡ 237 → following x ≡ wanted 2 128 159
+  unfolding following
+  following_237 h = rw h
 
   pub following_three : 223 < x → (x ≡ 224 → ⊥) → (x ≡ 237 → ⊥) → x ≤ 239 → following x ≡ wanted 2 128 191
   unfolding following
@@ -113,11 +135,54 @@ module _ (x : ℕ) where
       ne_lt : (x ≡ 224 → ⊥) → 224 ≤ x → 225 ≤ x
       ne_lt p q = omega arith
 
+  pub following_240 : x ≡ 240 → following x ≡ wanted 3 144 191
+  unfolding following
+  following_240 h = rw h
+
+  pub following_four : 239 < x → (x ≡ 240 → ⊥) → x ≤ 243 → following x ≡ wanted 3 128 191
+  unfolding following
+  following_four g e h =
+      rw (
+        above 0 x 127 (omega arith) (omega arith),
+        above 194 x 223 (omega arith) (omega arith),
+        ne_eqb x 224 (λ e. omega arith),
+        ne_eqb x 237 (λ e. omega arith),
+        above 225 x 239 (omega arith) g,
+        ne_eqb x 240 e,
+        inside 241 x 243 (omega arith) h,
+      )
+
+  pub following_244 : x ≡ 244 → following x ≡ wanted 3 128 143
+  unfolding following
+  following_244 h = rw h
+
+  pub following_high : 243 < x → (x ≡ 244 → ⊥) → following x ≡ impossible
+  unfolding following
+  following_high g e =
+      rw (
+        above 0 x 127 (omega arith) (omega arith),
+        above 194 x 223 (omega arith) (omega arith),
+        ne_eqb x 224 (λ e. omega arith),
+        ne_eqb x 237 (λ e. omega arith),
+        above 225 x 239 (omega arith) (omega arith),
+        ne_eqb x 240 (λ e. omega arith),
+        above 241 x 243 (omega arith) g,
+        ne_eqb x 244 e,
+      )
+
 -- what a letter wants after one more byte
 module _ (s : Wanted) (x : ℕ) where
   pub after_letter : s.count ≡ 0 → after_byte s x ≡ following x
   unfolding after_byte
   after_letter h = rw (eq-eqb s.count 0 h)
+
+  pub after_low : (s.count ≡ 0 → ⊥) → x < s.low → after_byte s x ≡ impossible
+  unfolding after_byte
+  after_low h g = rw (ne_eqb s.count 0 h, below s.low x s.high g)
+
+  pub after_high : (s.count ≡ 0 → ⊥) → s.low ≤ x → s.high < x → after_byte s x ≡ impossible
+  unfolding after_byte
+  after_high h f g = rw (ne_eqb s.count 0 h, above s.low x s.high f g)
 
   pub after_inside : (s.count ≡ 0 → ⊥) → s.low ≤ x → x ≤ s.high → after_byte s x ≡ wanted (s.count - 1) 128 191
   unfolding after_byte

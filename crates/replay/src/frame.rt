@@ -1,5 +1,7 @@
 // Frames. A question is `TYPE l|b POSITION HEX`, `-` for no bytes. Its answer is a line `REFUSAL USED NEVENTS kind:place:payload ..`,
 // without the events where there are more than 73,728 of them.
+ghost use Rattle.std.specs.Prelude.{◌≤◌, length, IfSome};
+
 use crate::stop::Stop;
 use meaning::refusals::Refusal;
 use numerals::decimal;
@@ -16,7 +18,9 @@ struct Question<'a> {
     bytes: &'a [u8],
 }
 
-fn understand(line: &[u8]) -> Option<Question<'_>> {
+fn understand(line: &[u8]) -> Option<Question<'_>>
+    ensures { IfSome result (λ q. (length q.signature.now ≤ length line.now) × (length q.bytes.now ≤ length line.now)) }
+{
     let head = words::understand(line)?;
     let (position, rest) = words::first_word(head.rest);
     let bytes = rest.strip_prefix(b" ")?;

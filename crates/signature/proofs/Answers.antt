@@ -47,6 +47,9 @@ judge_found l s = rw (le-leb (length l) 255 s.few) (rw s.type (go (drop (child_a
 pub judged : (l : List ℕ) (t : Tree) → type_of l ≡ some t → is_type l ≡ true
 judged l t h = ap there_is h
 
+pub not_judged : (l : List ℕ) → type_of l ≡ none → is_type l ≡ false
+not_judged l h = ap there_is h
+
 pub record Judged (l : List ℕ) : Type 0 where
   pub it : Tree
   pub type : type_of l ≡ some it

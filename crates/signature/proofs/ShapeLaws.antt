@@ -378,7 +378,7 @@ answered_table l t x y r s p q = go (leb (length l) 255) (leb (length l) (length
 
 -- ---- a look
 
-same_shape : (at : ℕ) (k j : Letter) (n m a b : ℕ) (f g : Bool) → k ≡ j → n ≡ m → a ≡ b → f ≡ g
+pub same_shape : (at : ℕ) (k j : Letter) (n m a b : ℕ) (f g : Bool) → k ≡ j → n ≡ m → a ≡ b → f ≡ g
     → ◌≡◌ {A = Shape} (record { at = at; kind = k; next = n; alignment = a; fixed = f }) (record { at = at; kind = j; next = m; alignment = b; fixed = g })
 same_shape at k j n m a b f g hk hn ha hf = rw (hk, hn, ha, hf)
 

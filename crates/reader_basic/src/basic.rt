@@ -21,13 +21,14 @@ use meaning::refusals::Refusal;
 use texts::{check, text};
 
 // Closes a container that is done: its last event stands where reading stands.
-pub fn close(reading: Reading, place: usize, out: &mut [u64]) -> Reading
+pub fn close(mut reading: Reading, place: usize, out: &mut [u64]) -> Reading
     requires { place + (counts_of reading).used ≤ largest_frame }
     ensures { (o : Outcome) (end len n : ℕ) (l : List ℕ) → Done o end len n l out.old (counts_of reading) → Done (chain o (closing_at place)) end len n l out.new (counts_of result) }
 {
-    let read = reading?;
-    let count = emit(out, read.count, CONTAINER_END, place + read.used, 0);
-    done(read.used, count)
+    if let Ok(read) = &mut reading {
+        read.count = emit(out, read.count, CONTAINER_END, place + read.used, 0);
+    }
+    reading
 }
 
 pub fn boolean(part: &[u8], place: usize, out: &mut [u64], n: usize) -> Reading

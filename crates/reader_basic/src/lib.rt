@@ -18,12 +18,13 @@ pub struct Answer {
     pub count: usize,
 }
 
-// Where reading stopped: why, behind so many bytes, and the number of events.
+// Where reading stopped: behind so many bytes, the number of events, and why. The two numbers stand where an answer has them, so that a reading is
+// changed in place.
 #[derive(Clone, Copy)]
 pub struct Stop {
-    pub refusal: Refusal,
     pub used: usize,
     pub count: usize,
+    pub refusal: Refusal,
 }
 
 pub type Reading = Result<Answer, Stop>;
@@ -75,12 +76,13 @@ pub fn or_stop<T>(found: Result<T, Refusal>, used: usize, count: usize) -> Resul
 }
 
 // The answer of what stands behind so many bytes.
-pub fn behind(used: usize, reading: Reading) -> Reading
+pub fn behind(used: usize, mut reading: Reading) -> Reading
     requires { used + (counts_of reading).used ≤ largest_number }
     ensures { counts_of result ≡ counts (counts_of reading).refusal (used + (counts_of reading).used) (counts_of reading).count }
 {
-    match reading {
-        Ok(answer) => done(used + answer.used, answer.count),
-        Err(stop) => refused(stop.refusal, used + stop.used, stop.count),
+    match &mut reading {
+        Ok(answer) => answer.used += used,
+        Err(stop) => stop.used += used,
     }
+    reading
 }

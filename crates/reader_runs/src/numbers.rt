@@ -52,7 +52,7 @@ fn run<const WIDTH: usize>(
     let mut at = j;
     let mut count = n;
     // No range: each turn goes on by a width, as long as there is room too.
-    while count < out.len() / 3 && WIDTH <= len - at {
+    while count < out.len() / 3 && at < len && WIDTH <= len - at {
         let found = number_of::<WIDTH>(part, at, big).unwrap_or(0);
         count = emit(out, count, kind, place + at, found as u64);
         at += WIDTH;

@@ -10,7 +10,7 @@ ghost use Rattle.reader_steps.specs.Rides.{context_of};
 
 use de::zeros;
 use meaning::refusals::Refusal;
-use reader_basic::{Answer, Reading, behind, done, or_stop};
+use reader_basic::{Answer, Reading, behind, or_stop};
 use signature::shapes::alignment_of;
 
 // Where a child ends by an offset, and the offset's width.
@@ -21,12 +21,14 @@ pub struct Ends {
 }
 
 // The answer with so many more bytes passed behind it, if it is done.
-pub fn past(reading: Reading, more: usize) -> Reading
+pub fn past(mut reading: Reading, more: usize) -> Reading
     requires { (counts_of reading).used + more ≤ largest_number }
     ensures { Passes more (counts_of reading) (counts_of result) }
 {
-    let read = reading?;
-    done(read.used + more, read.count)
+    if let Ok(read) = &mut reading {
+        read.used += more;
+    }
+    reading
 }
 
 // How far a reading came, done or not.

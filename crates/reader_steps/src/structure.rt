@@ -35,6 +35,7 @@ pub fn field_ends(part: &[u8], lead: usize, field: u16, end: usize) -> Result<En
 }
 
 // The end of a structure whose last field, from j to an end, was read: padding where it is fixed, else the table.
+#[inline(always)]
 pub fn close_fields(
     shape: u16,
     part: &[u8],

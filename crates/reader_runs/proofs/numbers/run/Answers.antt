@@ -6,7 +6,7 @@ use Rattle.meaning.proofs.PaddingLaws.{aligns_positive}
 use Rattle.meaning.proofs.TypeLaws.{aligns_most}
 use Rattle.reader_runs.proofs.NumberLaws.{run_begin, run_next, run_short, run_full, found_there}
 use Rattle.reader_runs.proofs.numbers.run.Goals as goal
-use Rattle.reader_runs.proofs.numbers.run.Goals.{then-loop-count-test+else-len-at, else-loop-count-test}
+use Rattle.reader_runs.proofs.numbers.run.Goals.{then-loop-count-test+else-at-len, then-loop-count-test+then-at-len+else-len-at, else-loop-count-test}
 
 pub loop-count-init : goal.loop-count-init
 loop-count-init g c =
@@ -41,6 +41,7 @@ counted-requires g c = aligns_positive c.requires.2
 
 pub returns : goal.returns
 returns g c = elim c.loop-count-test.branch [
-  | then-loop-count-test+else-len-at w ↦ run_short _ _ _ _ _ _ _ _ _ _ _ c.loop-count.invariant _ c.counted.ensures (omega arith) w.if-len-at.false
+  | then-loop-count-test+else-at-len w ↦ run_short _ _ _ _ _ _ _ _ _ _ _ c.loop-count.invariant _ c.counted.ensures (omega arith) (omega (arith, w.if-at-len.false, aligns_positive c.requires.2))
+  | then-loop-count-test+then-at-len+else-len-at w ↦ run_short _ _ _ _ _ _ _ _ _ _ _ c.loop-count.invariant _ c.counted.ensures (omega arith) w.if-len-at.false
   | else-loop-count-test w ↦ run_full _ _ _ _ _ _ _ _ _ _ _ c.loop-count.invariant _ c.counted.ensures (omega arith) w.loop-count-test.false
 ]

@@ -1,6 +1,6 @@
 -- Arrays of what takes one event, and of readings: what is repeated takes events and has its alignment, and a law for each way out of a
 -- reading. Assumes nothing.
-use mathlib.Core.Path.{◌≡◌, refl, sym, ap, ◌∙◌}
+use mathlib.Core.Path.{◌≡◌, refl, sym, ap, subst, ◌∙◌}
 use mathlib.Core.List.{List, []}
 use mathlib.Core.Option.{Option, none, some}
 use mathlib.Core.Bool.{Bool, true}
@@ -28,7 +28,8 @@ use Rattle.container_depths.specs.declared.ContainerDepths.{ContainerDepths}
 use Rattle.container_depths.specs.Opening.{Raised}
 use Rattle.signature.specs.declared.Letter.TheVariants.{Number, Text}
 use Rattle.writer_store.specs.Stores.{cap, sum}
-use Rattle.writer_basic.specs.Wrote.{key_basic, IsKey, Says, Done, marks_of, DoneAll, around_child}
+use Rattle.writer_basic.specs.Wrote.{key_basic, IsKey, Says, Done, marks_of, DoneAll, around_child, Run, RowAt, many_of, key_of}
+use Rattle.writer_basic.specs.declared.Spot.{Spot}
 use Rattle.writer_basic.specs.Wrote.{Answer}
 use Rattle.writer_ends.proofs.EndLaws.{kept_not}
 use Rattle.writer_basic.proofs.Answers.{made_of, Bounds, bounds, length_ordered, key_number, key_text, key_aligned, aligns_small, basic_number, basic_text}
@@ -171,3 +172,14 @@ pub text_done : (c : ℕ) → IsKey (Text c) → (texts : List ℕ) (ns : List �
     → ((n : TextType) (big : Bool) (d : Depths) (top : ℕ) (s : List ℕ) → c ≡ text_letter n → Done (emit_basic texts big (text n) d (drop i ns)) ns i start top l l' s s r)
     → (big : Bool) (d : Depths) (top : ℕ) (s : List ℕ) → Done (emit_basic texts big (key_basic (Text c)) d (drop i ns)) ns i start top l l' s s r
 text_done c key texts ns i start l l' r f big d top s = basic_text (Text c) texts big d ns i start top l l' s r c refl key f
+
+-- ---- a width that is known
+
+module _ {u w : ℕ} (h : w ≡ u) (c : ℕ) where
+  pub key_width : IsKey (Number c w) → IsKey (Number c u)
+  key_width k = rw h at k
+
+  pub row_width : (big : Bool) (ns : List ℕ) (p : Spot) (l l' : List ℕ) (r : Run)
+      → ((texts : List ℕ) (d : Depths) (s : List ℕ) → RowAt (marks_of true) (many_of (key_of texts big (Number c u) d)) ns p l l' s s r)
+      → (texts : List ℕ) (d : Depths) (s : List ℕ) → RowAt (marks_of true) (many_of (key_of texts big (Number c w) d)) ns p l l' s s r
+  row_width big ns p l l' r k = subst (λ x. (texts : List ℕ) (d : Depths) (s : List ℕ) → RowAt (marks_of true) (many_of (key_of texts big (Number c x) d)) ns p l l' s s r) (sym h) k

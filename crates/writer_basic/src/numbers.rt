@@ -13,17 +13,17 @@ use signature::Letter;
 use writer_ends::keep;
 use writer_store::{add, pad};
 
-// Numbers one behind another, up to an event that closes. Each is as long as its alignment, so that none is padded.
-pub fn numbers(
+// Numbers of a width that is known where it is called, one behind another, up to an event that closes. Each is as long as its alignment, so
+// that none is padded.
+fn run<const WIDTH: usize>(
     code: u8,
-    width: usize,
     events: &[u64],
     big: bool,
     spot: Spot,
     out: &mut [u8],
 ) -> Result<Row, Refusal>
-    requires { IsKey (Letter.Number code width) × Placed (length events.now) spot }
-    ensures { (texts : List ℕ) (d : Depths) (s : List ℕ) → RowAt (marks_of true) (many_of (key_of texts big (Letter.Number code width) d)) events.now spot out.old out.new s s (run_in result) }
+    requires { IsKey (Letter.Number code WIDTH) × Placed (length events.now) spot }
+    ensures { (texts : List ℕ) (d : Depths) (s : List ℕ) → RowAt (marks_of true) (many_of (key_of texts big (Letter.Number code WIDTH) d)) events.now spot out.old out.new s s (run_in result) }
 {
     let mut all = Wrote {
         next: spot.next,
@@ -38,11 +38,31 @@ pub fn numbers(
             });
         }
         let start = add(spot.start, all.size);
-        let one = number(events, all.next, code, width, big, out, start)?;
+        let one = number(events, all.next, code, WIDTH, big, out, start)?;
         all.size = add(all.size, one.size);
         all.next = one.next;
     }
     Err(Refusal::NoValue)
+}
+
+// The same of a width that is one of four.
+pub fn numbers(
+    code: u8,
+    width: usize,
+    events: &[u64],
+    big: bool,
+    spot: Spot,
+    out: &mut [u8],
+) -> Result<Row, Refusal>
+    requires { IsKey (Letter.Number code width) × Placed (length events.now) spot }
+    ensures { (texts : List ℕ) (d : Depths) (s : List ℕ) → RowAt (marks_of true) (many_of (key_of texts big (Letter.Number code width) d)) events.now spot out.old out.new s s (run_in result) }
+{
+    match width {
+        1 => run::<1>(code, events, big, spot, out),
+        2 => run::<2>(code, events, big, spot, out),
+        4 => run::<4>(code, events, big, spot, out),
+        _ => run::<8>(code, events, big, spot, out),
+    }
 }
 
 // A reading: nothing, or a number in a maybe.

@@ -4,10 +4,10 @@ use mathlib.Core.Path.{◌≡◌, refl, sym, ap, ◌∙◌}
 use mathlib.Core.List.{List, [], ◌∷◌, ◌++◌, reverse, reverse-cons, append_assoc}
 use native.Mathlib.Omega.{arith}
 use native.Mathlib.Numerals.{add-one}
-use lib.ListN.{length, drop, take, set, get_or, length-set, length-reverse, length-drop}
+use lib.ListN.{length, drop, take, set, get_or, length-set, length-reverse, length-drop, drop_of_length-le}
 use borrow.Rule.Slice.PartMut.{put_mid}
 use Rattle.std.proofs.lemmas.List.{drop-drop}
-use lib.Seq.{sets, sets-eq, set_comm, set-set, set_out, take-add, take-length, length-take-le}
+use lib.Seq.{sets, sets-eq, set_comm, set-set, set_out, drop-cons, take-add, take-length, length-take-le}
 use borrow.Author.Tests.{le-leb, lt-leb}
 use Rattle.meaning.specs.Padding.{padding, zeros}
 use Rattle.meaning.specs.Offsets.{first_width, written_width}
@@ -80,6 +80,14 @@ bytes_end l at i w y h = let e : w - i ≡ 0 = omega arith in rw e (puts_none l 
 pub bytes_two : (l : List ℕ) (at x : ℕ) → puts l at (bytes 2 x) ≡ set (set l at (x % 256)) (at + 1) (x / 256 % 256)
 unfolding puts bytes
 bytes_two l at x = let f : at + 1 ≡ suc at = omega arith in rw f
+
+pub part_step : (l part : List ℕ) (at i : ℕ) → i < length part → puts l (at + i) (drop i part) ≡ puts (set l (at + i) (get_or part i 0)) (at + (i + 1)) (drop (i + 1) part)
+part_step l part at i h =
+    let f : at + (i + 1) ≡ suc (at + i) = omega arith in
+    rw (f, add-one i, drop-cons part i 0 h) (puts_cons l (at + i) (get_or part i 0) (drop (suc i) part))
+
+pub part_end : (l part : List ℕ) (at i : ℕ) → length part ≤ i → puts l (at + i) (drop i part) ≡ l
+part_end l part at i h = rw (drop_of_length-le part h) (puts_none l (at + i))
 
 -- ---- blocks
 

@@ -111,12 +111,14 @@ pub fn number_bytes(out: &mut [u8], at: usize, width: usize, x: u64, big: bool)
     }
 }
 
-// So many bytes of a part from i on, at once.
+// So many bytes of a part from i on, at once: all are taken before one is stored.
 fn copy_block<const N: usize>(out: &mut [u8], at: usize, part: &[u8], i: usize)
     requires { (at + N ≤ length out.old) × (i + N ≤ length part.now) }
     ensures { out.new ≡ puts out.old at (take N (drop i part.now)) }
 {
-    out[at..at + N].copy_from_slice(&part[i..i + N]);
+    let mut block = [0u8; N];
+    block.copy_from_slice(&part[i..i + N]);
+    out[at..at + N].copy_from_slice(&block);
 }
 
 // All of a part, for which there is room, by its first N bytes and its last N, which may overlap.
@@ -129,18 +131,33 @@ fn copy_ends<const N: usize>(out: &mut [u8], at: usize, part: &[u8])
     copy_block::<N>(out, at + last, part, last);
 }
 
-// All of a part, for which there is room. A short one by blocks of a length that is known, which are moved with no call.
+// All of a part, for which there is room, byte by byte. The library's copy of a length that is not known calls a function from outside the archive.
+fn copy_long(out: &mut [u8], at: usize, part: &[u8])
+    requires { at + length part.now ≤ length out.old }
+    ensures { out.new ≡ puts out.old at part.now }
+{
+    for i in 0..part.len() {
+        out[at + i] = part[i];
+    }
+}
+
+// All of a part, for which there is room. A short one by blocks of a length that is known, which are moved with no call. Never inlined, so that what
+// calls it for each text stays short.
+#[inline(never)]
 pub fn copy_all(out: &mut [u8], at: usize, part: &[u8])
     requires { at + length part.now ≤ length out.old }
     ensures { out.new ≡ puts out.old at part.now }
 {
-    match part.len() {
-        0 => {}
-        1 => out[at] = part[0],
-        2..=3 => copy_ends::<2>(out, at, part),
-        4..=7 => copy_ends::<4>(out, at, part),
-        8..=16 => copy_ends::<8>(out, at, part),
-        _ => out[at..at + part.len()].copy_from_slice(part),
+    if 16 < part.len() {
+        copy_long(out, at, part);
+    } else if 8 <= part.len() {
+        copy_ends::<8>(out, at, part);
+    } else if 4 <= part.len() {
+        copy_ends::<4>(out, at, part);
+    } else if 2 <= part.len() {
+        copy_ends::<2>(out, at, part);
+    } else if 0 < part.len() {
+        out[at] = part[0];
     }
 }
 

@@ -1,34 +1,31 @@
 -- `writer_basic::numbers::numbers` meets its contract. Assumes nothing.
-use native.Mathlib.Omega.{arith}
-use mathlib.Core.Path.{refl}
-use Rattle.meaning.proofs.RefusalLaws.{number_not_0}
+use Rattle.meaning.proofs.PaddingLaws.{eight_left}
 use Rattle.writer_basic.proofs.Answers.{key_aligned}
-use Rattle.writer_basic.proofs.Rows.{stopped_on, left_shut, left_short}
-use Rattle.writer_basic.proofs.NumberRows.{numbers_on, numbers_stop, number_bounds}
+use Rattle.writer_basic.proofs.NumberRows.{key_width, row_width}
 use Rattle.writer_basic.proofs.numbers.numbers.Goals as goal
 
-pub returns-then-events-all-eq-CONTAINER_END : goal.returns-then-events-all-eq-CONTAINER_END
-returns-then-events-all-eq-CONTAINER_END c = λ texts d s. left_shut _ _ _ _ _ _ _ _ _ _ _ _ _ (c.loop-all.invariant.left texts d _ s) (omega (arith, c.loop-all.invariant.within, c.loop-all-test.true)) c.if-events-all-eq-CONTAINER_END.true
+pub run-requires : goal.run-requires
+run-requires c = (key_width c.in-1.is _ c.requires.0, c.requires.1)
 
-pub number-requires : goal.number-requires
-number-requires c = (c.loop-all.invariant.within, omega (arith, c.add-start.ensures), key_aligned _ _ c.requires.0)
+pub run-requires-in-2 : goal.run-requires-in-2
+run-requires-in-2 c = (key_width c.in-2.is _ c.requires.0, c.requires.1)
 
-pub returns-in_err-one : goal.returns-in_err-one
-returns-in_err-one c =
-    λ texts d s. stopped_on _ _ c.from_residual.ensures
-    (numbers_stop _ _ c.requires.0 _ _ _ _ _ _ _ _ c.loop-all.invariant (omega (arith, c.loop-all.invariant.within, c.loop-all-test.true)) c.if-events-all-eq-CONTAINER_END.false _ _ _ c.in_err-one.ensures texts d _ s (number_not_0 _))
+pub run-requires-in-4 : goal.run-requires-in-4
+run-requires-in-4 c = (key_width c.in-4.is _ c.requires.0, c.requires.1)
 
-pub add-requires : goal.add-requires
-add-requires c =
-    (omega (arith, c.loop-all.invariant.small), let q = number_bounds _ _ c.requires.0 _ _ _ _ _ _ _ c.in_ok-one.ensures refl in omega (arith, q.small))
+pub run-requires-in_default : goal.run-requires-in_default
+run-requires-in_default c =
+    (key_width (eight_left (key_aligned _ _ c.requires.0) c.in_default.in_default-own.rest.0.0.1 c.in_default.in_default-own.rest.0.1 c.in_default.in_default-own.rest.1) _ c.requires.0, c.requires.1)
 
-pub loop-all-smaller : goal.loop-all-smaller
-loop-all-smaller c = let q = number_bounds _ _ c.requires.0 _ _ _ _ _ _ _ c.in_ok-one.ensures refl in omega (arith, q.forward, q.within)
+pub returns-in-1 : goal.returns-in-1
+returns-in-1 c = row_width c.in-1.is _ _ _ _ _ _ _ c.run.ensures
 
-pub loop-all-preserved : goal.loop-all-preserved
-loop-all-preserved c =
-    numbers_on _ _ c.requires.0 _ _ _ _ _ _ _ _ c.loop-all.invariant (omega (arith, c.loop-all.invariant.within, c.loop-all-test.true)) c.if-events-all-eq-CONTAINER_END.false _ _ _ c.in_ok-one.ensures _ refl
-    c.add-start.ensures c.add.ensures (omega (arith, c.loop-all.invariant.same, c.number.auto.out))
+pub returns-in-2 : goal.returns-in-2
+returns-in-2 c = row_width c.in-2.is _ _ _ _ _ _ _ c.run-in-2.ensures
 
-pub returns : goal.returns
-returns c = λ texts d s. left_short _ _ _ _ _ _ _ _ _ _ _ _ _ (c.loop-all.invariant.left texts d _ s) (omega (arith, c.loop-all.invariant.within, c.loop-all-test.false))
+pub returns-in-4 : goal.returns-in-4
+returns-in-4 c = row_width c.in-4.is _ _ _ _ _ _ _ c.run-in-4.ensures
+
+pub returns-in_default : goal.returns-in_default
+returns-in_default c =
+    row_width (eight_left (key_aligned _ _ c.requires.0) c.in_default.in_default-own.rest.0.0.1 c.in_default.in_default-own.rest.0.1 c.in_default.in_default-own.rest.1) _ _ _ _ _ _ _ c.run-in_default.ensures

@@ -14,7 +14,7 @@ use Rattle.meaning.specs.Reading.{number_in}
 use Rattle.meaning.specs.Parts.{holds}
 use Rattle.utils.specs.Checks.{Checked}
 use Rattle.utils.specs.Checks.{passed, failed, told_by}
-use Rattle.byte_order.specs.Standing.{number_at, number_of}
+use Rattle.byte_order.specs.Standing.{number_at, number_of, number_by}
 
 -- a number in closed form
 pub number_at_is : (w : ℕ) (big : Bool) (l : List ℕ) (place : ℕ)
@@ -33,6 +33,10 @@ module _ (w : ℕ) (big : Bool) (l : List ℕ) (place : ℕ) {b : Bool} (h : b �
 
   pub number_failed : b ≡ false → failed out_of_bounds ≡ number_at w big l place
   number_failed f = sym (number_at_is w big l place ∙ rw (sym h ∙ f))
+
+-- a width that is known, of eight bytes at the most
+pub number_known : (w : ℕ) (big : Bool) (l : List ℕ) (place : ℕ) → w ≤ 8 → number_by w big l place ≡ number_at w big l place
+number_known w big l place h = rw (le-leb w 8 h)
 
 -- what an answer says of the place
 module _ (w : ℕ) (big : Bool) (l : List ℕ) (place : ℕ) {r : Checked} (h : r ≡ number_at w big l place) where

@@ -1,10 +1,10 @@
 // The number of a width that stands at a place, in either byte order: the first byte is the highest where `big` says so.
 #![tactic(auto)]
 
-ghost use Rattle.std.specs.Prelude.{◌≡◌, ◌≤◌, ◌<◌};
+ghost use Rattle.std.specs.Prelude.{◌≡◌, ◌<◌};
 ghost use Rattle.meaning.specs.Numbers.{next_byte};
 ghost use Rattle.utils.specs.Checks.{checked};
-ghost use Rattle.byte_order.specs.Standing.{number_at, number_of};
+ghost use Rattle.byte_order.specs.Standing.{number_by, number_of};
 
 use meaning::refusals::Refusal;
 use utils::reaches;
@@ -17,11 +17,13 @@ fn next_byte(width: usize, i: usize, big: bool) -> usize
     if big { i } else { width - 1 - i }
 }
 
-// Of a width that is known where it is called. Taken from the highest byte down.
+// Of a width that is known where it is called; one of more than eight bytes is refused. Taken from the highest byte down.
 pub fn number<const WIDTH: usize>(part: &[u8], place: usize, big: bool) -> Result<usize, Refusal>
-    requires { WIDTH ≤ 8 }
-    ensures { checked result ≡ number_at WIDTH big part.now place }
+    ensures { checked result ≡ number_by WIDTH big part.now place }
 {
+    if 8 < WIDTH {
+        return Err(Refusal::NoValue);
+    }
     if !reaches(part, place, WIDTH) {
         return Err(Refusal::OutOfBounds);
     }

@@ -1,5 +1,6 @@
 -- `entry` gives what a table's own bytes say of a number, by a width. Assumes nothing.
 use Rattle.std.proofs.Common.{refl, ◌∙◌, arith}
+use Rattle.byte_order.proofs.Standings.{number_known}
 use Rattle.framing_offsets.proofs.HeldLaws.{count_held, held_behind, held_inside, held_there}
 use Rattle.framing_offsets.proofs.table.entry.Goals as goal
 
@@ -13,4 +14,4 @@ overflow_mul-i g c =
 
 pub returns : goal.returns
 returns g c =
-    c.number.ensures ∙ held_there g.row.WIDTH c.args.i c.args.table.now (count_held g.row.WIDTH c.args.table.now refl) c.requires.0 c.if-table-i.false
+    c.number.ensures ∙ number_known g.row.WIDTH _ _ _ c.requires.1 ∙ held_there g.row.WIDTH c.args.i c.args.table.now (count_held g.row.WIDTH c.args.table.now refl) c.requires.0 c.if-table-i.false

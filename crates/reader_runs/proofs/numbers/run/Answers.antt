@@ -1,6 +1,7 @@
 -- `reader_runs::numbers::run` meets its contract. Assumes nothing.
 use mathlib.Core.Path.{◌∙◌}
 use native.Mathlib.Omega.{arith}
+use Rattle.byte_order.proofs.Standings.{number_known}
 use Rattle.utils.proofs.Answered.{checked_value}
 use Rattle.meaning.proofs.PaddingLaws.{aligns_positive}
 use Rattle.meaning.proofs.TypeLaws.{aligns_most}
@@ -16,9 +17,6 @@ pub overflow_sub-len : goal.overflow_sub-len
 overflow_sub-len g c =
     omega (arith, c.loop-count.invariant.bound)
 
-pub number-requires : goal.number-requires
-number-requires g c = aligns_most c.requires.2
-
 pub overflow_add-place : goal.overflow_add-place
 overflow_add-place g c =
     omega (arith, c.loop-count.invariant.bound)
@@ -33,7 +31,7 @@ loop-count-smaller g c =
 
 pub loop-count-preserved : goal.loop-count-preserved
 loop-count-preserved g c =
-    let found = c.unwrap_or-found.ensures ∙ checked_value c.number.result ∙ found_there _ _ _ _ _ c.number.ensures c.loop-count.invariant.bound c.if-len-at.true in
+    let found = c.unwrap_or-found.ensures ∙ checked_value c.number.result ∙ found_there _ _ _ _ _ (c.number.ensures ∙ number_known _ _ _ _ (aligns_most c.requires.2)) c.loop-count.invariant.bound c.if-len-at.true in
     run_next _ _ _ _ _ _ _ _ _ _ _ c.loop-count.invariant c.requires.2 _ _ _ c.if-len-at.true found c.emit-count.ensures.counted (c.emit-count.ensures.written ∙ rw c.from-kind.ensures)
 
 pub counted-requires : goal.counted-requires

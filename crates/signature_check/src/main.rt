@@ -33,8 +33,10 @@ fn judge_block(block: &[u8], line: &mut [u8], before: usize, out: &mut [u8]) -> 
 {
     let mut kept = before;
     let mut written = 0;
-    for part in block.split_inclusive(|byte| *byte == b'\n') {
-        let gathered = gather(part, line, kept);
+    let mut rest = block;
+    while !rest.is_empty() {
+        let gathered = gather(rest, line, kept);
+        rest = &rest[gathered.passed..];
         kept = gathered.kept;
         if gathered.ended {
             out[written] = verdict(line, kept);

@@ -48,8 +48,10 @@ fn answer_block<P: Print>(
     room: &mut [u64; 221184],
     progress: &mut Progress,
 ) -> Result<(), Stop> {
-    for part in block.split_inclusive(|byte| *byte == b'\n') {
-        let gathered = gather(part, line, progress.kept);
+    let mut rest = block;
+    while !rest.is_empty() {
+        let gathered = gather(rest, line, progress.kept);
+        rest = &rest[gathered.passed..];
         progress.kept = gathered.kept;
         if line.len() < gathered.kept {
             return Err(Stop::Unclear);

@@ -5,20 +5,22 @@ use crate::length;
 use crate::stop::Stop;
 use replay_text::print::Answers;
 use replay_text::words;
-use std::io;
 
-// The answer to a question.
+// The answer to a question. The output stands at the head of a function, where it is filled once.
 fn write<P: Print>(
     answers: &mut Answers<P>,
     signature: &[u8],
     big: bool,
     events: &[u64],
     texts: &[u8],
-    output: &mut [u8],
-) -> io::Result<()> {
+    room: usize,
+) -> Result<(), Stop> {
+    let mut output = [165u8; 66000];
+    let output = output.get_mut(..room).ok_or(Stop::Unclear)?;
     let length = writer::write(signature, big, events, texts, output);
     length::put(answers, length)?;
-    answers.bytes(output)
+    answers.bytes(output)?;
+    Ok(())
 }
 
 // The room is a number as those of the events are, and stands in front of them.
@@ -33,8 +35,12 @@ pub fn answer<P: Print>(
     let texts = words::bytes(word, texts).ok_or(Stop::Unclear)?;
     let numbers = words::numbers(rest, numbers).ok_or(Stop::Unclear)?;
     let (room, events) = numbers.split_first().ok_or(Stop::Unclear)?;
-    let mut output = [165u8; 66000];
-    let output = output.get_mut(..*room as usize).ok_or(Stop::Unclear)?;
-    write(answers, head.signature, head.big, events, texts, output)?;
-    Ok(())
+    write(
+        answers,
+        head.signature,
+        head.big,
+        events,
+        texts,
+        *room as usize,
+    )
 }

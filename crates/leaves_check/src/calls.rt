@@ -157,36 +157,52 @@ fn read<F: FnOnce(&[u8]) -> io::Result<()>>(line: &[u8], at: usize, print: F) ->
 }
 
 // The answer of a leaf that counts containers. A name of no leaf has none.
-fn count(out: &impl Print, name: &[u8], before: ContainerDepths) -> io::Result<()> {
+fn count(out: &impl Print, name: &[u8], line: &[u8]) -> io::Result<()> {
     match name {
-        b"inc_structure" => print_raised(out, before, before.inc_structure()),
-        b"inc_array" => print_raised(out, before, before.inc_array()),
-        b"inc_variant" => print_raised(out, before, before.inc_variant()),
-        b"inc_maybe" => print_raised(out, before, before.inc_maybe()),
-        b"dec_structure" => print_depths(out, 0, before.dec_structure()),
-        b"dec_array" => print_depths(out, 0, before.dec_array()),
-        b"dec_maybe" => print_depths(out, 0, before.dec_maybe()),
+        b"inc_structure" => {
+            let before = depths(line);
+            print_raised(out, before, before.inc_structure())
+        }
+        b"inc_array" => {
+            let before = depths(line);
+            print_raised(out, before, before.inc_array())
+        }
+        b"inc_variant" => {
+            let before = depths(line);
+            print_raised(out, before, before.inc_variant())
+        }
+        b"inc_maybe" => {
+            let before = depths(line);
+            print_raised(out, before, before.inc_maybe())
+        }
+        b"dec_structure" => print_depths(out, 0, depths(line).dec_structure()),
+        b"dec_array" => print_depths(out, 0, depths(line).dec_array()),
+        b"dec_maybe" => print_depths(out, 0, depths(line).dec_maybe()),
         _ => Ok(()),
     }
 }
 
 // The answer of a leaf that reads numbers alone, or writes an offset.
 fn compute(out: &impl Print, name: &[u8], line: &[u8]) -> io::Result<()> {
-    let first = number(line, 1);
-    let second = number(line, 2);
     match name {
         b"for_bare_container" => {
-            print_fitting(out, FramingOffsetSize::for_bare_container(first, second))
+            print_fitting(
+                out,
+                FramingOffsetSize::for_bare_container(number(line, 1), number(line, 2)),
+            )
         }
         b"for_encoded_container" => print::answer(
             out,
-            Ok(FramingOffsetSize::for_encoded_container(first).width()),
+            Ok(FramingOffsetSize::for_encoded_container(number(line, 1)).width()),
         ),
-        b"max" => print::answer(out, Ok(size_of(first).max())),
-        b"bump_up" => print_fitting(out, size_of(first).bump_up()),
-        b"padding_for_n_bytes" => print::answer(out, padding_for_n_bytes(first, second)),
+        b"max" => print::answer(out, Ok(size_of(number(line, 1)).max())),
+        b"bump_up" => print_fitting(out, size_of(number(line, 1)).bump_up()),
+        b"padding_for_n_bytes" => print::answer(
+            out,
+            padding_for_n_bytes(number(line, 1), number(line, 2)),
+        ),
         b"write_offset" => write_offset(out, line),
-        _ => count(out, name, depths(line)),
+        _ => count(out, name, line),
     }
 }
 

@@ -21,8 +21,10 @@ fn answer_block(
     before: usize,
 ) -> io::Result<usize> {
     let mut kept = before;
-    for part in block.split_inclusive(|byte| *byte == b'\n') {
-        let gathered = gather(part, line, kept);
+    let mut rest = block;
+    while !rest.is_empty() {
+        let gathered = gather(rest, line, kept);
+        rest = &rest[gathered.passed..];
         kept = gathered.kept;
         if gathered.ended {
             answer(out, front(line, kept))?;

@@ -6,14 +6,8 @@ use Rattle.numerals.proofs.put_bytes.Goals as goal
 pub loop-n-init : goal.loop-n-init
 loop-n-init c = pairing_begin _ _ c.requires.digits
 
-pub value_of-requires : goal.value_of-requires
-value_of-requires c = first_digit c.loop-n.invariant (omega arith) (omega arith)
-
 pub overflow_mul-byte : goal.overflow_mul-byte
 overflow_mul-byte c = let h = first_digit c.loop-n.invariant (omega arith) (omega arith) in omega arith
-
-pub value_of-requires-in-loop-n : goal.value_of-requires-in-loop-n
-value_of-requires-in-loop-n c = second_digit c.loop-n.invariant (omega arith) (omega arith)
 
 pub overflow_add-byte : goal.overflow_add-byte
 overflow_add-byte c =

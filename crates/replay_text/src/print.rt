@@ -75,8 +75,9 @@ impl<'a, P: Print> Answers<'a, P> {
 
     fn byte(&mut self, value: u8) -> io::Result<()> {
         self.make_room()?;
-        self.block[self.filled] = value;
-        self.filled += 1;
+        let place = self.filled;
+        self.block[place] = value;
+        self.filled = place + 1;
         Ok(())
     }
 

@@ -73,22 +73,33 @@ impl<'a, P: Print> Answers<'a, P> {
         Ok(())
     }
 
+    // A byte, if there is room.
+    fn put(&mut self, value: u8) {
+        let place = self.filled;
+        if place < self.block.len() {
+            self.block[place] = value;
+            self.filled = place + 1;
+        }
+    }
+
     fn byte(&mut self, value: u8) -> io::Result<()> {
         self.make_room()?;
-        let place = self.filled;
-        self.block[place] = value;
-        self.filled = place + 1;
+        self.put(value);
         Ok(())
     }
 
-    // Bytes in hexadecimal, `-` for none, and the line's end.
+    // Bytes in hexadecimal, `-` for none, and the line's end. The digits are many, and have no result each.
     pub fn bytes(&mut self, bytes: &[u8]) -> io::Result<()> {
         if bytes.is_empty() {
             self.byte(b'-')?;
         }
         for byte in bytes {
-            self.byte(digit(*byte / 16))?;
-            self.byte(digit(*byte))?;
+            for value in [digit(*byte / 16), digit(*byte)] {
+                if 65472 < self.filled {
+                    self.flush()?;
+                }
+                self.put(value);
+            }
         }
         self.byte(b'\n')
     }

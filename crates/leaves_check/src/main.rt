@@ -22,6 +22,7 @@ fn answer_block(
 ) -> io::Result<usize> {
     let mut kept = before;
     let mut rest = block;
+    // `gather` says how much it passed: to part the block into lines before would go over each byte twice.
     while !rest.is_empty() {
         let gathered = gather(rest, line, kept);
         rest = &rest[gathered.passed..];

@@ -49,6 +49,7 @@ fn answer_block<P: Print>(
     progress: &mut Progress,
 ) -> Result<(), Stop> {
     let mut rest = block;
+    // `gather` says how much it passed: to part the block into lines before would go over each byte twice.
     while !rest.is_empty() {
         let gathered = gather(rest, line, progress.kept);
         rest = &rest[gathered.passed..];

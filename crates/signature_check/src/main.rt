@@ -34,6 +34,7 @@ fn judge_block(block: &[u8], line: &mut [u8], before: usize, out: &mut [u8]) -> 
     let mut kept = before;
     let mut written = 0;
     let mut rest = block;
+    // `gather` says how much it passed: to part the block into lines before would go over each byte twice.
     while !rest.is_empty() {
         let gathered = gather(rest, line, kept);
         rest = &rest[gathered.passed..];

@@ -2,14 +2,14 @@
 use mathlib.Core.Path.{◌≡◌, refl, sym, ap, ◌∙◌}
 use mathlib.Core.List.{List, [], ◌∷◌}
 use mathlib.Core.Bool.{Bool, true, false, ◌&&◌, ◌||◌, false≢true}
-use Prim.Native.Nat.{ℕ, zero, suc, ◌+◌, ◌-◌, ◌*◌, ◌/◌, ◌≤◌, ◌<◌}
+use Prim.Native.Nat.{ℕ, zero, suc, ◌+◌, ◌-◌, ◌*◌, ◌/◌, ◌%◌, ◌≤◌, ◌<◌}
 use native.Mathlib.Omega.{arith}
+use lib.Bits.{bit_and, and_high}
 use native.Mathlib.Nat.{div-mul-le_self, div-le_self}
 use lib.Dec.{leb, ltb, eqb}
 use lib.ListN.{length, take, drop, length-take, length-drop}
 use borrow.Author.Tests.{le-leb, lt-leb, eq-eqb, ne_eqb, leb-true, leb-false, ltb-true, ltb-false}
 use Rattle.meaning.specs.Choice.{pick}
-use Rattle.meaning.specs.Refusals.{no_value}
 use Rattle.meaning.specs.Numbers.{value}
 use Rattle.meaning.specs.Padding.{padding, Aligns}
 use Rattle.meaning.specs.Depths.{Depths}
@@ -19,7 +19,6 @@ use Rattle.meaning_writing.specs.Strict.{Test, test_shapes, all_zero, child_writ
 use Rattle.meaning.proofs.PaddingLaws.{by1, by2, by4, by8, by_alignment}
 use Rattle.meaning.proofs.OffsetLaws.{encoded_width_1, encoded_width_2, encoded_width_4}
 use Rattle.meaning.proofs.OffsetSteps.{own_width}
-use Rattle.utils.specs.Checks.{passed, failed, padding_for}
 use Rattle.utils.specs.Checks.{Checked}
 use Rattle.framing_offset_size.specs.Widths.{last_offset_in}
 use Rattle.framing_offsets.specs.Tables.{offset_in}
@@ -42,9 +41,16 @@ zeros_all (x ∷ l) = ap (λ (b : Bool). eqb x 0 && b) (zeros_all l)
 
 -- ---- padding
 
-pub due_is : {a : ℕ} → Aligns a → (k : ℕ) (r : Checked) → r ≡ padding_for k a → r.value ≡ padding k a
-unfolding padding_for
-due_is {a} h k r q = ap (λ (x : Checked). x.value) (q ∙ ap (λ (b : Bool). pick b (passed (padding k a)) (failed no_value)) h.listed)
+-- a mask of an alignment's multiples leads to the next of them
+pub rounded : {a : ℕ} → Aligns a → (k low : ℕ) → k ≤ 1000000 → low ≡ a - 1 → bit_and (k + low) (18446744073709551615 - low) ≡ k + padding k a
+unfolding padding
+rounded al k low h e =
+    by_alignment (λ a. low ≡ a - 1 → bit_and (k + low) (18446744073709551615 - low) ≡ k + (a - k % a) % a)
+    (λ e. let z : 18446744073709551615 - low ≡ 18446744073709551615 = omega arith in rw z (omega (arith, and_high (k + low) 64 0)))
+    (λ e. let z : 18446744073709551615 - low ≡ 18446744073709551614 = omega arith in rw z (omega (arith, and_high (k + low) 63 1)))
+    (λ e. let z : 18446744073709551615 - low ≡ 18446744073709551612 = omega arith in rw z (omega (arith, and_high (k + low) 62 2)))
+    (λ e. let z : 18446744073709551615 - low ≡ 18446744073709551608 = omega arith in rw z (omega (arith, and_high (k + low) 61 3)))
+    al e
 
 -- ---- where a child begins
 
@@ -81,9 +87,14 @@ child_within t d l s k e h = go (leb (k + padding k t.shape.alignment) e) (leb e
 
 -- ---- offsets
 
--- a width that is none of the others
-pub width_is : {w : ℕ} → Aligns w → (w ≡ 1 → ⊥) → (w ≡ 2 → ⊥) → (w ≡ 4 → ⊥) → 8 ≡ w
-width_is al a b d = by_alignment (λ y. (y ≡ 1 → ⊥) → (y ≡ 2 → ⊥) → (y ≡ 4 → ⊥) → 8 ≡ y) (λ a b d. absurd (a refl)) (λ a b d. absurd (b refl)) (λ a b d. absurd (d refl)) (λ a b d. refl) al a b d
+-- a width is known by its bounds
+pub width_is : {w : ℕ} → Aligns w → (w < 2 → 1 ≡ w) × (2 ≤ w → w < 4 → 2 ≡ w) × (4 ≤ w → w < 8 → 4 ≡ w) × (8 ≤ w → 8 ≡ w)
+width_is al = (
+  by_alignment (λ y. y < 2 → 1 ≡ y) (λ a. refl) (λ a. omega arith) (λ a. omega arith) (λ a. omega arith) al,
+  by_alignment (λ y. 2 ≤ y → y < 4 → 2 ≡ y) (λ a b. omega arith) (λ a b. refl) (λ a b. omega arith) (λ a b. omega arith) al,
+  by_alignment (λ y. 4 ≤ y → y < 8 → 4 ≡ y) (λ a b. omega arith) (λ a b. omega arith) (λ a b. refl) (λ a b. omega arith) al,
+  by_alignment (λ y. 8 ≤ y → 8 ≡ y) (λ a. omega arith) (λ a. omega arith) (λ a. omega arith) (λ a. refl) al,
+)
 
 pub offset_is : (l : List ℕ) (place s e w : ℕ) {r : Checked} → place + w ≤ length l → 0 < s → s ≡ w → e ≡ place + w
     → r ≡ offset_in (held_table s (take (e - place) (drop place l))) 0 (take (e - place) (drop place l)) → r.value ≡ value (part place (place + w) l)

@@ -13,7 +13,6 @@ ghost use Rattle.strict_ends.specs.Ends.{Laid, end_of, StartAt, RowsOf, TableOf}
 
 use framing_offset_size::FramingOffsetSize;
 use framing_offsets::table::{last_in, next_in};
-use utils::padding_for_n_bytes;
 
 // How a child lies among others: its alignment, whether it is fixed in size, and then its size.
 // A flag beside the size, and no Option: the definitions' Shape has these three, and a contract compares them one by one.
@@ -40,13 +39,13 @@ fn all_zero(part: &[u8]) -> bool
     part.iter().all(|byte| *byte == 0)
 }
 
-// The next place of an alignment.
+// The next place of an alignment, which is asked for: so no test of it is left, and a mask leads there.
 pub fn aligned(place: usize, alignment: usize) -> usize
     requires { (place ≤ 1000000) × Aligns alignment }
     ensures { result ≡ place + padding place alignment }
 {
-    let due = padding_for_n_bytes(place, alignment).unwrap_or(0);
-    place + due
+    let low = alignment - 1;
+    (place + low) & !low
 }
 
 // Where a child begins behind its padding at a place, if it may stand there and end at e, not behind a limit.
@@ -75,17 +74,21 @@ pub fn fixed_end(x: Extent, place: usize) -> usize
     aligned(place, x.alignment) + x.size
 }
 
-// The width that is so many bytes. Callers keep the number, and no FramingOffsetSize: they and the definitions add it to places.
+// The width that is so many bytes, told by its bounds. Callers keep the number, and no FramingOffsetSize: they and the definitions add it to places.
 fn size_of(width: usize) -> FramingOffsetSize
     requires { Aligns width }
     ensures { width_of result ≡ width }
 {
-    match width {
-        1 => FramingOffsetSize::U8,
-        2 => FramingOffsetSize::U16,
-        4 => FramingOffsetSize::U32,
-        _ => FramingOffsetSize::U64,
+    if width < 2 {
+        return FramingOffsetSize::U8;
     }
+    if width < 4 {
+        return FramingOffsetSize::U16;
+    }
+    if width < 8 {
+        return FramingOffsetSize::U32;
+    }
+    FramingOffsetSize::U64
 }
 
 // The offset at a place: its own bytes are a table of one.

@@ -1,17 +1,16 @@
 -- `aligned` meets its contract. Assumes nothing.
-use mathlib.Core.Path.{ap, ◌∙◌}
+use mathlib.Core.Path.{refl}
 use native.Mathlib.Omega.{arith}
-use Prim.Native.Nat.{ℕ, ◌+◌}
-use Rattle.meaning.proofs.PaddingLaws.{padding_below}
+use Rattle.meaning.proofs.PaddingLaws.{aligns_positive}
 use Rattle.meaning.proofs.TypeLaws.{aligns_most}
-use Rattle.utils.proofs.Answered.{checked_value}
-use Rattle.strict_ends.proofs.EndLaws.{due_is}
+use Rattle.strict_ends.proofs.EndLaws.{rounded}
 use Rattle.strict_ends.proofs.aligned.Goals as goal
 
+pub overflow_sub-low : goal.overflow_sub-low
+overflow_sub-low c = omega (arith, aligns_positive c.requires.1)
+
 pub overflow_add-result : goal.overflow_add-result
-overflow_add-result c =
-    let h = c.unwrap_or-due.ensures ∙ checked_value c.padding_for_n_bytes.result ∙ due_is c.requires.1 _ _ c.padding_for_n_bytes.ensures in omega (arith, padding_below c.requires.1 c.args.place, aligns_most c.requires.1)
+overflow_add-result c = omega (arith, aligns_most c.requires.1)
 
 pub returns : goal.returns
-returns c =
-    ap (λ (x : ℕ). c.args.place + x) (c.unwrap_or-due.ensures ∙ checked_value c.padding_for_n_bytes.result ∙ due_is c.requires.1 _ _ c.padding_for_n_bytes.ensures)
+returns c = rounded c.requires.1 _ _ c.requires.0 refl

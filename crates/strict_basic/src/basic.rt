@@ -115,8 +115,9 @@ pub fn readings_written(part: &[u8], rows: Rows, number: usize, room: bool) -> b
     requires { (length part.now ≤ largest_frame) × Standing part.now false rows × Aligns number }
     ensures { (d : Depths) → room ≡ may_open d → result ≡ elements_written false (reading_test number) d part.now rows.width rows.body rows.count rows.from 0 }
 {
+    let held = if room { number } else { 0 };
     elements_written(part, rows, number, |reading: &[u8]| {
-        reading.len() == 0 || (room && reading.len() == number)
+        reading.len() == held || reading.len() == 0
     })
 }
 

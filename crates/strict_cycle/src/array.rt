@@ -1,5 +1,5 @@
 // Arrays, and what is common to them and dictionaries: what is repeated fills the body, and a table of the smallest width has its ends.
-ghost use Rattle.std.specs.Prelude.{◌≡◌, length};
+ghost use Rattle.std.specs.Prelude.{◌≡◌, ◌≢◌, length};
 ghost use Rattle.meaning_writing.specs.Strict.{elements_written, array_written};
 ghost use Rattle.container_depths.specs.Opening.{depths_of};
 ghost use Rattle.signature.specs.Places.{letter_at};
@@ -8,7 +8,7 @@ ghost use Rattle.strict_sizes.specs.Items.{Placed, tree_test, item_test, Repeate
 ghost use Rattle.strict_cycle.specs.Walks.{Inside};
 
 use crate::child;
-use crate::dictionary::pair;
+use crate::dictionary::entries;
 use container_depths::ContainerDepths;
 use signature::Letter;
 use signature::shapes::Shape;
@@ -44,6 +44,7 @@ pub(crate) fn array(
             let room = deeper.inc_maybe().is_ok();
             readings_written(part, rows, width, room)
         }
+        Repeats::Entries { key } => entries(text, tables, item, key, rows, part, deeper),
         _ => elements(text, tables, item, rows, part, deeper),
     }
 }
@@ -69,8 +70,8 @@ pub(crate) fn first(
     many == 0 || child(text, tables, item.child, &part[..size], d)
 }
 
-// The elements of an array or the entries of a dictionary, each behind its padding. The loop of `strict_basic` is over any test; the test
-// here is a call of this cycle, asks that its bytes lie in a frame, and takes children that are fixed too: one loop for both says more.
+// The elements of an array, each behind its padding. The loop of `strict_basic` is over any test; the test here is a call of this cycle,
+// asks that its bytes lie in a frame, and takes children that are fixed too: one loop for both says more.
 #[cycle(testing)]
 pub(crate) fn elements(
     text: &[u8],
@@ -80,7 +81,7 @@ pub(crate) fn elements(
     part: &[u8],
     d: ContainerDepths,
 ) -> bool
-    requires { Repeated text.now tables.now item × Inside (length part.now) d × Standing part.now item.extent.fixed rows }
+    requires { Repeated text.now tables.now item × ((key : Letter) → item.repeats ≢ Repeats.Entries key) × Inside (length part.now) d × Standing part.now item.extent.fixed rows }
     ensures { result ≡ elements_written item.extent.fixed (item_test d.variant text.now item) (depths_of d) part.now rows.width rows.body rows.count rows.from 0 }
 {
     let extent = item.extent;
@@ -90,28 +91,10 @@ pub(crate) fn elements(
         let Some(at) = start_of(part, rows.body, place, stop, extent.alignment) else {
             return false;
         };
-        if !element(text, tables, item, &part[at..stop], d) {
+        if !child(text, tables, item.child, &part[at..stop], d) {
             return false;
         }
         place = stop;
     }
     place == rows.body
-}
-
-// An element or an entry.
-#[cycle(testing)]
-pub(crate) fn element(
-    text: &[u8],
-    tables: &[u16],
-    item: Item,
-    part: &[u8],
-    d: ContainerDepths,
-) -> bool
-    requires { Repeated text.now tables.now item × Inside (length part.now) d }
-    ensures { result ≡ (item_test d.variant text.now item).accepts (depths_of d) part.now }
-{
-    match item.repeats {
-        Repeats::Entries { key } => pair(text, tables, item, key, part, d),
-        _ => child(text, tables, item.child, part, d),
-    }
 }

@@ -1,10 +1,10 @@
 -- The walk meets its contracts: its functions call each other as containers nest. What falls: the containers that may still be opened,
 -- and then the functions in order. Assumes nothing.
 mod ArrayArray
-mod ArrayElement
 mod ArrayElements
 mod ArrayFirst
 mod Child
+mod DictionaryEntries
 mod DictionaryPair
 mod MaybeMaybe
 mod StructureFields
@@ -32,6 +32,9 @@ array::array-texts_written-requires = ArrayArray.texts_written-requires
 pub array::array-readings_written-requires : goal.array::array-readings_written-requires
 array::array-readings_written-requires = ArrayArray.readings_written-requires
 
+pub array::array-entries-requires : goal.array::array-entries-requires
+array::array-entries-requires = ArrayArray.entries-requires
+
 pub array::array-elements-requires : goal.array::array-elements-requires
 array::array-elements-requires = ArrayArray.elements-requires
 
@@ -41,17 +44,17 @@ array::array-returns-in-Texts = ArrayArray.returns-in-Texts
 pub array::array-returns-in-Readings : goal.array::array-returns-in-Readings
 array::array-returns-in-Readings = ArrayArray.returns-in-Readings
 
+pub array::array-returns-in-Entries : goal.array::array-returns-in-Entries
+array::array-returns-in-Entries = ArrayArray.returns-in-Entries
+
 pub array::array-returns-in_default-repeats-2 : goal.array::array-returns-in_default-repeats-2
 array::array-returns-in_default-repeats-2 = ArrayArray.returns-in_default-repeats-2
-
-pub array::element-returns-in_default : goal.array::element-returns-in_default
-array::element-returns-in_default = ArrayElement.returns-in_default
 
 pub array::elements-returns-in_default : goal.array::elements-returns-in_default
 array::elements-returns-in_default = ArrayElements.returns-in_default
 
-pub array::elements-returns-then-not-element : goal.array::elements-returns-then-not-element
-array::elements-returns-then-not-element = ArrayElements.returns-then-not-element
+pub array::elements-returns-then-not-child : goal.array::elements-returns-then-not-child
+array::elements-returns-then-not-child = ArrayElements.returns-then-not-child
 
 pub array::elements-loop-i-preserved : goal.array::elements-loop-i-preserved
 array::elements-loop-i-preserved = ArrayElements.loop-i-preserved
@@ -70,6 +73,18 @@ array::first-returns-else-many-eq0 = ArrayFirst.returns-else-many-eq0
 
 pub child-returns-then-is_basic : goal.child-returns-then-is_basic
 child-returns-then-is_basic = Child.returns-then-is_basic
+
+pub dictionary::entries-returns-in_default : goal.dictionary::entries-returns-in_default
+dictionary::entries-returns-in_default = DictionaryEntries.returns-in_default
+
+pub dictionary::entries-returns-then-not-pair : goal.dictionary::entries-returns-then-not-pair
+dictionary::entries-returns-then-not-pair = DictionaryEntries.returns-then-not-pair
+
+pub dictionary::entries-loop-i-preserved : goal.dictionary::entries-loop-i-preserved
+dictionary::entries-loop-i-preserved = DictionaryEntries.loop-i-preserved
+
+pub dictionary::entries-returns : goal.dictionary::entries-returns
+dictionary::entries-returns = DictionaryEntries.returns
 
 pub dictionary::pair-returns-in_default : goal.dictionary::pair-returns-in_default
 dictionary::pair-returns-in_default = DictionaryPair.returns-in_default

@@ -13,6 +13,10 @@ abbrev pub invariant-array::elements-loop-i : goal.invariant-array::elements-loo
 invariant-array::elements-loop-i l =
     ElementsLeft l.item.extent.fixed (item_test l.d.variant l.text l.item) (depths_of l.d) l.part l.rows.width l.rows.body l.rows.count l.rows.from l.i l.place
 
+abbrev pub invariant-dictionary::entries-loop-i : goal.invariant-dictionary::entries-loop-i
+invariant-dictionary::entries-loop-i l =
+    ElementsLeft l.item.extent.fixed (item_test l.d.variant l.text l.item) (depths_of l.d) l.part l.rows.width l.rows.body l.rows.count l.rows.from l.i l.place
+
 abbrev pub decreases-array::array : goal.decreases-array::array
 decreases-array::array l =
     level l.d * 16 + 2
@@ -29,9 +33,9 @@ abbrev pub decreases-child : goal.decreases-child
 decreases-child l =
     level l.d * 16 + 4
 
-abbrev pub decreases-array::element : goal.decreases-array::element
-decreases-array::element l =
-    level l.d * 16 + 7
+abbrev pub decreases-dictionary::entries : goal.decreases-dictionary::entries
+decreases-dictionary::entries l =
+    level l.d * 16 + 8
 
 abbrev pub decreases-dictionary::pair : goal.decreases-dictionary::pair
 decreases-dictionary::pair l =

@@ -43,11 +43,23 @@ readings_written-requires t c = (
       c.repeated-item.result c.repeated-item.ensures c.args.d c.args.part.now _ c.in-Ok.ensures refl _ c.in-Some.ensures _ c.in-Readings.is,
 )
 
+pub entries-requires : goal.array::array-entries-requires
+entries-requires t c = (
+  omega (arith, level_falls Depth.array c.args.d _ c.in-Ok.ensures refl, c.decreases),
+  (
+    c.repeated-item.ensures.repeated,
+    c.in-Entries.is,
+    inside_deeper Depth.array c.args.d _ c.requires.2 c.in-Ok.ensures refl,
+    c.in-Some.ensures.standing,
+  ),
+)
+
 pub elements-requires : goal.array::array-elements-requires
 elements-requires t c = (
   omega (arith, level_falls Depth.array c.args.d _ c.in-Ok.ensures refl, c.decreases),
   (
     c.repeated-item.ensures.repeated,
+    c.in_default-repeats-2.not-Entries,
     inside_deeper Depth.array c.args.d _ c.requires.2 c.in-Ok.ensures refl,
     c.in-Some.ensures.standing,
   ),
@@ -61,6 +73,10 @@ pub returns-in-Readings : goal.array::array-returns-in-Readings
 returns-in-Readings t c =
     array_readings c.repeated-item.result c.repeated-item.ensures c.args.d c.args.part.now _ c.in-Ok.ensures refl _ c.in-Some.ensures _ c.in-Readings.is _ _ c.inc_maybe.ensures (λ e q.
     c.readings_written.ensures e (c.is_ok-room.ensures.value ∙ q))
+
+pub returns-in-Entries : goal.array::array-returns-in-Entries
+returns-in-Entries t c =
+    array_on c.repeated-item.result c.repeated-item.ensures c.args.d c.args.part.now _ c.in-Ok.ensures refl _ c.in-Some.ensures _ c.entries.ensures
 
 pub returns-in_default-repeats-2 : goal.array::array-returns-in_default-repeats-2
 returns-in_default-repeats-2 t c =

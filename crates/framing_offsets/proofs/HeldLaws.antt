@@ -6,7 +6,7 @@ use Prim.Native.Nat.{ℕ, ◌+◌, ◌*◌, ◌-◌, ◌/◌, ◌%◌, ◌≤◌
 use native.Mathlib.Omega.{arith}
 use native.Mathlib.Nat.{div_self, zero-mul}
 use lib.Dec.{leb, eqb}
-use lib.ListN.{length, take, drop, length-drop}
+use lib.ListN.{length, take, drop, length-take, length-drop}
 use lib.Seq.{take_all, drop-drop, drop-length}
 use borrow.Author.Tests.{leb-true, leb-false, le-leb, eqb-true, eqb-false}
 use Rattle.meaning.proofs.Lists.{tail}
@@ -43,6 +43,15 @@ module _ (w i : ℕ) (l : List ℕ) {n : ℕ} (e : n ≡ count_from w 0 l) where
 
     pub held_spelled : {m : ℕ} → m ≡ spelled false w (i * w) l → passed m ≡ offset_in (held_table w l) i l
     held_spelled h = ap passed h ∙ sym (number_at_is w false l (i * w) ∙ rw (le-leb (i * w + w) (length l) held_inside)) ∙ held_there
+
+    -- read by its bytes alone
+    pub held_alone : number_at w false (take (i * w + w - i * w) (drop (i * w) l)) 0 ≡ offset_in (held_table w l) i l
+    held_alone =
+        let z : i * w + w - i * w ≡ w = omega arith in
+        let n : length (take w (drop (i * w) l)) ≡ w = simp (length-take, length-drop) (omega (arith, held_inside)) in
+        let there : leb (0 + w) (length (take w (drop (i * w) l))) ≡ true = le-leb _ _ (omega (arith, n)) in
+        let same : take w (drop 0 (take w (drop (i * w) l))) ≡ take w (drop (i * w) l) = take_all _ _ (omega (arith, n)) in
+        rw z (number_at_is w false (take w (drop (i * w) l)) 0 ∙ rw there (held_spelled (ap value same)))
 
 -- a table that stands begins inside its container
 stands_inside : (t : Table) (l : List ℕ) → table_stands t l ≡ true → t.start ≤ length l

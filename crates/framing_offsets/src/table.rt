@@ -33,7 +33,9 @@ fn entry<const WIDTH: usize>(table: &[u8], i: usize) -> Result<usize, Refusal>
     if table.len() / WIDTH <= i {
         return Err(Refusal::OutOfBounds);
     }
-    number::<WIDTH>(table, i * WIDTH, false)
+    let place = i * WIDTH;
+    // Its bytes alone: then no second test is made of where they end.
+    number::<WIDTH>(&table[place..place + WIDTH], 0, false)
 }
 
 fn offset_of(table: &[u8], size: FramingOffsetSize, i: usize) -> Result<usize, Refusal>

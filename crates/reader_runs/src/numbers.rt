@@ -124,7 +124,8 @@ fn reading_number(part: &[u8], place: usize, big: bool, width: usize) -> Result<
     }
 }
 
-// A reading. Where it is present, one more container is open.
+// A reading. Where it is present, one more container is open. Put in place at each width, so that no element asks what its width is.
+#[inline(always)]
 fn reading(
     part: &[u8],
     place: usize,
@@ -150,21 +151,20 @@ fn reading(
     done(lead + width, count)
 }
 
-// A number of a width in a maybe, as an element.
+// A number of a width that is known where it is called, in a maybe, as an element.
 #[derive(Clone, Copy)]
-struct InMaybe {
+struct InMaybe<const WIDTH: usize> {
     context: Context,
     code: u8,
-    width: usize,
 }
 
-impl Element for InMaybe {
-    ghost stands = { λ e len place. Inside len place e.context × Aligns e.width };
+impl<const WIDTH: usize> Element for InMaybe<WIDTH> {
+    ghost stands = { λ e len place. Inside len place e.context × Aligns WIDTH };
 
-    ghost reader = { λ e. reading_by e.context e.code e.width (depths_of e.context.depths) };
+    ghost reader = { λ e. reading_by e.context e.code WIDTH (depths_of e.context.depths) };
 
     fn read(self, part: &[u8], place: usize, out: &mut [u64], n: usize) -> Reading {
-        reading(part, place, self.context, self.code, self.width, out, n)
+        reading(part, place, self.context, self.code, WIDTH, out, n)
     }
 }
 
@@ -183,10 +183,42 @@ pub fn readings(
     requires { Inside (length part.now) place context × Tabled offsets part.now lead × Aligns width }
     ensures { From (elements_by (child_step (reading_by context code width) (depths_of context.depths) place part.now (lead + offsets.start)) offsets part.now lead) part.now lead n out.old out.new (counts_of result) }
 {
-    let element = InMaybe {
-        context,
-        code,
-        width,
-    };
-    each(element, offsets, part, lead, place, out, n)
+    match width {
+        1 => each(
+            InMaybe::<1> { context, code },
+            offsets,
+            part,
+            lead,
+            place,
+            out,
+            n,
+        ),
+        2 => each(
+            InMaybe::<2> { context, code },
+            offsets,
+            part,
+            lead,
+            place,
+            out,
+            n,
+        ),
+        4 => each(
+            InMaybe::<4> { context, code },
+            offsets,
+            part,
+            lead,
+            place,
+            out,
+            n,
+        ),
+        _ => each(
+            InMaybe::<8> { context, code },
+            offsets,
+            part,
+            lead,
+            place,
+            out,
+            n,
+        ),
+    }
 }

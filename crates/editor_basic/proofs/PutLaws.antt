@@ -6,11 +6,11 @@ use Prim.Native.Nat.{ℕ, suc, ◌+◌, ◌-◌, ◌%◌, ◌/◌, ◌≤◌, �
 use native.Mathlib.Omega.{arith}
 use native.Mathlib.Numerals.{add-one}
 use native.Mathlib.Decide.{dec_lt}
-use lib.ListN.{length, take, drop, set, length-set, take-append-drop, drop_of_length-le}
+use lib.ListN.{length, take, drop, get_or, set, length-set, take-append-drop, drop_of_length-le}
 use borrow.Rule.Slice.PartMut.{put_mid}
 use Rattle.std.proofs.lemmas.List.{length-take-le, take-take}
 use Rattle.std.proofs.lemmas.Slice.{put_mid-paste}
-use lib.Seq.{set_out, set_comm, drop-set-lt, take-suc-set}
+use lib.Seq.{set_out, set_comm, drop-cons, drop-set-lt, take-suc-set}
 use Rattle.meaning.specs.Numbers.{bytes}
 use Rattle.editor_basic.specs.Puts.{over}
 
@@ -106,7 +106,10 @@ module _ (before : List ℕ) (at : ℕ) (whole : List ℕ) where
       go (yes g) = over_beyond out (at + i) rest (omega (arith, p.kept))
       go (no g) = ap (λ (y : List ℕ). over out (at + i) y) (z (omega arith)) ∙ over_none out (at + i)
 
--- ---- what is left of a number's bytes
+-- ---- what is left of a part, of a number's bytes
+
+pub part_next : (l : List ℕ) (i : ℕ) → i < length l → drop i l ≡ get_or l i 0 ∷ drop (i + 1) l
+part_next l i h = rw (add-one, drop-cons l i 0)
 
 pub bytes_next : (w i x : ℕ) → i < w → bytes (w - i) x ≡ x % 256 ∷ bytes (w - (i + 1)) (x / 256)
 unfolding bytes

@@ -22,13 +22,13 @@ pub fn put_zeros(out: &mut [u8], at: usize, count: usize)
     }
 }
 
-// The bytes of a part.
+// The bytes of a part, byte by byte: the library's copy of a length that is not known calls a function from outside the archive.
 pub fn put_part(out: &mut [u8], at: usize, part: &[u8])
     ensures { out.new ≡ over out.old at part.now }
 {
     let most = room(out.len(), at, part.len());
-    if at < out.len() {
-        out[at..at + most].copy_from_slice(&part[..most]);
+    for i in 0..most {
+        out[at + i] = part[i];
     }
 }
 

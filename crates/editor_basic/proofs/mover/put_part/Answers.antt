@@ -1,13 +1,12 @@
 -- `put_part` meets its contract.
-use mathlib.Core.Path.{sym}
 use native.Mathlib.Omega.{arith}
-use Rattle.editor_basic.proofs.PutLaws.{put_over, over_beyond}
+use lib.ListN.{length, drop_of_length-le}
+use Rattle.editor_basic.proofs.PutLaws.{putting_next, putting_end, part_next}
 use Rattle.editor_basic.proofs.mover.put_part.Goals as goal
 
-pub returns-then-at-out : goal.returns-then-at-out
-returns-then-at-out c =
-    let a = c.args in
-    put_over a.out.now a.at _ c.room-most.result a.part.now _ c.if-at-out.true c.room-most.ensures (omega arith) c.copy_from_slice.ensures.after
+pub loop-i-preserved : goal.loop-i-preserved
+loop-i-preserved c = putting_next _ _ _ _ _ _ _ _ c.loop-i.invariant (part_next c.args.part.now c.loop-i.i (omega (arith, c.room-most.ensures)))
 
-pub returns-else-at-out : goal.returns-else-at-out
-returns-else-at-out c = sym (over_beyond _ _ _ c.if-at-out.false)
+pub returns : goal.returns
+returns c =
+    putting_end _ _ _ _ _ _ _ (length c.args.part.now) c.loop-i.invariant c.room-most.ensures c.loop-i-test.false (λ h. drop_of_length-le c.args.part.now h)

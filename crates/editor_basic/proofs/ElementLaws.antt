@@ -3,8 +3,9 @@
 use mathlib.Core.Path.{◌≡◌, refl, sym, ap, ◌∙◌, subst}
 use mathlib.Core.List.{List, [], ◌∷◌}
 use mathlib.Core.Bool.{Bool, true, false, ◌&&◌}
-use Prim.Native.Nat.{ℕ, zero, suc, ◌+◌, ◌-◌, ◌*◌, ◌≤◌, ◌<◌}
+use Prim.Native.Nat.{ℕ, zero, suc, ◌+◌, ◌-◌, ◌*◌, ◌^◌, ◌%◌, ◌≤◌, ◌<◌}
 use native.Mathlib.Omega.{arith}
+use lib.Bits.{bit_and}
 use lib.Dec.{leb, eqb}
 use lib.ListN.{length}
 use borrow.Author.Tests.{leb-true, eq-eqb, ne_eqb}
@@ -14,15 +15,14 @@ use Rattle.meaning.specs.Offsets.{largest, first_width, bare_width, written_widt
 use Rattle.meaning.specs.Padding.{Aligns, padding}
 use Rattle.meaning.specs.Written.{Piece, stop, layout}
 use Rattle.meaning.proofs.Tests.{both_true}
-use Rattle.meaning.proofs.PaddingLaws.{padding_small}
+use Rattle.meaning.proofs.PaddingLaws.{by_alignment, padding_small}
 use Rattle.meaning.proofs.LayoutLaws.{length_layout, layout_none}
 use Rattle.meaning_writing.specs.Shapes.{part}
 use Rattle.meaning_writing.specs.Edited.{found_piece, elements_from}
 use Rattle.meaning_writing.proofs.Parts.{length_part}
 use Rattle.std.specs.Prelude.{Option, Some, None}
 use Rattle.std.specs.Option.{unwrap_or}
-use Rattle.utils.specs.Checks.{padding_for}
-use Rattle.utils.specs.Checks.{Checked}
+use Rattle.std.proofs.lemmas.Nat.{and_mask}
 use Rattle.framing_offset_size.specs.Widths.{width_of, fitting_width}
 use Rattle.framing_offset_size.specs.declared.FramingOffsetSize.{FramingOffsetSize}
 use Rattle.framing_offset_size.specs.declared.FramingOffsetSize.TheVariants.{U8, U16, U32, U64}
@@ -33,11 +33,17 @@ use Rattle.editor_basic.specs.Elements.{elements_in, start_of, end_in, behind_of
 
 -- ---- the leaves
 
-pub due_is : {a : ℕ} → Aligns a → (k : ℕ) (r : Checked) → r ≡ padding_for k a → (r.value ≡ padding k a) × (r.value < 8)
-unfolding padding_for
-due_is {a} al k r h =
-    let e : r.value ≡ padding k a = ap (λ (x : Checked). x.value) h ∙ rw al.listed in
-    (e, omega (arith, padding_small al k))
+-- the lowest bits of a place's negation
+pub due_masked : {a : ℕ} → Aligns a → (k n : ℕ) → (n + k) % 2 ^ 64 ≡ 0 → (bit_and n (a - 1) ≡ padding k a) × (bit_and n (a - 1) < 8)
+unfolding padding
+due_masked al k n h =
+    let e = by_alignment (λ a. bit_and n (a - 1) ≡ padding k a)
+    (omega (arith, h, and_mask n 0))
+    (omega (arith, h, and_mask n 1))
+    (omega (arith, h, and_mask n 2))
+    (omega (arith, h, and_mask n 3))
+    al in
+    (e, omega (arith, e, padding_small al k))
 
 -- the width of a body's offsets is the one that fits, and 8 where none does
 written_bare : (n m : ℕ) → written_width n m ≡ pick (eqb (bare_width n m) 0) 8 (bare_width n m)

@@ -7,7 +7,6 @@ ghost use Rattle.editor_basic.specs.Elements.{behind_of, Standing, FirstOf};
 
 use framing_offset_size::FramingOffsetSize;
 use strict_ends::offset_at;
-use utils::padding_for_n_bytes;
 
 // The elements from one of them on: their alignment, how wide their offsets are, how many they are, where their offsets begin, and where
 // the one before them ended.
@@ -27,12 +26,12 @@ pub struct Child {
     pub end: usize,
 }
 
-// The padding that is due at a place.
+// The padding that is due at a place: the lowest bits of its negation. Each element is asked for it twice, so no alignment is tested again here.
 pub(crate) fn due(place: usize, alignment: usize) -> usize
     requires { Aligns alignment }
     ensures { (result ≡ padding place alignment) × (result < 8) }
 {
-    padding_for_n_bytes(place, alignment).unwrap_or(0)
+    place.wrapping_neg() & (alignment - 1)
 }
 
 // The width of the offsets of a body.

@@ -32,11 +32,14 @@ pub fn put_part(out: &mut [u8], at: usize, part: &[u8])
     }
 }
 
-// Padding, and then a part.
+// Padding, and then a part. What only measures asks for no room twice.
 pub fn move_part(out: &mut [u8], at: usize, padding: usize, part: &[u8])
     requires { at + padding < 2 ^ 32 }
     ensures { out.new ≡ over out.old at (zeros padding ++ part.now) }
 {
+    if out.len() <= at {
+        return;
+    }
     put_zeros(out, at, padding);
     put_part(out, at + padding, part);
 }

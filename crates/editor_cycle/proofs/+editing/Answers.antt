@@ -7,6 +7,7 @@ mod MaybeMaybe
 mod StructureFields
 mod StructureStructure
 mod Value
+mod VariantHeldValue
 mod VariantVariant
 use Rattle.editor_cycle.proofs.+editing.Goals as goal
 
@@ -166,6 +167,12 @@ value-returns-in-Variant = Value.returns-in-Variant
 pub value-returns-in_default : goal.value-returns-in_default
 value-returns-in_default = Value.returns-in_default
 
+pub variant::held_value-variant-requires : goal.variant::held_value-variant-requires
+variant::held_value-variant-requires = VariantHeldValue.variant-requires
+
+pub variant::held_value-returns-in-Variant : goal.variant::held_value-returns-in-Variant
+variant::held_value-returns-in-Variant = VariantHeldValue.returns-in-Variant
+
 pub variant::variant-returns-in_err-deeper : goal.variant::variant-returns-in_err-deeper
 variant::variant-returns-in_err-deeper = VariantVariant.returns-in_err-deeper
 
@@ -175,8 +182,8 @@ variant::variant-returns-in_default = VariantVariant.returns-in_default
 pub variant::variant-returns-then-not-tables_of : goal.variant::variant-returns-then-not-tables_of
 variant::variant-returns-then-not-tables_of = VariantVariant.returns-then-not-tables_of
 
-pub variant::variant-value-requires : goal.variant::variant-value-requires
-variant::variant-value-requires = VariantVariant.value-requires
+pub variant::variant-held_value-requires : goal.variant::variant-held_value-requires
+variant::variant-held_value-requires = VariantVariant.held_value-requires
 
 pub variant::variant-close_variant-requires : goal.variant::variant-close_variant-requires
 variant::variant-close_variant-requires = VariantVariant.close_variant-requires

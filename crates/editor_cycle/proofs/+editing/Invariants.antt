@@ -38,6 +38,9 @@ decreases-structure::structure l = level l.d * 8 + 2
 abbrev pub decreases-value : goal.decreases-value
 decreases-value l = level l.d * 8 + 3
 
+abbrev pub decreases-variant::held_value : goal.decreases-variant::held_value
+decreases-variant::held_value l = level l.d * 8 + 4
+
 abbrev pub decreases-variant::variant : goal.decreases-variant::variant
 decreases-variant::variant l = level l.d * 8 + 2
 

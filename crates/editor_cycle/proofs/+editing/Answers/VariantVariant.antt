@@ -25,8 +25,8 @@ returns-then-not-tables_of t c =
     c.in-Some.s c.in-Some.ensures.0 c.args.aim.big _ (tail c.in-Some.s c.args.part.now) (sym
     c.tables_of.ensures.judged ∙ c.if-not-tables_of.true)) (omega arith) refl
 
-pub value-requires : goal.variant::variant-value-requires
-value-requires t c = (
+pub held_value-requires : goal.variant::variant-held_value-requires
+held_value-requires t c = (
   omega (
     arith,
     (variant_deeper c.args.d c.args.place c.args.part.now c.requires c.in-Some.s

@@ -65,7 +65,8 @@ pub fn number(
         0,
         n,
     )?;
-    let found = or_stop(number_at(part, lead, width, context.big), 0, n)?;
+    let cut = number_at(part, lead, width, context.big);
+    let found = or_stop(cut, 0, n)?;
     let count = emit(out, n, u64::from(code), place + lead, found as u64);
     done(lead + width, count)
 }

@@ -42,11 +42,8 @@ pub refused_at : {A : Type 0} {o : Outcome} {end len n u m : ℕ} {l l' : List �
 refused_at r e h s d = rw (handed r e h, s.used, s.count) d
 
 -- what a call answered, by what is made of it
-pub answers : {A : Type 0} {found : Result A Refusal} {x : A} → found ≡ Ok x → (r : Result A Refusal) → r ≡ found → r ≡ Ok x
-answers h r e = e ∙ h
-
-pub refuses : {A : Type 0} {found : Result A Refusal} {u m : ℕ} {e : Stop} → StopsAt found u m e → (r : Result A Refusal) → r ≡ found → r ≡ Err e.refusal
-refuses s r e = e ∙ s.refusal
+pub made : {A : Type 0} {x y : A} → x ≡ y → (r : A) → r ≡ x → r ≡ y
+made h r e = e ∙ h
 
 -- a refusal with no event
 pub refusing : (k p end len n : ℕ) (l : List ℕ) → (k ≡ 0 → ⊥) → Done (refused k p) end len n l l (answer k 0 n)

@@ -105,7 +105,8 @@ fn read_twice(
     ensures answer { answer_of result ≡ read_of signature.now big position frame.now out.old }
     ensures slice { out.new ≡ read_slice signature.now big position frame.now out.old }
 {
-    let size = sized(signature, shapes, big, position, frame)?;
+    let sizing = sized(signature, shapes, big, position, frame);
+    let size = sizing?;
     if out.len() / 3 < size.count {
         return Err(Refusal::RoomTooSmall);
     }

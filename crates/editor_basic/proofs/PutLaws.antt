@@ -176,3 +176,8 @@ module _ (before : List ℕ) (at w n : ℕ) where
 pub over_one : (out : List ℕ) (at w n : ℕ) → w ≡ 1 → over out at (bytes w n) ≡ set out at (n % 256)
 unfolding over bytes
 over_one out at w n e = rw e refl
+
+-- and of two
+pub over_two : (out : List ℕ) (at n : ℕ) → over out at (bytes 2 n) ≡ set (set out at (n % 256)) (at + 1) (n / 256 % 256)
+unfolding over bytes
+over_two out at n = refl

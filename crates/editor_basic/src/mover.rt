@@ -56,10 +56,27 @@ fn put_each(out: &mut [u8], at: usize, width: usize, number: usize)
     }
 }
 
-// The same, of an offset or of a reading's number: one byte, as most offsets of short frames have, is put without a loop.
+// A number of two bytes, the lowest first.
+fn put_two(out: &mut [u8], at: usize, number: usize)
+    ensures { out.new ≡ over out.old at (bytes 2 number) }
+{
+    if out.len() <= at {
+        return;
+    }
+    out[at] = (number % 256) as u8;
+    if at + 1 < out.len() {
+        out[at + 1] = (number / 256 % 256) as u8;
+    }
+}
+
+// The same, of an offset or of a reading's number: one byte or two, as most offsets have, are put without a loop.
 pub(crate) fn put_low_first(out: &mut [u8], at: usize, width: usize, number: usize)
     ensures { out.new ≡ over out.old at (bytes width number) }
 {
+    if width == 2 {
+        put_two(out, at, number);
+        return;
+    }
     if width != 1 {
         put_each(out, at, width, number);
         return;

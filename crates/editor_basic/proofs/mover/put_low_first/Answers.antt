@@ -4,6 +4,9 @@ use mathlib.Core.Path.{sym, ◌∙◌}
 use Rattle.editor_basic.proofs.PutLaws.{over_one}
 use Rattle.editor_basic.proofs.mover.put_low_first.Goals as goal
 
+pub returns-then-width-eq2 : goal.returns-then-width-eq2
+returns-then-width-eq2 c = rw c.if-width-eq2.true c.put_two.ensures
+
 pub returns-then-at-out : goal.returns-then-at-out
 returns-then-at-out c = sym (over_one _ _ _ _ c.if-width-ne1.false)
 

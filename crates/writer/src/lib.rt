@@ -64,7 +64,8 @@ fn write_by_walks(
     ensures answer { answer_of result ≡ write_of signature.now big events.now texts.now out.old }
     ensures slice { out.new ≡ write_slice signature.now big events.now texts.now out.old }
 {
-    let walked = whole(signature, shapes, big, events, texts, held)?;
+    let walk = whole(signature, shapes, big, events, texts, held);
+    let walked = walk?;
     judge(walked, events.len(), out.len())?;
     let length = walked.size;
     if held.len() < length {

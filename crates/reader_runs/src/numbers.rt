@@ -146,7 +146,8 @@ fn reading(
     }
     or_stop(context.depths.inc_maybe(), lead, n)?;
     let m = emit(out, n, MAYBE_LETTER, place + lead, 0);
-    let found = or_stop(reading_number(part, lead, context.big, width), lead, m)?;
+    let cut = reading_number(part, lead, context.big, width);
+    let found = or_stop(cut, lead, m)?;
     let count = emit(out, m, u64::from(code), place + lead, found as u64);
     done(lead + width, count)
 }

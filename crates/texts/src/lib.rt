@@ -308,17 +308,17 @@ fn check_from(text: &[u8], start: usize) -> Result<(), Refusal>
 pub fn check(text: &[u8]) -> Result<(), Refusal>
     ensures { refusal_in result ≡ text_refusal text.now }
 {
-    if text.len() < 16 {
-        return if plain_short(text) {
-            Ok(())
-        } else {
-            check_from(text, 0)
-        };
-    }
-    let i = plain_sixteens(text, 0);
-    if plain_last(text, i) {
-        Ok(())
+    let start = if text.len() < 16 {
+        if plain_short(text) {
+            return Ok(());
+        }
+        0
     } else {
-        check_from(text, i)
-    }
+        let i = plain_sixteens(text, 0);
+        if plain_last(text, i) {
+            return Ok(());
+        }
+        i
+    };
+    check_from(text, start)
 }

@@ -44,7 +44,9 @@ pub fn move_part(out: &mut [u8], at: usize, padding: usize, part: &[u8])
     put_part(out, at + padding, part);
 }
 
-// A number of so many bytes, the lowest first.
+// A number of so many bytes, the lowest first. It keeps a frame of its own: few offsets have four bytes or more, and the loops over offsets stay
+// short.
+#[inline(never)]
 fn put_each(out: &mut [u8], at: usize, width: usize, number: usize)
     ensures { out.new ≡ over out.old at (bytes width number) }
 {

@@ -33,6 +33,7 @@ HUNTED = ("read", "is_written", "write", "edit")        # size takes what read d
 SPARE = 16              # bytes behind the frame that edit is lent
 KINDS = {"a": "array", "m": "maybe", "(": "structure", "v": "variant", "{": "dictionary by texts", "[": "dictionary by numbers"}
 LONGEST = 255           # characters of a type
+LONG_KEY = b"k" * 8200  # makes a frame one of those for which edit keeps 65,536 bytes
 KEPT, TRIED, ROUNDS, SHOWN = 12, 60, 12, 8
 
 
@@ -67,15 +68,15 @@ def too_deep(words, cases):
 
 # Frames: containers in one another.
 
-def nest(kinds, innermost):
+def nest(kinds, innermost, key=b"k"):
     """A tree and a value with so many containers in one another, from the outside in.
-    The key of the one entry of a dictionary is the text k, or the number 1."""
+    The key of the one entry of a dictionary is the text k, of the outermost the given one, or the number 1."""
     tree, value = innermost
-    for kind in reversed(kinds):
+    for place, kind in reversed(list(enumerate(kinds))):
         if kind == "v":
             tree, value = "v", (tree, value)
         elif kind == "{":
-            tree, value = ("{", "s", tree), [(b"k", value)]
+            tree, value = ("{", "s", tree), [(b"k" if "{" in kinds[:place] else key, value)]
         elif kind == "[":
             tree, value = ("{", "q", tree), [(1, value)]
         elif kind == "(":
@@ -94,8 +95,8 @@ def case(name, tree, value, refusal=0):
                 0 if refusal else counted(tree, value)[0], numbers, bytes(texts))
 
 
-def nested(name, kinds, innermost=("y", 5), refusal=0):
-    return case(name, *nest(kinds, innermost), refusal)
+def nested(name, kinds, innermost=("y", 5), refusal=0, key=b"k"):
+    return case(name, *nest(kinds, innermost, key), refusal)
 
 
 def many(count, what, text, value):
@@ -119,12 +120,12 @@ def least(tree):
     return tuple(map(least, tree[1])) if tree[0] == "(" else None if tree[0] == "m" else []
 
 
-def typed(name, kinds, text, refusal=None):
+def typed(name, kinds, text, refusal=None, key=b"k"):
     """Containers in one another, the last a variant with this type, of 255 characters; in the frame it has no bytes. The events are those
     of a value of the type, if it is one, so that nothing but depth is wrong with them."""
-    made, old = nested(name, kinds + "v", DEEP_ARRAY), gen.type_text(DEEP_ARRAY[0]).encode()
+    made, old = nested(name, kinds + "v", DEEP_ARRAY, key=key), gen.type_text(DEEP_ARRAY[0]).encode()
     try:
-        numbers, texts = values.spelt(random.Random(1), *nest(kinds + "v", (tree_of(text), least(tree_of(text)))))
+        numbers, texts = values.spelt(random.Random(1), *nest(kinds + "v", (tree_of(text), least(tree_of(text))), key))
     except (AssertionError, IndexError):
         numbers, texts = made.numbers, made.texts.replace(old, text.encode())
     return made._replace(data=made.data.replace(old, text.encode()), refusal=refusal, events=0, numbers=numbers, texts=bytes(texts))
@@ -216,11 +217,11 @@ def short(text):
     return re.sub(r"(.{1,3}?)\1{3,}", lambda found: " %d*%s " % (len(found.group(0)) // len(found.group(1)), found.group(1)), text).strip()
 
 
-def hunted(kinds, inside):
+def hunted(kinds, inside, key=b"k"):
     """The case of these containers around one of the leaves, or around a variant with this type."""
     if inside in LEAVES:
-        return nested("`%s`, then %s" % (short(kinds), inside), kinds, LEAVES[inside])
-    return typed("`%s`, then a variant of the type `%s`" % (short(kinds), short(inside)), kinds, inside)
+        return nested("`%s`, then %s" % (short(kinds), inside), kinds, LEAVES[inside], key=key)
+    return typed("`%s`, then a variant of the type `%s`" % (short(kinds), short(inside)), kinds, inside, key=key)
 
 
 LEAVES = {"a byte": ("y", 5), "a number": ("t", 5), "a text": ("s", b"text"), "a nothing": (tree_of("ms"), None), "a reading": READING,
@@ -244,11 +245,11 @@ def changed(rng, kinds, inside, insides):
 def hunt(words, call):
     """All cases that were tried to find where this call is deep, the deepest first."""
     rng, tried = random.Random(1), {}
-    insides = shapes()
+    insides, key = shapes(), LONG_KEY if call == "edit" else b"k"
 
     def try_all(pairs):
         new = [pair for pair in dict.fromkeys(pairs) if pair not in tried and within(pair[0])]
-        tried.update(zip(new, painted(words, [hunted(*pair) for pair in new]), strict=True))
+        tried.update(zip(new, painted(words, [hunted(*pair, key) for pair in new]), strict=True))
         return sorted(tried, key=lambda pair: -tried[pair].bytes[call])[:KEPT]
 
     leaves = ("a reading", "a missing reading") if call == "edit" else ("a byte", "a text")

@@ -11,7 +11,7 @@ use editor_change::edit_written;
 use editor_steps::answers::Aim;
 use meaning::limits::LARGEST_FRAME;
 use meaning::refusals::Refusal;
-use strict::is_written;
+use strict::is_written_by;
 use strict_sizes::sizes::{TABLE, tables_of};
 
 // Puts a reading of the frame that is the used part of the buffer as nothing or as a number, and answers the new frame's length. Readings are the maybes of
@@ -34,7 +34,7 @@ pub fn edit(
     if LARGEST_FRAME < used || buffer.len() < used {
         return Err(Refusal::OverLimit);
     }
-    match is_written(signature, big, &buffer[..used]) {
+    match is_written_by(signature, &tables, big, &buffer[..used]) {
         Err(refusal) => Err(refusal),
         Ok(_) => edit_written(signature, &tables, buffer, used, number, Aim { big, new }),
     }

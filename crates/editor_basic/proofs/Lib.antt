@@ -2,6 +2,8 @@ pub mod PutLaws
 pub mod ElementLaws
 pub mod StepLaws
 pub mod RewriteLaws
+pub mod StayLaws
+pub mod RunLaws
 pub mod ShapeLaws
 pub mod RowLaws
 pub mod BackLaws

@@ -4,10 +4,10 @@ use mathlib.Core.List.{List, [], ◌∷◌, ◌++◌}
 use mathlib.Core.Bool.{false}
 use Prim.Native.Nat.{ℕ, zero, suc, ◌+◌, ◌-◌, ◌*◌, ◌≤◌, ◌<◌}
 use native.Mathlib.Omega.{arith}
-use lib.ListN.{length, take, drop}
+use lib.ListN.{length}
 use Rattle.meaning.specs.Numbers.{bytes, value}
 use Rattle.meaning.specs.Offsets.{written_width, table}
-use Rattle.meaning.specs.Padding.{padding, zeros}
+use Rattle.meaning.specs.Padding.{padding}
 use Rattle.meaning.specs.Written.{Piece, stop, layout, ends}
 use Rattle.meaning.proofs.NumberLaws.{length_bytes}
 use Rattle.meaning.proofs.LayoutLaws.{length_table, length_ends, table_append}
@@ -23,7 +23,7 @@ use Rattle.editor_basic.specs.Puts.{over}
 use Rattle.editor_basic.specs.Elements.{elements_in, behind_of, Standing, FirstOf, count_now, body_now, width_now, rest_now, length_now}
 use Rattle.editor_basic.proofs.PutLaws.{over_append, over_both, over_none}
 use Rattle.editor_basic.proofs.ElementLaws.{few, elements_none, first_piece, elements_first, layout_most}
-use Rattle.editor_basic.proofs.StepLaws.{stop_stride, total_next, bytes_next}
+use Rattle.editor_basic.proofs.StepLaws.{stop_stride, total_next}
 
 -- elements from the place `to` on: what they end at, not far from where they began
 pub record Reaching (e : Elements) (l : List ℕ) (to end : ℕ) : Type 0 where
@@ -43,10 +43,10 @@ reaching_begin e l to s h = record { stands = s; total = refl; near = omega (ari
 
 -- one element: how far it reaches, and what is left
 module _ (e : Elements) (l : List ℕ) (c : Child) (to end : ℕ) (r : Reaching e l to end) (f : FirstOf e l c) (h : 0 < e.count) where
-  abbrev step : ℕ
+  abbrev pub step : ℕ
   step = padding to e.alignment + (c.end - c.start)
 
-  abbrev others : List Piece
+  abbrev pub others : List Piece
   others = elements_in (behind_of e c.end) l
 
   stop_step : stop to (first_piece e l c) ≡ to + step
@@ -70,7 +70,7 @@ module _ (e : Elements) (l : List ℕ) (c : Child) (to end : ℕ) (r : Reaching 
   pub turn_most : (pad : ℕ) → pad ≡ padding to e.alignment → (c.start ≤ c.end) × (to + (pad + (c.end - c.start)) < 2000000000)
   turn_most pad q = (f.order, omega (arith, reaching_step, r.near))
 
-  table_step : (w : ℕ) → table w (ends to (elements_in e l)) ≡ bytes w (to + step) ++ table w (ends (to + step) (elements_in (behind_of e c.end) l))
+  pub table_step : (w : ℕ) → table w (ends to (elements_in e l)) ≡ bytes w (to + step) ++ table w (ends (to + step) (elements_in (behind_of e c.end) l))
   unfolding table ends
   table_step w =
       ap (λ (z : List Piece). table w (ends to z)) (elements_first e l c f h)
@@ -83,16 +83,8 @@ module _ (e : Elements) (l : List ℕ) (c : Child) (to end : ℕ) (r : Reaching 
       ∙ over_append out at (bytes w (to + step)) (table w (ends (to + step) (elements_in (behind_of e c.end) l))) (at + w) (let a = length_bytes w (to + step) in omega arith)
       ∙ ap (λ (z : List ℕ). over out at z) (sym (table_step w)) ∙ g
 
-  -- a turn of each loop, as it leaves what it goes by
+  -- a turn of the loop over ends, as it leaves what it goes by
   module _ (e' : Elements) (q : e' ≡ behind_of e c.end) (pad : ℕ) (p : pad ≡ padding to e.alignment) where
-    pub moving_turn : (out out' whole : List ℕ) (next : ℕ) → out' ≡ over out next (zeros pad ++ take (c.end - c.start) (drop c.start l))
-        → over out next (layout to (elements_in e l)) ≡ whole
-        → Reaching e' l (to + (pad + (c.end - c.start))) end
-        × (over out' (next + (pad + (c.end - c.start))) (layout (to + (pad + (c.end - c.start))) (elements_in e' l)) ≡ whole)
-    moving_turn out out' whole next o g =
-        let k : to + (pad + (c.end - c.start)) ≡ to + step = rw p in
-        (rw q (reaching_next _ k), rw (q, o, k) (bytes_next l e.alignment false c.start c.end (elements_in e l) others (elements_first e l c f h) f.inside to out whole next (next + (pad + (c.end - c.start))) pad g p (rw p)))
-
     pub listing_turn : (out out' whole : List ℕ) (next w : ℕ) → out' ≡ over out next (bytes w (to + pad + (c.end - c.start)))
         → over out next (table w (ends to (elements_in e l))) ≡ whole
         → Reaching e' l (to + pad + (c.end - c.start)) end
@@ -103,15 +95,12 @@ module _ (e : Elements) (l : List ℕ) (c : Child) (to end : ℕ) (r : Reaching 
 
 -- none is left
 module _ (e : Elements) (l : List ℕ) (h : e.count ≡ 0) where
-  layout_done : (k : ℕ) → layout k (elements_in e l) ≡ []
+  pub layout_done : (k : ℕ) → layout k (elements_in e l) ≡ []
   unfolding layout
   layout_done k = ap (λ (z : List Piece). layout k z) (elements_none e l h)
 
   pub reaching_end : (to end : ℕ) → Reaching e l to end → to ≡ end
   reaching_end to end r = let a = ap length (layout_done to) in let b = r.total in omega arith
-
-  pub moving_end : (out whole : List ℕ) (at to : ℕ) → over out at (layout to (elements_in e l)) ≡ whole → out ≡ whole
-  moving_end out whole at to g = sym (over_none out at) ∙ ap (λ (z : List ℕ). over out at z) (sym (layout_done to)) ∙ g
 
   pub listing_end : (out whole : List ℕ) (at to w : ℕ) → over out at (table w (ends to (elements_in e l))) ≡ whole → out ≡ whole
   unfolding table ends

@@ -15,7 +15,7 @@ use Rattle.editor_basic.specs.Puts.{over}
 use Rattle.editor_basic.proofs.PutLaws.{over_append}
 
 module _ (l : List ℕ) (a : ℕ) (fx : Bool) (start end : ℕ) (cs rest : List Piece) (q : cs ≡ found_piece a fx (part start end l) ∷ rest) (inside : end ≤ length l) (to : ℕ) where
-  abbrev child : Piece
+  abbrev pub child : Piece
   child = found_piece a fx (part start end l)
 
   -- how far it reaches
@@ -29,7 +29,7 @@ module _ (l : List ℕ) (a : ℕ) (fx : Bool) (start end : ℕ) (cs rest : List 
   length_stride : length (placed to child) ≡ stride
   length_stride = length_placed to child ∙ ap (λ (n : ℕ). padding to a + n) (length_part start end l inside)
 
-  layout_stride : layout to cs ≡ placed to child ++ layout (to + stride) rest
+  pub layout_stride : layout to cs ≡ placed to child ++ layout (to + stride) rest
   layout_stride =
       ap (λ (z : List Piece). layout to z) q ∙ layout_cons to child rest
       ∙ sym (append_assoc (zeros (padding to a)) (part start end l) (layout (stop to child) rest))

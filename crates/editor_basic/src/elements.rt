@@ -1,9 +1,10 @@
 // Where the elements of an array stand whose ends are in its table, one after another.
-ghost use Rattle.std.specs.Prelude.{◌≡◌, ◌+◌, ◌<◌};
+ghost use Rattle.std.specs.Prelude.{◌≡◌, ◌+◌, ◌<◌, length};
 ghost use Rattle.meaning.specs.Offsets.{written_width};
 ghost use Rattle.meaning.specs.Padding.{Aligns, padding};
+ghost use Rattle.meaning.specs.Written.{layout};
 ghost use Rattle.framing_offset_size.specs.Widths.{width_of};
-ghost use Rattle.editor_basic.specs.Elements.{behind_of, Standing, FirstOf};
+ghost use Rattle.editor_basic.specs.Elements.{elements_in, behind_of, Standing, FirstOf};
 
 use framing_offset_size::FramingOffsetSize;
 use strict_ends::offset_at;
@@ -50,6 +51,19 @@ pub fn first_element(part: &[u8], elements: Elements) -> Child
     let start = place + due(place, elements.alignment);
     let end = offset_at(part, elements.from, elements.size.width());
     Child { start, end }
+}
+
+// Where elements end that are laid out from where they stood: at the last one's end.
+pub(crate) fn end_of(part: &[u8], elements: Elements) -> usize
+    requires { Standing elements part.now }
+    ensures { result ≡ elements.place + length (layout elements.place (elements_in elements part.now)) }
+{
+    let count = elements.count;
+    if count == 0 {
+        return elements.place;
+    }
+    let width = elements.size.width();
+    offset_at(part, elements.from + (count - 1) * width, width)
 }
 
 // Those behind the first, which ends at a place.

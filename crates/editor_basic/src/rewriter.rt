@@ -1,15 +1,25 @@
 // The children of an array or a structure behind the one that an edit changed: moved to their new places; and the table of all ends,
 // written anew. Into a slice of no length nothing is written, and the same calls tell how long the container becomes.
-ghost use Rattle.std.specs.Prelude.{◌≡◌, [], ◌+◌, ◌*◌, ◌<◌, ◌≤◌, ◌^◌, length};
+ghost use Rattle.std.specs.Prelude.{◌≡◌, [], ◌++◌, ◌+◌, ◌*◌, ◌<◌, ◌≤◌, ◌^◌, length};
 ghost use Rattle.meaning.specs.Offsets.{table, back_table};
+ghost use Rattle.meaning.specs.Padding.{zeros};
 ghost use Rattle.meaning.specs.Written.{layout, ends, unless, field_ends};
 ghost use Rattle.editor_basic.specs.Puts.{over, rest_most};
 ghost use Rattle.editor_basic.specs.Elements.{elements_in, Standing, rest_now, length_now};
 ghost use Rattle.editor_basic.specs.Rows.{fields_in, StandingRow};
 
-use crate::elements::{Elements, behind, due, first_element, width_for};
+use crate::elements::{Child, Elements, behind, due, end_of, first_element, width_for};
 use crate::fields::{Row, behind_field, first_field};
-use crate::mover::{move_part, put_low_first};
+use crate::mover::{move_part, put_low_first, put_part};
+
+// A run that another follows. It keeps a frame of its own: few arrays have padding, and the loop over elements stays short.
+#[inline(never)]
+fn move_run(out: &mut [u8], at: usize, gap: usize, run: &[u8])
+    requires { at + gap < 2 ^ 32 }
+    ensures { out.new ≡ over out.old at (zeros gap ++ run.now) }
+{
+    move_part(out, at, gap, run);
+}
 
 // Elements laid out anew from the place `to` of their array, which is the place `at` of the slice. The place where they end.
 pub(crate) fn move_elements(
@@ -23,24 +33,35 @@ pub(crate) fn move_elements(
     ensures bytes { out.new ≡ over out.old at (layout to (elements_in elements old.now)) }
     ensures end { result ≡ to + length (layout to (elements_in elements old.now)) }
 {
+    // What only measures passes them at once where each keeps its padding.
+    let alignment = elements.alignment;
+    if out.len() <= at && due(to, alignment) == due(elements.place, alignment) {
+        return to + (end_of(old, elements) - elements.place);
+    }
     let mut rest = elements;
     let mut next = at;
     let mut place = to;
+    // A run of elements with no padding between them is moved at once: it stood from a place on, and behind a gap of so many zeros it goes.
+    let mut from = elements.place;
+    let mut gap = 0;
     for _ in 0..elements.count {
-        let child = first_element(old, rest);
-        let start = child.start;
-        let end = child.end;
+        let Child { start, end } = first_element(old, rest);
         let padding = due(place, rest.alignment);
-        move_part(out, next, padding, &old[start..end]);
-        let moved = padding + (end - start);
-        next += moved;
-        place += moved;
+        if 0 < padding || rest.place < start {
+            move_run(out, next, gap, &old[from..rest.place]);
+            next += gap + (rest.place - from);
+            from = start;
+            gap = padding;
+        }
+        place += padding + (end - start);
         rest = behind(rest, end);
     }
+    move_part(out, next, gap, &old[from..rest.place]);
     place
 }
 
 // The ends of the same elements, as a table of a width from the place `at` of the slice on.
+#[inline(always)]
 pub(crate) fn rewrite_ends(
     old: &[u8],
     elements: Elements,
@@ -53,6 +74,12 @@ pub(crate) fn rewrite_ends(
     ensures { out.new ≡ over out.old at (table width (ends to (elements_in elements old.now))) }
 {
     if out.len() <= at {
+        return;
+    }
+    // Ends that stay, at the width that they have, are put as they stand.
+    if to == elements.place && width == elements.size.width() {
+        let from = elements.from;
+        put_part(out, at, &old[from..from + elements.count * width]);
         return;
     }
     let mut rest = elements;
@@ -89,12 +116,16 @@ pub fn finish_array(
     let count = before + (rest.count + 1);
     let size = width_for(end, count);
     let width = size.width();
+    let length = end + count * width;
+    if out.len() <= at {
+        return length;
+    }
     let table = at + (end - to);
     rewrite_ends(old, front, width, out, table, 0);
     let own = table + before * width;
     put_low_first(out, own, width, to);
     rewrite_ends(old, rest, width, out, own + width, to);
-    end + count * width
+    length
 }
 
 // Fields laid out anew from the place `to` of their structure, which is the place `at` of the slice. The place where they end.

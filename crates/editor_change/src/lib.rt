@@ -19,8 +19,12 @@ use meaning::limits::LARGEST_FRAME;
 use meaning::refusals::Refusal;
 use signature::shapes::shape_in;
 
-// The most bytes of a frame that is kept in a small array.
+// The most bytes of a frame that is kept in an array of each size: the larger it is, the longer it takes to lay out.
+const SMALLEST: usize = 128;
+
 const SMALL: usize = 1024;
+
+const MIDDLE: usize = 8192;
 
 // A reading that was found: its number and what it becomes; where it stands, and how long the new frame is.
 #[derive(Clone, Copy)]
@@ -82,13 +86,22 @@ fn change(
     ensures { Edits signature.now buffer.old used target.number target.aim buffer.new result }
 {
     check_length(target.length, buffer.len())?;
+    if used <= SMALLEST {
+        let mut old = [0u8; SMALLEST];
+        return store(signature, tables, &mut old, buffer, used, target);
+    }
     if used <= SMALL {
         return change_within::<SMALL>(signature, tables, buffer, used, target);
+    }
+    if used <= MIDDLE {
+        return change_within::<MIDDLE>(signature, tables, buffer, used, target);
     }
     change_within::<LARGEST_FRAME>(signature, tables, buffer, used, target)
 }
 
-// Where there is room: the old frame is kept in an array of its own, which for a small frame is a small one, quickly laid out.
+// Where there is room: the old frame is kept in an array of its own. Each size but the smallest has a stack frame of its own, so that they do not
+// add up.
+#[inline(never)]
 fn change_within<const SIZE: usize>(
     signature: &[u8],
     tables: &[u16],
@@ -104,6 +117,7 @@ fn change_within<const SIZE: usize>(
 }
 
 // The new frame's bytes from the reading's place on, from a copy of the old ones; and zeros behind a shorter frame.
+#[inline(always)]
 fn store(
     signature: &[u8],
     tables: &[u16],

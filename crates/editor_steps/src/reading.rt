@@ -44,6 +44,7 @@ fn spells(kind: Letter, bits: usize) -> bool
     }
 }
 
+#[inline(always)]
 fn put(
     kind: Letter,
     place: usize,
@@ -67,6 +68,7 @@ fn put(
 }
 
 // The walk over it: the reading is its first.
+#[inline(always)]
 pub fn reading(
     kind: Letter,
     place: usize,

@@ -1,7 +1,6 @@
 -- `edit` meets its contract. Assumes nothing.
 use mathlib.Core.Path.{refl, sym, ◌∙◌}
 use native.Mathlib.Omega.{arith}
-use lib.Seq.{length-take-le}
 use Rattle.meaning.proofs.RefusalLaws.{number_not_0}
 use Rattle.meaning_writing.proofs.Parts.{bytes_from}
 use Rattle.editor_change.proofs.Tails.{part_short}
@@ -26,8 +25,9 @@ returns-then-used-gt-LARGEST_FRAME c =
     let whole = edit_2 _ _ _ _ _ _ (sym c.tables_of.ensures.judged ∙ c.if-not-tables_of.false) far in
     record { answer = whole.0; memory = whole.1 }
 
-pub slice_bounds-is_written-end-2 : goal.slice_bounds-is_written-end-2
-slice_bounds-is_written-end-2 c = sym (length-take-le _ _ c.if-buffer-used.false)
+pub is_written_by-requires : goal.is_written_by-requires
+is_written_by-requires c =
+    (sym c.tables_of.ensures.judged ∙ c.if-not-tables_of.false, c.tables_of.ensures.filled c.if-not-tables_of.false, part_short _ _ c.if-used-gt-LARGEST_FRAME.false)
 
 pub returns-in-Err : goal.returns-in-Err
 returns-in-Err c =

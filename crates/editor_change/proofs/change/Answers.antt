@@ -12,9 +12,9 @@ returns-in_err-check_length c =
     let p = err_from_is_err_and c.from_residual.result c.from_residual.ensures.1 in
     rw (p.1, p.2) (change_refused c.requires (λ j. omega (arith, c.slice_known-1.given j)) _ c.in_err-check_length.ensures (number_not_0 _))
 
-pub change_within-requires : goal.change_within-requires
-change_within-requires c =
-    (c.if-used-le-SMALL.true, omega arith, change_allowed c.requires (λ j. omega (arith, c.slice_known-1.given j)) _ c.in_ok-check_length.ensures refl)
+pub store-requires : goal.store-requires
+store-requires c =
+    (c.if-used-le-SMALLEST.true, change_allowed c.requires (λ j. omega (arith, c.slice_known-1.given j)) _ c.in_ok-check_length.ensures refl)
 
 pub change_within-requires-2 : goal.change_within-requires-2
 change_within-requires-2 c = (

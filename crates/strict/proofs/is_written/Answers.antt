@@ -1,26 +1,20 @@
 -- `is_written` meets its contract. Assumes nothing.
-use mathlib.Core.Path.{refl, sym, ap, ◌∙◌}
-use mathlib.Core.Bool.{Bool}
-use Rattle.std.proofs.lemmas.Result.{err_from_is_err_and}
-use Rattle.meaning.specs.Choice.{pick}
-use Rattle.meaning.proofs.RefusalLaws.{number_not_0}
-use Rattle.strict.proofs.Wholes.{whole_as, whole_refused, whole_other}
+use mathlib.Core.Path.{sym, ◌∙◌}
+use Rattle.signature.proofs.TreeLaws.{front}
+use Rattle.strict.proofs.Wholes.{walk_untyped, walk_long, whole_as}
 use Rattle.strict.proofs.is_written.Goals as goal
 
-pub returns-in_err-walked : goal.returns-in_err-walked
-returns-in_err-walked c =
-    let p = err_from_is_err_and c.from_residual.result c.from_residual.ensures.1 in
-    rw (p.1, p.2) (whole_as _ _ _ c.in_err-walked.ensures)
+pub returns-then-not-tables_of : goal.returns-then-not-tables_of
+returns-then-not-tables_of c =
+    whole_as _ _ _ (λ n. walk_untyped _ _ n (sym c.tables_of.ensures.judged ∙ c.if-not-tables_of.true))
 
-pub returns-then-branch : goal.returns-then-branch
-returns-then-branch c =
-    whole_as _ _ _ (λ n. ap (λ (b : Bool). pick b 0 n) (sym c.if-branch.true) ∙ c.in_ok-walked.ensures n)
+pub returns-then-frame-gt-LARGEST_FRAME : goal.returns-then-frame-gt-LARGEST_FRAME
+returns-then-frame-gt-LARGEST_FRAME c =
+    whole_as _ _ _ (λ n. walk_long _ _ n (front _ (sym c.tables_of.ensures.judged ∙ c.if-not-tables_of.false)) c.if-frame-gt-LARGEST_FRAME.true)
 
-pub returns-in-Err : goal.returns-in-Err
-returns-in-Err c =
-    whole_refused _ _ _ (λ n. ap (λ (b : Bool). pick b 0 n) (sym c.if-branch.false) ∙ c.in_ok-walked.ensures n) _
-    c.in-Err.ensures (number_not_0 c.in-Err.refusal)
-
-pub returns-in-Ok : goal.returns-in-Ok
-returns-in-Ok c =
-    whole_other _ _ _ (λ n. ap (λ (b : Bool). pick b 0 n) (sym c.if-branch.false) ∙ c.in_ok-walked.ensures n) _ c.in-Ok.ensures refl
+pub is_written_by-requires : goal.is_written_by-requires
+is_written_by-requires c = (
+  sym c.tables_of.ensures.judged ∙ c.if-not-tables_of.false,
+  c.tables_of.ensures.filled c.if-not-tables_of.false,
+  c.if-frame-gt-LARGEST_FRAME.false,
+)
